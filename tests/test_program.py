@@ -405,7 +405,7 @@ def test_same_options():
     names = (ROOT / "crates" / "subset_args" / "src" / "options" / "names.rt").read_text(encoding="utf-8")
     nearest = set(re.findall(r'"(--[a-z-]+)"', re.search(r"pub const OPTIONS: .*?= \[(.*?)\];", names, re.S)[1]))
     wanted = options["--help"]
-    assert len(wanted) == 30 and {name: it ^ wanted for name, it in options.items() if it != wanted} == {}
+    assert len(wanted) == 31 and {name: it ^ wanted for name, it in options.items() if it != wanted} == {}
     assert nearest == {it for it in wanted if it.startswith("--")}
 
 

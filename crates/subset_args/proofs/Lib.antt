@@ -5,3 +5,4 @@ pub mod Quotients
 pub mod Digits
 pub mod ListingLaws
 pub mod WordLaws
+pub mod Pieces

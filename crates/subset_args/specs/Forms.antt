@@ -9,7 +9,7 @@ use Rattle.subset_args.specs.Words.{number_in_bits}
 use Rattle.subset_args.specs.Coordinates.{has_byte, is_equals}
 use Rattle.subset_args.specs.Mistakes.{Fault, refused, or_refused, unless, ◌>>=◌}
 use Rattle.subset_args.specs.Nearest.{front}
-use Rattle.subset_args.specs.Options.{GlyphSource, Choice, setting_of, kind_of, with_switch, with_setting}
+use Rattle.subset_args.specs.Options.{Choice, setting_of, kind_of, with_switch, with_setting}
 use Rattle.subset_args.specs.declared.jobs.command.Topic.{Topic}
 use Rattle.subset_args.specs.declared.jobs.command.Topic.TheVariants.{Axes, Info}
 use Rattle.subset_args.specs.declared.mistakes.Wrong.{Wrong}
@@ -99,18 +99,22 @@ begins_with_digit (b ∷ text) = is_ascii_digit b
 abbrev pub numbers : List ℕ → Result (Option (List ℕ)) Fault
 numbers list = if begins_with_digit list then Ok (Some list) else refused Glyph list
 
--- the list of glyphs behind INDEX, which an option may have in its place
-abbrev pub listed_behind : Option GlyphSource → List (List ℕ) → Result (Option (List ℕ)) Fault
-listed_behind None [] = refused NoGlyphs []
-listed_behind None (list ∷ []) = numbers list
-listed_behind (Some source) [] = Ok None
-listed_behind (Some source) (word ∷ []) = refused BesideOption word
-listed_behind None (list ∷ word ∷ words) = refused Further word
-listed_behind (Some source) (other ∷ word ∷ words) = refused Further word
+-- whether options request glyphs
+abbrev pub are_given : Choice → Bool
+are_given choice = nat_lt 0 (length choice.sources)
+
+-- the list of glyphs behind INDEX, which options may have in its place
+abbrev pub listed_behind : Bool → List (List ℕ) → Result (Option (List ℕ)) Fault
+listed_behind false [] = refused NoGlyphs []
+listed_behind false (list ∷ []) = numbers list
+listed_behind true [] = Ok None
+listed_behind true (word ∷ []) = refused BesideOption word
+listed_behind false (list ∷ word ∷ words) = refused Further word
+listed_behind true (other ∷ word ∷ words) = refused Further word
 
 -- IN, OUT and INDEX, and what is behind them
 abbrev pub plain_with : Choice → List ℕ → List ℕ → ℕ → List (List ℕ) → Result Asked Fault
-plain_with choice input output index words = listed_behind choice.source words >>= λ listed. unless (wrong_pdf choice (Some output)) (Ok (record { choice = choice; input = input; output = Some output; index = index; listed = listed }))
+plain_with choice input output index words = listed_behind (are_given choice) words >>= λ listed. unless (wrong_pdf choice (Some output)) (Ok (record { choice = choice; input = input; output = Some output; index = index; listed = listed }))
 
 abbrev pub plain_at : Choice → List ℕ → List ℕ → List (List ℕ) → Result Asked Fault
 plain_at choice input output [] = refused NoIndex []
@@ -164,7 +168,7 @@ has_output choice = is_some choice.output || is_some choice.pdf
 abbrev pub free : Choice → List ℕ → Result Asked Fault
 free choice input =
     if not (has_output choice) then refused NoOutput []
-    else if not (is_some choice.source) then refused NoSource []
+    else if not (are_given choice) then refused NoSource []
     else Ok (record { choice = choice; input = input; output = choice.output; index = unwrap_or choice.index 0; listed = None })
 
 -- ---- what is wrong where neither form is right

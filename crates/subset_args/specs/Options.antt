@@ -1,13 +1,14 @@
 -- The options, and what they choose.
-use Rattle.std.specs.Prelude.{Bool, true, false, if◌then◌else◌, ℕ, List, Option, Some, None, Result, Ok, codes, is_some}
+use Rattle.std.specs.Prelude.{Bool, true, false, if◌then◌else◌, ℕ, ◌==◌, ◌||◌, nat_lt, List, [], ◌∷◌, ◌++◌, length, Option, Some, None, Result, Ok, codes, is_some}
 use Rattle.std.specs.Str.{bytes_eq}
 use Rattle.subset_args.specs.Words.{number_in_bits}
 use Rattle.subset_args.specs.Limits.{Bounds, limits_in}
+use Rattle.std.specs.Option.{option_map}
 use Rattle.subset_args.specs.Mistakes.{Fault, refused, or_refused, ◌>>=◌}
 use Rattle.subset_args.specs.declared.mistakes.Wrong.TheVariants as wrong
-use Rattle.subset_args.specs.declared.mistakes.Wrong.TheVariants.{Twice, GlyphsTwice}
+use Rattle.subset_args.specs.declared.mistakes.Wrong.TheVariants.{Twice}
 use Rattle.subset_args.specs.declared.options.names.Switch.{Switch}
-use Rattle.subset_args.specs.declared.options.names.Switch.TheVariants.{Widths, NoHinting, NoNames, NoGlyphNames, Small, Json, Quiet, Verbose, Vertical}
+use Rattle.subset_args.specs.declared.options.names.Switch.TheVariants.{Widths, NoHinting, NoNames, NoGlyphNames, Small, Json, Quiet, Verbose, Vertical, Strict}
 use Rattle.subset_args.specs.declared.options.names.Setting.{Setting}
 use Rattle.subset_args.specs.declared.options.names.Setting.TheVariants.{Limits, GidsFile, Text, At, Gids, FaceIndex, Output, TextFile, Unicodes, UnicodesFile, Pdf, Codes, Rights, MostInput}
 use Rattle.subset_args.specs.declared.options.names.Coding.{Coding}
@@ -30,6 +31,7 @@ switch_of word =
     else if bytes_eq word (codes "--quiet") then Some Quiet
     else if bytes_eq word (codes "--verbose") then Some Verbose
     else if bytes_eq word (codes "--vertical") then Some Vertical
+    else if bytes_eq word (codes "--strict") then Some Strict
     else None
 
 -- the option that a value follows, which an argument is
@@ -81,6 +83,7 @@ is_on Json all = all.json
 is_on Quiet all = all.quiet
 is_on Verbose all = all.verbose
 is_on Vertical all = all.vertical
+is_on Strict all = all.strict
 
 -- with one that is given
 abbrev pub switched_on : Switch → Switches → Switches
@@ -93,6 +96,7 @@ switched_on Json all = record all { json = true }
 switched_on Quiet all = record all { quiet = true }
 switched_on Verbose all = record all { verbose = true }
 switched_on Vertical all = record all { vertical = true }
+switched_on Strict all = record all { strict = true }
 
 -- where the glyphs are found that an option requests: in a file, by the characters of a text, or in a list of glyphs or of characters
 pub data GlyphSource : Type 0 where
@@ -101,11 +105,32 @@ pub data GlyphSource : Type 0 where
   in_list : List ℕ → GlyphSource
   in_codes : List ℕ → GlyphSource
 
+-- a number for each of the options
+abbrev pub option_number : GlyphSource → ℕ
+option_number (in_list list) = 0
+option_number (in_file OfGlyphs name) = 1
+option_number (by_text text) = 2
+option_number (in_file OfText name) = 3
+option_number (in_codes list) = 4
+option_number (in_file OfCharacters name) = 5
+
+abbrev pub is_given : List GlyphSource → ℕ → Bool
+is_given [] number = false
+is_given (source ∷ sources) number = option_number source == number || is_given sources number
+
+-- with a further place, where none is there of its option: there are six of these
+abbrev pub if_room : List GlyphSource → GlyphSource → Option (List GlyphSource)
+if_room sources source = if nat_lt (length sources) 6 then Some (sources ++ source ∷ []) else None
+
+abbrev pub with_more : GlyphSource → List GlyphSource → Option (List GlyphSource)
+with_more source sources = if is_given sources (option_number source) then None else if_room sources source
+
 -- what the options choose
 pub record Choice : Type 0 where
   pub switches : Switches
   pub limits : Option Bounds
-  pub source : Option GlyphSource
+  -- in the order of the options
+  pub sources : List GlyphSource
   pub at : Option (List ℕ)
   pub output : Option (List ℕ)
   pub index : Option ℕ
@@ -117,7 +142,7 @@ pub record Choice : Type 0 where
 
 -- nothing
 abbrev pub no_choice : Choice
-no_choice = record { switches = record { widths = false; no_hinting = false; no_names = false; no_glyph_names = false; small = false; json = false; quiet = false; verbose = false; vertical = false }; limits = None; source = None; at = None; output = None; index = None; most_input = None; pdf = None; coding = None; is_held = false }
+no_choice = record { switches = record { widths = false; no_hinting = false; no_names = false; no_glyph_names = false; small = false; json = false; quiet = false; verbose = false; vertical = false; strict = false }; limits = None; sources = []; at = None; output = None; index = None; most_input = None; pdf = None; coding = None; is_held = false }
 
 -- with an option without a value
 abbrev pub with_switch : Switch → List ℕ → Choice → Result Choice Fault
@@ -138,9 +163,9 @@ holds_rights word = bytes_eq word (codes "held")
 abbrev pub once : Bool → List ℕ → Result Choice Fault → Result Choice Fault
 once given word more = if given then refused Twice word else more
 
--- with a place where the glyphs are found
+-- with a further place where glyphs are found
 abbrev pub with_source : List ℕ → GlyphSource → Choice → Result Choice Fault
-with_source word source choice = if is_some choice.source then refused GlyphsTwice word else Ok (record choice { source = Some source })
+with_source word source choice = or_refused Twice word (option_map (λ sources. record choice { sources = sources }) (with_more source choice.sources))
 
 -- with an option and its value
 abbrev pub with_setting : Setting → List ℕ → List ℕ → Choice → Result Choice Fault

@@ -65,7 +65,8 @@ pub record Request : Type 0 where
   pub index : ℕ
   -- the most bytes of the input, if that is given
   pub most_input : Option ℕ
-  pub glyphs : RequestedGlyphs
+  -- one after another
+  pub glyphs : List RequestedGlyphs
   -- where on the axes of a variable font, if that is specified
   pub position : Option Position
   pub pdf : Option PdfRequest
@@ -96,40 +97,55 @@ requested_by (by_text text) = Ok (from (by_text text))
 requested_by (in_list text) = or_fault (list_fault Glyphs text) (option_map of_list (argument_list text))
 requested_by (in_codes text) = or_fault (list_fault Codes text) (option_map of_list (argument_characters text))
 
--- which glyphs are asked for: those that an argument lists, or an option
-abbrev pub requested : Option (List ℕ) → Option GlyphSource → Result RequestedGlyphs Fault
-requested (Some list) source = or_fault (list_fault Numbers list) (option_map listed (glyph_list list))
-requested None (Some source) = requested_by source
-requested None None = refused NoGlyphs []
+-- those of each option, in order
+abbrev pub each_requested : List GlyphSource → Result (List RequestedGlyphs) Fault
+each_requested [] = Ok []
+each_requested (source ∷ sources) = requested_by source >>= λ glyphs. each_requested sources >>= λ more. Ok (glyphs ∷ more)
+
+-- which glyphs are asked for: those that an argument lists, or those of the options, one after another
+abbrev pub requested : Option (List ℕ) → List GlyphSource → Result (List RequestedGlyphs) Fault
+requested (Some list) sources = or_fault (list_fault Numbers list) (option_map (λ glyphs. listed glyphs ∷ []) (glyph_list list))
+requested None [] = refused NoGlyphs []
+requested None (source ∷ sources) = each_requested (source ∷ sources)
 
 -- whether an argument means standard input or output
 abbrev pub is_stream : List ℕ → Bool
 is_stream word = bytes_eq word (codes "-")
 
 -- whether the glyphs are listed in standard input
-abbrev pub lists_in_stream : RequestedGlyphs → Bool
-lists_in_stream (listed glyphs) = false
-lists_in_stream every_glyph = false
-lists_in_stream (of_characters found) = false
-lists_in_stream (from (in_file kind name)) = is_stream name
-lists_in_stream (from (by_text text)) = false
-lists_in_stream (from (in_list text)) = false
-lists_in_stream (from (in_codes text)) = false
+abbrev pub is_in_stream : RequestedGlyphs → Bool
+is_in_stream (listed glyphs) = false
+is_in_stream every_glyph = false
+is_in_stream (of_characters found) = false
+is_in_stream (from (in_file kind name)) = is_stream name
+is_in_stream (from (by_text text)) = false
+is_in_stream (from (in_list text)) = false
+is_in_stream (from (in_codes text)) = false
 
--- an option for a file, which is standard input as IN is
+abbrev pub lists_in_stream : List RequestedGlyphs → Bool
+lists_in_stream [] = false
+lists_in_stream (glyphs ∷ more) = is_in_stream glyphs || lists_in_stream more
+
+-- the option for a file
 abbrev pub file_option : FileKind → List ℕ
 file_option OfGlyphs = codes "--gids-file"
 file_option OfCharacters = codes "--unicodes-file"
 file_option OfText = codes "--text-file"
 
-abbrev pub wrong_source : List ℕ → GlyphSource → Option Fault
-wrong_source input (in_file kind name) = if is_stream input && is_stream name then Some (record { wrong = InputTwice; word = file_option kind }) else None
-wrong_source input (by_text text) = None
-wrong_source input (in_list text) = None
-wrong_source input (in_codes text) = None
+-- what standard input has, if it is a file of glyphs
+abbrev pub stream_kind : GlyphSource → Option FileKind
+stream_kind (in_file kind name) = if is_stream name then Some kind else None
+stream_kind (by_text text) = None
+stream_kind (in_list text) = None
+stream_kind (in_codes text) = None
 
-abbrev pub wrong_stream : List ℕ → Option GlyphSource → Option Fault
-wrong_stream input source = option_and_then (wrong_source input) source
+-- the first file that is standard input, where that is taken before
+abbrev pub wrong_stream : Bool → List GlyphSource → Option Fault
+wrong_stream is_taken [] = None
+wrong_stream is_taken (source ∷ sources) = elim (stream_kind source) [
+  | Some kind ↦ if is_taken then Some (record { wrong = InputTwice; word = file_option kind }) else wrong_stream true sources
+  | None ↦ wrong_stream is_taken sources
+]
 
 -- the position that is requested, if any
 abbrev pub position_option : Option (List ℕ) → Result (Option Position) Fault
@@ -147,16 +163,16 @@ pdf_of choice = option_map (λ file. record { file = file; choice = pdf_choice c
 
 -- ---- what is requested
 
-abbrev pub request_with : Asked → RequestedGlyphs → Option Position → Request
+abbrev pub request_with : Asked → List RequestedGlyphs → Option Position → Request
 request_with a glyphs at = record { switches = a.choice.switches; limits = a.choice.limits; input = a.input; output = a.output; index = a.index; most_input = a.choice.most_input; glyphs = glyphs; position = at; pdf = pdf_of a.choice; by_option = not (is_some a.listed) }
 
 -- where no file is written twice
-abbrev pub request_at : Asked → RequestedGlyphs → Result Request Fault
+abbrev pub request_at : Asked → List RequestedGlyphs → Result Request Fault
 request_at a glyphs = position_option a.choice.at >>= λ at. unless (wrong_pdf a.choice a.output) (Ok (request_with a glyphs at))
 
 -- and standard input isn't read twice
 unfoldable pub request_of : Asked → Result Request Fault
-request_of a = unless (wrong_stream a.input a.choice.source) (requested a.listed a.choice.source >>= request_at a)
+request_of a = unless (wrong_stream (is_stream a.input) a.choice.sources) (requested a.listed a.choice.sources >>= request_at a)
 
 -- what the arguments from IN on ask for
 abbrev pub request_from : Choice → Bool → List (List ℕ) → Result Request Fault

@@ -1,5 +1,5 @@
 -- What was read of the arguments, as the definitions name it.
-use Rattle.std.specs.Prelude.{ℕ, List, map, String, string_bytes}
+use Rattle.std.specs.Prelude.{ℕ, List, [], ◌∷◌, map, String, string_bytes}
 use Rattle.std.specs.Global.{Global}
 use Rattle.std.specs.Option.{option_copied, option_map}
 use Rattle.subset_args.specs.Limits.{limits_view}
@@ -8,6 +8,8 @@ use Rattle.subset_args.specs.Options.{GlyphSource, in_file, by_text, in_list, in
 use Rattle.subset_args.specs.Request.{RequestedGlyphs, listed, every_glyph, of_characters, from, Position as Requested, at_coordinates, at_instance, PdfRequest, Request, Command as Wanted, help, version, subset, batch, show}
 use Rattle.subset_args.specs.declared.options.names.Source.{Source}
 use Rattle.subset_args.specs.declared.options.names.Source.TheVariants.{File, Text, InList, Characters as InCodes}
+use Rattle.subset_args.specs.declared.options.sources.Sources.{Sources}
+use Rattle.subset_args.specs.declared.options.sources.Sources.TheVariants.{Nowhere, One, Two, Three, Four, Five, Six}
 use Rattle.subset_args.specs.declared.options.chosen.Chosen.{Chosen}
 use Rattle.subset_args.specs.declared.jobs.forms.Asked.{Asked}
 use Rattle.subset_args.specs.declared.options.joined.Given.{Given}
@@ -31,8 +33,17 @@ source_view (Text text) = by_text text.now
 source_view (InList text) = in_list text.now
 source_view (InCodes text) = in_codes text.now
 
+abbrev pub sources_view : Sources → List GlyphSource
+sources_view Nowhere = []
+sources_view (One a) = source_view a ∷ []
+sources_view (Two a b) = source_view a ∷ source_view b ∷ []
+sources_view (Three a b c) = source_view a ∷ source_view b ∷ source_view c ∷ []
+sources_view (Four a b c d) = source_view a ∷ source_view b ∷ source_view c ∷ source_view d ∷ []
+sources_view (Five a b c d e) = source_view a ∷ source_view b ∷ source_view c ∷ source_view d ∷ source_view e ∷ []
+sources_view (Six a b c d e f) = source_view a ∷ source_view b ∷ source_view c ∷ source_view d ∷ source_view e ∷ source_view f ∷ []
+
 abbrev pub chosen_view : Chosen → Choice
-chosen_view c = record { switches = c.switches; limits = option_map limits_view c.limits; source = option_map source_view c.source; at = option_copied c.at; output = option_copied c.output; index = c.index; most_input = c.most_input; pdf = option_copied c.pdf; coding = c.coding; is_held = c.is_held }
+chosen_view c = record { switches = c.switches; limits = option_map limits_view c.limits; sources = sources_view c.sources; at = option_copied c.at; output = option_copied c.output; index = c.index; most_input = c.most_input; pdf = option_copied c.pdf; coding = c.coding; is_held = c.is_held }
 
 abbrev pub given_view : Given → GivenValue
 given_view g = record { setting = g.setting; word = g.word.now; value = g.value.now }
@@ -60,7 +71,7 @@ abbrev pub pdf_view : PdfJob → PdfRequest
 pdf_view pdf = record { file = string_bytes pdf.file; choice = pdf.choice }
 
 abbrev pub job_view : Job → Request
-job_view job = record { switches = job.switches; limits = option_map limits_view job.limits; input = string_bytes job.input; output = option_map (λ name. string_bytes name) job.output; index = job.index; most_input = job.most_input; glyphs = requested_view job.glyphs; position = option_map position_view job.position; pdf = option_map pdf_view job.pdf; by_option = job.by_option }
+job_view job = record { switches = job.switches; limits = option_map limits_view job.limits; input = string_bytes job.input; output = option_map (λ name. string_bytes name) job.output; index = job.index; most_input = job.most_input; glyphs = map requested_view job.glyphs.items; position = option_map position_view job.position; pdf = option_map pdf_view job.pdf; by_option = job.by_option }
 
 abbrev pub command_view : Command → Wanted
 command_view ForHelp = help

@@ -36,8 +36,6 @@ pub enum Wrong {
     Twice,
     /// It is an option, and its value is missing.
     NoValue,
-    /// It says which glyphs are requested, as one before does.
-    GlyphsTwice,
     /// It is a GID, and an option says which glyphs are requested.
     BesideOption,
     /// It reads standard input, as IN does.

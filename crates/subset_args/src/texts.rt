@@ -67,7 +67,6 @@ fn around(wrong: Wrong) -> (&'static str, Option<&'static str>) {
         Wrong::Unknown => ("", Some(" is no option")),
         Wrong::Twice => ("", Some(" is given twice")),
         Wrong::NoValue => ("", Some(": its value is missing")),
-        Wrong::GlyphsTwice => ("", Some(" is a second option that requests glyphs")),
         Wrong::BesideOption => ("GID \"", Some("\": an option requests the glyphs")),
         Wrong::InputTwice => ("", Some(": standard input is requested twice")),
         Wrong::Index => ("INDEX \"", Some("\" is not a number")),
@@ -138,8 +137,6 @@ fn expected(wrong: Wrong) -> &'static str {
         Wrong::Unknown => "see subset_font --help",
         Wrong::Twice => "expected: each option at most once",
         Wrong::NoValue => "see subset_font --help",
-        Wrong::GlyphsTwice =>
-            "expected: only one of --gids, --text, --unicodes or a -file of these",
         Wrong::BesideOption => {
             "expected: GID or one of --gids, --text and --unicodes or their -file"
         }

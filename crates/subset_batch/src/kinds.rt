@@ -34,6 +34,7 @@ fn flag_of(name: &str) -> Option<Kind>
         "quiet" => Some(Kind::Flag),
         "verbose" => Some(Kind::Flag),
         "vertical" => Some(Kind::Flag),
+        "strict" => Some(Kind::Flag),
         _ => None,
     }
 }

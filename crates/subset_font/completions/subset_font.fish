@@ -1,10 +1,11 @@
 # Completion of subset_font for fish: from src/help.rt, by completions/generate. Don't edit it.
 complete -c subset_font -l gids -x -d 'numbers and ranges, as 3,5,10-20, or * for every glyph'
 complete -c subset_font -l gids-file -r -F -d 'the same from a file, also with blanks and line ends; - is standard input'
-complete -c subset_font -l text -x -d 'the glyphs of TEXT\'s characters by the font\'s cmap, unshaped; a line end is a character, too'
+complete -c subset_font -l text -x -d 'the glyphs of TEXT\'s characters by the font\'s cmap, unshaped'
 complete -c subset_font -l text-file -r -F -d 'the same of a file\'s text, without its line ends'
 complete -c subset_font -l unicodes -x -d 'the glyphs of characters, by hexadecimal numbers and ranges, U+0041-005A,20AC; U+ may be left out'
 complete -c subset_font -l unicodes-file -r -F -d 'the same from a file, also with blanks and line ends'
+complete -c subset_font -l strict -d 'refuses a character without a glyph'
 complete -c subset_font -s o -l output-file -r -F -d 'the new font'
 complete -c subset_font -l face-index -x -d 'the face, with -o or --pdf (default 0)'
 complete -c subset_font -l most-input -x -d 'the most bytes of IN (default 1 GiB)'

@@ -7,7 +7,7 @@ use Rattle.subset_args.specs.declared.listing.lists.GlyphList.{GlyphList}
 use Rattle.subsetter_base.specs.declared.error.Error.TheVariants.{OutOfMemory}
 use Rattle.subset_task.specs.Batch.Answers.{IsFailedBy, IsFailedWith, IsWithinMost}
 use Rattle.subset_font.specs.Batch.Making.{IsDone, IsUndone, named_text, message_of, IsAnswer, IsAnswerTo}
-use Rattle.subset_task.specs.Chosen.{IsPlanOf}
+use Rattle.subset_task.specs.Chosen.{KeptGlyphs, kept_by_each, IsPlanOf}
 use Rattle.subset_task.specs.Files.{name_by}
 use Rattle.subset_font.specs.Making.Carried.{IsBeforeWriting, IsFailureOf, WritesAll}
 use Rattle.subset_task.specs.Refusals.Failure.{status_of}
@@ -15,23 +15,23 @@ use Rattle.subset_task.specs.Refusals.Texts.{failure_text}
 use Rattle.subset_task.specs.declared.batch.answers.Answer.{Answer}
 use Rattle.subset_task.specs.declared.batch.answers.Answer.TheVariants.{Done, Failed, NoMemory}
 use Rattle.subset_task.specs.declared.refusals.failure.Failure.{Failure}
-use Rattle.subset_task.specs.declared.refusals.failure.Failure.TheVariants.{Error, NoMapping, NoInstance, NotPermitted, Usage, List as WrongList, Read, ReadList, Write, WritePdf, Output, LongAnswer}
+use Rattle.subset_task.specs.declared.refusals.failure.Failure.TheVariants.{Error, NoMapping, MissingCharacters, NoInstance, NotPermitted, Usage, List as WrongList, Read, ReadList, Write, WritePdf, Output, LongAnswer}
 use Rattle.subset_task.specs.declared.task.Plan.{Plan}
 use Rattle.subset_font.proofs.RefusalsLaws.Failing.{unmade}
 
 -- ---- answers
 
-pub done_of : (bytes : List ℕ) (job : Job) (list : Option GlyphList) (plan : Plan) (result : Result (Vec ℕ Global) Failure) (page_old page_new old new : Option (List ℕ)) → IsPlanOf job list plan → IfOk result (λ object. WritesAll plan (Some bytes) page_old page_new old new (Some []) (Some object.items)) → IfOk result (λ object. IsDone bytes job object.items)
-done_of bytes job list plan (Ok object) page_old page_new old new p w = record { list = list; plan = plan; is_plan = p; outcome = w.outcome; is_made = w.is_made; is_printed = w.is_reported }
-done_of bytes job list plan (Err failure) page_old page_new old new p w = tt
+pub done_of : (bytes : List ℕ) (job : Job) (lists : List (Option GlyphList)) (kept : List KeptGlyphs) (plan : Plan) (result : Result (Vec ℕ Global) Failure) (page_old page_new old new : Option (List ℕ)) → kept ≡ kept_by_each job.glyphs.items lists → IsPlanOf job kept plan → IfOk result (λ object. WritesAll plan (Some bytes) page_old page_new old new (Some []) (Some object.items)) → IfOk result (λ object. IsDone bytes job object.items)
+done_of bytes job lists kept plan (Ok object) page_old page_new old new k p w = record { lists = lists; plan = plan; is_plan = subst (λ (ks : List KeptGlyphs). IsPlanOf job ks plan) k p; outcome = w.outcome; is_made = w.is_made; is_printed = w.is_reported }
+done_of bytes job lists kept plan (Err failure) page_old page_new old new k p w = tt
 
-undone : (bytes : List ℕ) (job : Job) (list : Option GlyphList) (plan : Plan) (failure : Failure) → IsPlanOf job list plan → IsFailureOf plan (Some bytes) failure ⊎ ((failure ≡ LongAnswer) ⊎ ((failure ≡ WritePdf) ⊎ (failure ≡ Write))) → IsUndone bytes job failure
-undone bytes job list plan failure p (inl why) = inr (inl (record { list = list; plan = plan; is_plan = p; why = why }))
-undone bytes job list plan failure p (inr unwritten) = inr (inr unwritten)
+undone : (bytes : List ℕ) (job : Job) (lists : List (Option GlyphList)) (plan : Plan) (failure : Failure) → IsPlanOf job (kept_by_each job.glyphs.items lists) plan → IsFailureOf plan (Some bytes) failure ⊎ ((failure ≡ LongAnswer) ⊎ ((failure ≡ WritePdf) ⊎ (failure ≡ Write))) → IsUndone bytes job failure
+undone bytes job lists plan failure p (inl why) = inr (inl (record { lists = lists; plan = plan; is_plan = p; why = why }))
+undone bytes job lists plan failure p (inr unwritten) = inr (inr unwritten)
 
-pub undone_of : (bytes : List ℕ) (job : Job) (list : Option GlyphList) (plan : Plan) (result : Result (Vec ℕ Global) Failure) → IsPlanOf job list plan → IfErr result (λ e. IsFailureOf plan (Some bytes) e ⊎ ((e ≡ LongAnswer) ⊎ ((e ≡ WritePdf) ⊎ (e ≡ Write)))) → IfErr result (IsUndone bytes job)
-undone_of bytes job list plan (Ok object) p why = tt
-undone_of bytes job list plan (Err failure) p why = undone bytes job list plan failure p why
+pub undone_of : (bytes : List ℕ) (job : Job) (lists : List (Option GlyphList)) (kept : List KeptGlyphs) (plan : Plan) (result : Result (Vec ℕ Global) Failure) → kept ≡ kept_by_each job.glyphs.items lists → IsPlanOf job kept plan → IfErr result (λ e. IsFailureOf plan (Some bytes) e ⊎ ((e ≡ LongAnswer) ⊎ ((e ≡ WritePdf) ⊎ (e ≡ Write)))) → IfErr result (IsUndone bytes job)
+undone_of bytes job lists kept plan (Ok object) k p why = tt
+undone_of bytes job lists kept plan (Err failure) k p why = undone bytes job lists plan failure (subst (λ (ks : List KeptGlyphs). IsPlanOf job ks plan) k p) why
 
 -- memory ran out
 pub no_memory : (plan : Plan) (bytes : List ℕ) (failure : Failure) → failure ≡ Error OutOfMemory → IsFailureOf plan (Some bytes) failure
@@ -53,15 +53,16 @@ late failure (inl e) before = subst IsBeforeWriting e before
 late failure (inr e) before = subst IsBeforeWriting e before
 
 -- the words for a failure, but for those of a list
-pub message_is : (failure : Failure) (job : Job) → (failure ≡ WrongList → ⊥) → named_text (failure_text failure) (name_by failure job) ≡ message_of failure job
+pub message_is : (failure : Failure) (job : Job) → ((place : ℕ) → failure ≡ WrongList place → ⊥) → named_text (failure_text failure) (name_by failure job) ≡ message_of failure job
 message_is (Error e) job h = refl
 message_is NoMapping job h = refl
 message_is NoInstance job h = refl
+message_is MissingCharacters job h = refl
 message_is (NotPermitted permission) job h = refl
 message_is Usage job h = refl
-message_is WrongList job h = absurd (h refl)
+message_is (WrongList place) job h = absurd (h place refl)
 message_is Read job h = refl
-message_is ReadList job h = refl
+message_is (ReadList place) job h = refl
 message_is Write job h = refl
 message_is WritePdf job h = refl
 message_is Output job h = refl

@@ -6,4 +6,5 @@ pub mod View
 pub mod Fixed
 pub mod Faces
 pub mod Notes
+pub mod Index
 pub mod Missing

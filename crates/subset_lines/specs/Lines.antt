@@ -1,8 +1,7 @@
 -- The lines that tell the new numbers.
 use Rattle.std.specs.Prelude.{ℕ, List, [], ◌∷◌, ◌++◌, drop, Option, Some, None, codes, decimal}
 use Rattle.subsetter_base.specs.Indexes.{index_of}
-use Rattle.subset_lines.specs.Text.{Numbers, four_digits}
-use Rattle.subsetter_base.specs.Bytes.{first_number}
+use Rattle.subset_lines.specs.Text.{Numbers, first_character, four_digits}
 
 -- a character as `U+` and its number, with a blank behind it
 abbrev pub name_of : Option ℕ → List ℕ
@@ -15,9 +14,9 @@ line_of character old None = []
 line_of character old (Some new) = name_of character ++ decimal old ++ codes " -> " ++ decimal new ++ 10 ∷ []
 
 -- a line for each glyph, in order
-abbrev pub lines_for : List ℕ → List ℕ → List ℕ → List ℕ
+abbrev pub lines_for : List ℕ → List (Option ℕ) → List ℕ → List ℕ
 lines_for order characters [] = []
-lines_for order characters (old ∷ glyphs) = line_of (first_number characters) old (index_of order old) ++ lines_for order (drop 1 characters) glyphs
+lines_for order characters (old ∷ glyphs) = line_of (first_character characters) old (index_of order old) ++ lines_for order (drop 1 characters) glyphs
 
 -- a text as a line, which an empty one isn't
 abbrev pub last_line : List ℕ → List ℕ

@@ -1,9 +1,10 @@
--- What is noted of coordinates and of characters that a font doesn't have.
-use Rattle.std.specs.Prelude.{ℕ, ℤ, List, [], ◌∷◌, ◌++◌, map, codes}
+-- What is noted of coordinates, of characters and of a face that a font doesn't have.
+use Rattle.std.specs.Prelude.{ℕ, ℤ, List, [], ◌∷◌, ◌++◌, map, Option, codes}
 use Rattle.subsetter_base.specs.declared.tag.Tag.{Tag}
 use Rattle.subsetter_variation.specs.declared.locations.axes.Axis.{Axis}
 use Rattle.subset_lines.specs.Faces.Axes.{shown}
 use Rattle.subset_lines.specs.Fixed.{fixed_text}
+use Rattle.subset_lines.specs.Index.{index_line, index_string}
 use Rattle.subset_lines.specs.Missing.{missing_line, missing_string}
 use Rattle.subset_lines.specs.Objects.Quoted.{quoted}
 use Rattle.subset_lines.specs.declared.notes.Note.{Note}
@@ -45,9 +46,9 @@ abbrev pub notes_text : List Axis → List Note → List ℕ
 notes_text axes [] = []
 notes_text axes (note ∷ notes) = note_lines (note ∷ notes) ++ axes_note axes ++ codes "\n"
 
--- and one for the characters without a glyph
-abbrev pub all_text : List Axis → List Note → List ℕ → List ℕ
-all_text axes notes characters = notes_text axes notes ++ missing_line characters
+-- one for the characters without a glyph, and one for the face
+abbrev pub all_text : List Axis → List Note → List ℕ → Option ℕ → List ℕ
+all_text axes notes characters index = notes_text axes notes ++ missing_line characters ++ index_line index
 
 -- the same as an array of strings
 abbrev pub note_strings : List Note → List ℕ
@@ -62,8 +63,12 @@ abbrev pub comma_behind : List Note → List ℕ
 comma_behind [] = []
 comma_behind (note ∷ notes) = codes ","
 
-unfoldable pub all_strings : List Axis → List Note → List ℕ → List ℕ
-all_strings axes notes characters = coordinate_strings axes notes ++ missing_string (comma_behind notes) characters
+abbrev pub comma_behind_both : List Note → List ℕ → List ℕ
+comma_behind_both notes [] = comma_behind notes
+comma_behind_both notes (c ∷ characters) = codes ","
 
-abbrev pub notes_array : List Axis → List Note → List ℕ → List ℕ
-notes_array axes notes characters = codes "[" ++ all_strings axes notes characters ++ codes "]"
+unfoldable pub all_strings : List Axis → List Note → List ℕ → Option ℕ → List ℕ
+all_strings axes notes characters index = coordinate_strings axes notes ++ missing_string (comma_behind notes) characters ++ index_string (comma_behind_both notes characters) index
+
+abbrev pub notes_array : List Axis → List Note → List ℕ → Option ℕ → List ℕ
+notes_array axes notes characters index = codes "[" ++ all_strings axes notes characters index ++ codes "]"

@@ -1,13 +1,18 @@
 -- Parts of the text that tells the new numbers.
-use Rattle.std.specs.Prelude.{ℕ, false, true, ◌^◌, ◌-◌, List, [], ◌∷◌}
+use Rattle.std.specs.Prelude.{ℕ, false, true, ◌^◌, ◌-◌, List, [], ◌∷◌, Option, None}
 use Rattle.std.specs.Fmt.{digits, padded_integral, format_spec}
 
--- the glyphs whose new numbers are printed, with the characters that they stand for and their names, as far as there are any, and the old numbers in the order of the new ones
+-- the glyphs whose new numbers are printed, with the characters that they stand for, if they stand for one, their names, as far as there are any, and the old numbers in the order of the new ones
 pub record Numbers : Type 0 where
-  pub characters : List ℕ
+  pub characters : List (Option ℕ)
   pub names : List (List ℕ)
   pub glyphs : List ℕ
   pub order : List ℕ
+
+-- the first character, if there is one
+abbrev pub first_character : List (Option ℕ) → Option ℕ
+first_character [] = None
+first_character (character ∷ characters) = character
 
 -- the first name, an empty one where there is none
 abbrev pub first_name : List (List ℕ) → List ℕ

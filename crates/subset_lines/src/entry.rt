@@ -1,15 +1,15 @@
 //! What is printed.
 
 ghost use Rattle.std.specs.Prelude.{◌≡◌, [], drop, map, get_or};
-ghost use Rattle.subsetter_base.specs.Bytes.{first_number};
+ghost use Rattle.subset_lines.specs.Text.{first_character};
 
 use subsetter_base::GlyphRemapper;
 
 /// The glyphs whose new numbers are printed.
 #[derive(Clone, Copy)]
 pub struct Numbering<'a> {
-    /// The characters that the glyphs stand for, as far as there are any.
-    pub characters: &'a [char],
+    /// The characters that the glyphs stand for, if they stand for one.
+    pub characters: &'a [Option<char>],
     /// The names of the glyphs, as far as there are any; an empty one is none.
     pub names: &'a [&'a [u8]],
     /// The old numbers.
@@ -23,13 +23,13 @@ pub struct Numbering<'a> {
 pub struct Unwritten;
 
 /// The first character, and the others.
-pub fn take_first(characters: &[char]) -> (Option<char>, &[char])
-    ensures first { result.0 ≡ first_number characters.now }
+pub fn take_first(characters: &[Option<char>]) -> (Option<char>, &[Option<char>])
+    ensures first { result.0 ≡ first_character characters.now }
     ensures others { result.1.now ≡ drop 1 characters.now }
 {
     match characters {
         [] => (None, characters),
-        [character, others @ ..] => (Some(*character), others),
+        [character, others @ ..] => (*character, others),
     }
 }
 

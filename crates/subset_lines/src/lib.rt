@@ -13,13 +13,14 @@ pub mod characters;
 mod entry;
 mod faces;
 mod fixed;
+mod index;
 mod missing;
 mod notes;
 mod objects;
 mod plain;
 mod text;
 
-pub use entry::{Numbering, Unwritten, take_first};
+pub use entry::{Numbering, Unwritten};
 pub use faces::axes::{FontAxes, read_axes, write_axes};
 pub use faces::info::face::Info;
 pub use faces::info::json::write_info_json;

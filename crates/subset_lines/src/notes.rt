@@ -1,15 +1,16 @@
-//! What is noted of coordinates and of characters that a font doesn't have.
+//! What is noted of coordinates, of characters and of a face that a font doesn't have.
 
 ghost use Rattle.std.specs.Prelude.{◌≡◌, ◌++◌, [], OnOk, IfOk, codes, map};
 ghost use Rattle.std.specs.Io.KnownBytes.{Appends};
 ghost use Rattle.subset_lines.specs.Faces.Axes.{shown};
 ghost use Rattle.subset_lines.specs.Fixed.{fixed_text};
-ghost use Rattle.subset_lines.specs.Notes.{no_axis_text, setting_text, clamped_text, note_text, range_text, ranges_text, axes_note, note_lines, notes_text, all_text, note_strings, coordinate_strings, comma_behind, all_strings, notes_array};
+ghost use Rattle.subset_lines.specs.Notes.{no_axis_text, setting_text, clamped_text, note_text, range_text, ranges_text, axes_note, note_lines, notes_text, all_text, note_strings, coordinate_strings, comma_behind, comma_behind_both, all_strings, notes_array};
 ghost use Rattle.subset_lines.specs.Objects.Quoted.{quoted};
 
 use crate::entry::Unwritten;
 use crate::faces::axes::write_tag;
 use crate::fixed::write_labelled;
+use crate::index::{write_index_line, write_index_string};
 use crate::missing::{write_missing_line, write_missing_string};
 use crate::objects::quoted::write_quoted;
 use crate::text::write_text;
@@ -144,22 +145,25 @@ fn write_all_notes<W: Write>(axes: &[Axis], notes: &[Note], out: &mut W) -> Resu
     write_text(b"\n", out)
 }
 
-/// Writes the same, and the note of characters without a glyph.
+/// Writes the same, the note of characters without a glyph, and that of the face.
 #[tactic(auto, using(crate::proofs::Written::both))]
 fn write_all<W: Write>(
     axes: &[Axis],
     notes: &[Note],
     characters: &[char],
+    index: Option<u32>,
     out: &mut W,
 ) -> Result<(), Unwritten>
-    ensures { OnOk result (Appends (W.contents out.old) (W.contents out.new) (all_text axes.now notes.now characters.now)) }
+    ensures { OnOk result (Appends (W.contents out.old) (W.contents out.new) (all_text axes.now notes.now characters.now index)) }
 {
     write_all_notes(axes, notes, out)?;
-    write_missing_line(characters, out)
+    write_missing_line(characters, out)?;
+    write_index_line(index, out)
 }
 
-/// The lines of notes: one for each, and behind them one of the axes that the font has, as `axes: wght 100 to 900`; and one of
-/// the characters without a glyph, if there are any. It is empty where there is nothing to note.
+/// The lines of notes: one for each, and behind them one of the axes that the font has, as `axes: wght 100 to 900`; one of
+/// the characters without a glyph, if there are any; and one of the index of a face that the file doesn't have, if it is given. It
+/// is empty where there is nothing to note.
 ///
 /// `Unwritten` where a request for memory was refused.
 pub fn note_lines(
@@ -167,11 +171,12 @@ pub fn note_lines(
     axes: &[Axis],
     notes: &[Note],
     characters: &[char],
+    index: Option<u32>,
 ) -> Result<Vec<u8>, Unwritten>
-    ensures { IfOk result (λ text. text.items ≡ all_text axes.now notes.now characters.now) }
+    ensures { IfOk result (λ text. text.items ≡ all_text axes.now notes.now characters.now index) }
 {
     let mut text = Vec::new(alloc);
-    write_all(axes, notes, characters, &mut text)?;
+    write_all(axes, notes, characters, index, &mut text)?;
     Ok(text)
 }
 
@@ -242,6 +247,16 @@ fn comma_behind(notes: &[Note]) -> &'static [u8]
     }
 }
 
+/// A comma, if there are notes or characters in front of it.
+fn comma_behind_both(notes: &[Note], characters: &[char]) -> &'static [u8]
+    ensures { result.now ≡ comma_behind_both notes.now characters.now }
+{
+    match characters {
+        [] => comma_behind(notes),
+        _ => b",",
+    }
+}
+
 /// Writes all notes as JSON strings with commas between them.
 #[tactic(auto, using(crate::proofs::Written::both), unfolding(crate::specs::Notes::all_strings))]
 fn write_all_strings<W: Write>(
@@ -249,12 +264,14 @@ fn write_all_strings<W: Write>(
     axes: &[Axis],
     notes: &[Note],
     characters: &[char],
+    index: Option<u32>,
     out: &mut W,
 ) -> Result<(), Unwritten>
-    ensures { OnOk result (Appends (W.contents out.old) (W.contents out.new) (all_strings axes.now notes.now characters.now)) }
+    ensures { OnOk result (Appends (W.contents out.old) (W.contents out.new) (all_strings axes.now notes.now characters.now index)) }
 {
     write_coordinate_strings(alloc, axes, notes, out)?;
-    write_missing_string(alloc, comma_behind(notes), characters, out)
+    write_missing_string(alloc, comma_behind(notes), characters, out)?;
+    write_index_string(alloc, comma_behind_both(notes, characters), index, out)
 }
 
 /// Writes the same notes as a JSON array of strings.
@@ -264,11 +281,12 @@ pub fn write_notes_array<W: Write>(
     axes: &[Axis],
     notes: &[Note],
     characters: &[char],
+    index: Option<u32>,
     out: &mut W,
 ) -> Result<(), Unwritten>
-    ensures { OnOk result (Appends (W.contents out.old) (W.contents out.new) (notes_array axes.now notes.now characters.now)) }
+    ensures { OnOk result (Appends (W.contents out.old) (W.contents out.new) (notes_array axes.now notes.now characters.now index)) }
 {
     write_text(b"[", out)?;
-    write_all_strings(alloc, axes, notes, characters, out)?;
+    write_all_strings(alloc, axes, notes, characters, index, out)?;
     write_text(b"]", out)
 }

@@ -1,4 +1,4 @@
--- What is answered for glyphs in use, and for glyphs and characters.
+-- What is answered for glyphs in use, and for glyphs and their texts.
 use Rattle.std.proofs.Common.{◌≡◌, ◌⊎◌, inl, inr, ℕ, ℤ, List, true, false, map, Result, Ok, Err, refl, sym, ap, subst, ◌∙◌}
 use Rattle.std.specs.Prelude.{IfOk, IfErr}
 use Rattle.subsetter_base.specs.declared.tag.Tag.{Tag}
@@ -6,13 +6,13 @@ use Rattle.subsetter_base.specs.declared.error.Error.{Error}
 use Rattle.subsetter_base.specs.declared.error.Error.TheVariants.{OutOfMemory, OverflowError}
 use Rattle.subsetter_sfnt.specs.Read.{Font}
 use Rattle.pdf_codes.specs.Codes.{Used}
-use Rattle.pdf_codes.specs.Shown.{has_long_text, texts_of, uses_of}
+use Rattle.pdf_codes.specs.Shown.{texts_of, uses_of}
 use Rattle.pdf_codes.specs.declared.shown.Shown.{Shown}
 use Rattle.pdf_values.specs.declared.permission.Permission.{Permission}
 use Rattle.pdf_source.specs.declared.choice.FontOptions.{FontOptions}
 use Rattle.pdf_font.specs.PdfFont.{HasFontFault, IsPdfFont, font_of, in_embedding, no_maxp, overfull, not_permitted, long_text}
 use Rattle.pdf_font.specs.declared.error.FontError.{FontError}
-use Rattle.pdf_font.specs.declared.error.FontError.TheVariants.{Subset, NotPermitted as Forbidden, TextTooLong}
+use Rattle.pdf_font.specs.declared.error.FontError.TheVariants.{Subset, NotPermitted as Forbidden, TextTooLong as TooLong}
 use Rattle.pdf_font.specs.declared.font.PdfFont.{PdfFont}
 use Rattle.pdf_objects.specs.Glyphs.{IsSheetOf, IsSheetOfFont, IsTooLargeFor}
 use Rattle.pdf_objects.specs.View.{IsViewOf}
@@ -24,15 +24,7 @@ use Rattle.subset_pdf.specs.Sheet.{HasFaultFor, HasSheetFault, HasSheetFaultBy, 
 use Rattle.subset_pdf.specs.declared.options.PdfRequest.{PdfRequest}
 use Rattle.subset_pdf.specs.declared.sheet.Sheet.{Sheet}
 use Rattle.subset_pdf.specs.declared.sheet.SheetError.{SheetError}
-use Rattle.subset_pdf.specs.declared.sheet.SheetError.TheVariants.{Font as RefusedFont, NotPermitted}
-
--- that a text is too long is no fault where none is
-long_of : (font : Font) (settings : List (Tag × ℤ)) (options : FontOptions) (us : List Used) (order : List ℕ) (e : FontError) → HasFontFault font settings options us order e → e ≡ TextTooLong → has_long_text us ≡ true
-long_of font settings options us order _ (in_embedding f) m = absurd cc
-long_of font settings options us order _ (no_maxp static s k n) m = absurd cc
-long_of font settings options us order _ (overfull o) m = absurd cc
-long_of font settings options us order _ (not_permitted p) m = absurd cc
-long_of font settings options us order _ (long_text l) m = l
+use Rattle.subset_pdf.specs.declared.sheet.SheetError.TheVariants.{Font as RefusedFont, NotPermitted, TextTooLong}
 
 module _ (bytes : List ℕ) (request : PdfRequest) (shown : List Shown) where
   -- a fault for which `pdf_font` answers nothing, by the options that it gets
@@ -56,14 +48,12 @@ module _ (bytes : List ℕ) (request : PdfRequest) (shown : List Shown) where
   pub font_forbidden : (options : FontOptions) (p : Permission) → options ≡ options_of request → FaultBy options (Forbidden p) → (NotPermitted p ≡ RefusedFont OutOfMemory) ⊎ HasFaultFor bytes request shown (NotPermitted p)
   font_forbidden options p is h = forbidden_by p (subst (λ (o : FontOptions). FaultBy o (Forbidden p)) is h)
 
-  not_long : (options : FontOptions) → has_long_text (uses_of shown) ≡ false → FaultBy options TextTooLong → ⊥
-  not_long options short (inl memory) = absurd cc
-  not_long options short (inr fault) =
-      let long = long_of (font_of bytes request.index options) request.at.now options (uses_of shown) fault.0 TextTooLong fault.1 refl in
-      let both : true ≡ false = sym long ∙ short in cc
+  long_by : FaultBy (options_of request) TooLong → (TextTooLong ≡ RefusedFont OutOfMemory) ⊎ HasFaultFor bytes request shown TextTooLong
+  long_by (inl memory) = absurd cc
+  long_by (inr fault) = inr fault
 
-  pub font_never_long : (options : FontOptions) (e : FontError) → e ≡ TextTooLong → has_long_text (uses_of shown) ≡ false → FaultBy options e → (RefusedFont OverflowError ≡ RefusedFont OutOfMemory) ⊎ HasFaultFor bytes request shown (RefusedFont OverflowError)
-  font_never_long options e is short h = absurd (not_long options short (subst (λ (f : FontError). FaultBy options f) is h))
+  pub font_too_long : (options : FontOptions) (e : FontError) → e ≡ TooLong → options ≡ options_of request → FaultBy options e → (TextTooLong ≡ RefusedFont OutOfMemory) ⊎ HasFaultFor bytes request shown TextTooLong
+  font_too_long options e is are h = long_by (subst (λ (o : FontOptions). FaultBy o TooLong) are (subst (λ (f : FontError). FaultBy options f) is h))
 
   -- ---- its sheet
 
@@ -83,19 +73,19 @@ module _ (bytes : List ℕ) (request : PdfRequest) (shown : List Shown) where
   no_font_by e (inl memory) = inl memory
   no_font_by e (inr fault) = inr (in_font fault)
 
-  -- ---- for glyphs and characters
+  -- ---- for glyphs and their texts
 
-  pub sheet_for : (characters glyphs : List ℕ) (r : Result Sheet SheetError) → map entry_of shown ≡ entries_of characters glyphs → IfOk r (IsSheetBy bytes request shown) → IfOk r (IsSheetFor bytes request characters glyphs)
-  sheet_for characters glyphs (Ok s) are h = record { shown = shown; are_shown = are; is_sheet = h }
-  sheet_for characters glyphs (Err e) are h = tt
+  pub sheet_for : (text lengths glyphs : List ℕ) (r : Result Sheet SheetError) → map entry_of shown ≡ entries_of text lengths glyphs → IfOk r (IsSheetBy bytes request shown) → IfOk r (IsSheetFor bytes request text lengths glyphs)
+  sheet_for text lengths glyphs (Ok s) are h = record { shown = shown; are_shown = are; is_sheet = h }
+  sheet_for text lengths glyphs (Err e) are h = tt
 
-  fault_for : (characters glyphs : List ℕ) (e : SheetError) → map entry_of shown ≡ entries_of characters glyphs → (e ≡ RefusedFont OutOfMemory) ⊎ HasSheetFaultBy bytes request shown e → (e ≡ RefusedFont OutOfMemory) ⊎ HasSheetFault bytes request characters glyphs e
-  fault_for characters glyphs e are (inl memory) = inl memory
-  fault_for characters glyphs e are (inr fault) = inr (record { shown = shown; are_shown = are; fault = fault })
+  fault_for : (text lengths glyphs : List ℕ) (e : SheetError) → map entry_of shown ≡ entries_of text lengths glyphs → (e ≡ RefusedFont OutOfMemory) ⊎ HasSheetFaultBy bytes request shown e → (e ≡ RefusedFont OutOfMemory) ⊎ HasSheetFault bytes request text lengths glyphs e
+  fault_for text lengths glyphs e are (inl memory) = inl memory
+  fault_for text lengths glyphs e are (inr fault) = inr (record { shown = shown; are_shown = are; fault = fault })
 
-  pub no_sheet_for : (characters glyphs : List ℕ) (r : Result Sheet SheetError) → map entry_of shown ≡ entries_of characters glyphs → IfErr r (λ e. (e ≡ RefusedFont OutOfMemory) ⊎ HasSheetFaultBy bytes request shown e) → IfErr r (λ e. (e ≡ RefusedFont OutOfMemory) ⊎ HasSheetFault bytes request characters glyphs e)
-  no_sheet_for characters glyphs (Ok s) are h = tt
-  no_sheet_for characters glyphs (Err e) are h = fault_for characters glyphs e are h
+  pub no_sheet_for : (text lengths glyphs : List ℕ) (r : Result Sheet SheetError) → map entry_of shown ≡ entries_of text lengths glyphs → IfErr r (λ e. (e ≡ RefusedFont OutOfMemory) ⊎ HasSheetFaultBy bytes request shown e) → IfErr r (λ e. (e ≡ RefusedFont OutOfMemory) ⊎ HasSheetFault bytes request text lengths glyphs e)
+  no_sheet_for text lengths glyphs (Ok s) are h = tt
+  no_sheet_for text lengths glyphs (Err e) are h = fault_for text lengths glyphs e are h
 
 -- the answers of `write_sheet` under their names
 pub sheet_of_font : (font : PdfFont) (view : FontView) (shown : List Shown) (layout : Layout) (file : List ℕ) → IsViewOf font view → IsSheetOf view (texts_of shown) layout file → IsSheetOfFont font shown layout file

@@ -5,7 +5,7 @@ use Rattle.pdf_codes.specs.Shown.{uses_of}
 use Rattle.pdf_codes.specs.declared.shown.Shown.{Shown}
 use Rattle.pdf_font.specs.PdfFont.{HasFontFault, IsPdfFont, font_of}
 use Rattle.pdf_font.specs.declared.error.FontError.{FontError}
-use Rattle.pdf_font.specs.declared.error.FontError.TheVariants.{Subset, NotPermitted as Forbidden}
+use Rattle.pdf_font.specs.declared.error.FontError.TheVariants.{Subset, NotPermitted as Forbidden, TextTooLong as TooLong}
 use Rattle.pdf_font.specs.declared.font.PdfFont.{PdfFont}
 use Rattle.pdf_objects.specs.Glyphs.{IsSheetOfFont, IsTooLargeForFont}
 use Rattle.pdf_sheet.specs.declared.frame.Layout.{Layout}
@@ -14,7 +14,7 @@ use Rattle.subset_pdf.specs.Shown.{entries_of, entry_of}
 use Rattle.subset_pdf.specs.declared.options.PdfRequest.{PdfRequest}
 use Rattle.subset_pdf.specs.declared.sheet.Sheet.{Sheet}
 use Rattle.subset_pdf.specs.declared.sheet.SheetError.{SheetError}
-use Rattle.subset_pdf.specs.declared.sheet.SheetError.TheVariants.{Font, NotPermitted}
+use Rattle.subset_pdf.specs.declared.sheet.SheetError.TheVariants.{Font, NotPermitted, TextTooLong}
 
 -- ---- for glyphs in use
 
@@ -31,6 +31,7 @@ pub record IsSheetBy (bytes : List ℕ) (request : PdfRequest) (shown : List Sho
 abbrev pub fault_of : SheetError → FontError
 fault_of (Font e) = Subset e
 fault_of (NotPermitted p) = Forbidden p
+fault_of TextTooLong = TooLong
 
 -- a fault for which `pdf_font` answers nothing
 abbrev pub HasFaultFor : List ℕ → PdfRequest → List Shown → SheetError → Type 0
@@ -44,16 +45,16 @@ pub data HasSheetFaultBy (bytes : List ℕ) (request : PdfRequest) (shown : List
   in_font : HasFaultFor bytes request shown why → HasSheetFaultBy bytes request shown why
   too_large : (font : PdfFont) → IsFontFor bytes request shown font → IsTooLargeAs font shown request.layout why → HasSheetFaultBy bytes request shown why
 
--- ---- for glyphs and characters
+-- ---- for glyphs and their texts
 
 -- a sheet of the glyphs with their texts
-pub record IsSheetFor (bytes : List ℕ) (request : PdfRequest) (characters glyphs : List ℕ) (sheet : Sheet) : Type 0 where
+pub record IsSheetFor (bytes : List ℕ) (request : PdfRequest) (text lengths glyphs : List ℕ) (sheet : Sheet) : Type 0 where
   pub shown : List Shown
-  pub are_shown : map entry_of shown ≡ entries_of characters glyphs
+  pub are_shown : map entry_of shown ≡ entries_of text lengths glyphs
   pub is_sheet : IsSheetBy bytes request shown sheet
 
 -- a fault against it
-pub record HasSheetFault (bytes : List ℕ) (request : PdfRequest) (characters glyphs : List ℕ) (why : SheetError) : Type 0 where
+pub record HasSheetFault (bytes : List ℕ) (request : PdfRequest) (text lengths glyphs : List ℕ) (why : SheetError) : Type 0 where
   pub shown : List Shown
-  pub are_shown : map entry_of shown ≡ entries_of characters glyphs
+  pub are_shown : map entry_of shown ≡ entries_of text lengths glyphs
   pub fault : HasSheetFaultBy bytes request shown why

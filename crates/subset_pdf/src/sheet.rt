@@ -1,7 +1,6 @@
 //! The PDF.
 
-ghost use Rattle.std.specs.Prelude.{◌≡◌, ◌⊎◌, false, IfOk, IfErr};
-ghost use Rattle.pdf_codes.specs.Shown.{has_long_text, uses_of};
+ghost use Rattle.std.specs.Prelude.{◌≡◌, ◌⊎◌, IfOk, IfErr};
 ghost use Rattle.pdf_objects.specs.Glyphs.{IsSheetOfFont};
 ghost use Rattle.subset_pdf.specs.Sheet.{HasFaultFor, HasSheetFault, HasSheetFaultBy, IsFontFor, IsSheetBy, IsSheetFor, IsTooLargeAs};
 ghost use Rattle.subset_pdf.specs.declared.sheet.SheetError.TheVariants.{Font as RefusedFont};
@@ -30,17 +29,18 @@ pub enum SheetError {
     Font(Error),
     /// The font's maker doesn't permit it, and the user holds no rights.
     NotPermitted(Permission),
+    /// The text of a glyph is too long.
+    TextTooLong,
 }
 
-/// What the PDF has of the font for glyphs in use, of which no text is too long.
-#[tactic(auto, using(crate::proofs::Sheets::font_made, crate::proofs::Sheets::font_refused, crate::proofs::Sheets::font_forbidden, crate::proofs::Sheets::font_never_long))]
+/// What the PDF has of the font for glyphs in use.
+#[tactic(auto, using(crate::proofs::Sheets::font_made, crate::proofs::Sheets::font_refused, crate::proofs::Sheets::font_forbidden, crate::proofs::Sheets::font_too_long))]
 fn font_for(
     alloc: Global,
     data: &[u8],
     request: &PdfRequest<'_>,
     shown: &[Shown<'_>],
 ) -> Result<PdfFont, SheetError>
-    requires { has_long_text (uses_of shown.now) ≡ false }
     ensures ok { IfOk result (IsFontFor «data».now request.now shown.now) }
     ensures err { IfErr result (λ e. (e ≡ RefusedFont OutOfMemory) ⊎ HasFaultFor «data».now request.now shown.now e) }
 {
@@ -49,8 +49,7 @@ fn font_for(
         Ok(font) => Ok(font),
         Err(FontError::Subset(error)) => Err(SheetError::Font(error)),
         Err(FontError::NotPermitted(permission)) => Err(SheetError::NotPermitted(permission)),
-        // (no text is too long)
-        Err(FontError::TextTooLong) => Err(SheetError::Font(Error::OverflowError)),
+        Err(FontError::TextTooLong) => Err(SheetError::TextTooLong),
     }
 }
 
@@ -80,7 +79,6 @@ fn sheet_of(
     request: &PdfRequest<'_>,
     shown: &[Shown<'_>],
 ) -> Result<Sheet, SheetError>
-    requires { has_long_text (uses_of shown.now) ≡ false }
     ensures ok { IfOk result (IsSheetBy «data».now request.now shown.now) }
     ensures err { IfErr result (λ e. (e ≡ RefusedFont OutOfMemory) ⊎ HasSheetFaultBy «data».now request.now shown.now e) }
 {
@@ -90,28 +88,30 @@ fn sheet_of(
     }
 }
 
-/// A PDF that shows glyphs of a font in 36 points, each with its character as its text, as far as there are any: in a line, or
-/// in a grid of 12 by 16 a page.
+/// A PDF that shows glyphs of a font in 36 points, each with its text, so many of the characters that are left: in a line, or in
+/// a grid of 12 by 16 a page.
 ///
 /// # Errors
 ///
 /// - `NotPermitted`: `fsType` forbids it, and the user holds no rights.
+/// - `TextTooLong`: the text of a glyph is too long.
 /// - `Font`: what `pdf_font` answers; the PDF would have 10,000,000,000 bytes or more (`OverflowError`); a request for memory was
 ///   refused (`OutOfMemory`).
-#[tactic(auto, using(crate::proofs::Short::short, crate::proofs::Sheets::sheet_for, crate::proofs::Sheets::no_sheet_for))]
+#[tactic(auto, using(crate::proofs::Sheets::sheet_for, crate::proofs::Sheets::no_sheet_for))]
 pub fn make_sheet(
     alloc: Global,
     data: &[u8],
     request: &PdfRequest<'_>,
-    characters: &[char],
+    text: &[char],
+    lengths: &[usize],
     glyphs: &[u16],
 ) -> Result<Sheet, SheetError>
     // What is made is the sheet of what `pdf_font` answers for the glyphs.
-    ensures ok { IfOk result (IsSheetFor «data».now request.now characters.now glyphs.now) }
+    ensures ok { IfOk result (IsSheetFor «data».now request.now text.now lengths.now glyphs.now) }
     // What is refused has a fault of that name.
-    ensures err { IfErr result (λ e. (e ≡ RefusedFont OutOfMemory) ⊎ HasSheetFault «data».now request.now characters.now glyphs.now e) }
+    ensures err { IfErr result (λ e. (e ≡ RefusedFont OutOfMemory) ⊎ HasSheetFault «data».now request.now text.now lengths.now glyphs.now e) }
 {
-    match shown_of(alloc, characters, glyphs) {
+    match shown_of(alloc, text, lengths, glyphs) {
         Ok(shown) => sheet_of(alloc, data, request, &shown),
         Err(error) => Err(SheetError::Font(error)),
     }

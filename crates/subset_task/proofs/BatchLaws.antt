@@ -5,7 +5,7 @@ use Rattle.std.specs.Prelude.{IfOk, IfErr, String, is_some, map, string_bytes}
 use Rattle.std.specs.Global.{Global}
 use Rattle.std.specs.Option.{option_map, option_and_then}
 use Rattle.std.specs.Result.{result_ok}
-use Rattle.subset_args.specs.Request.{Request as Requested, lists_in_stream, PdfRequest}
+use Rattle.subset_args.specs.Request.{Request as Requested, is_in_stream, PdfRequest}
 use Rattle.subset_args.specs.View.{job_view, requested_view, pdf_view}
 use Rattle.subset_args.specs.declared.jobs.command.Glyphs.{Glyphs}
 use Rattle.subset_args.specs.declared.jobs.command.Glyphs.TheVariants.{Listed, Characters, InFile, ByText, Every}
@@ -29,7 +29,7 @@ use Rattle.subset_task.specs.declared.batch.requests.State.TheVariants.{Answered
 
 -- ---- what a line requests
 
-pub list_stream : (glyphs : Glyphs) → lists_in_stream (requested_view glyphs) ≡ is_given_stream (list_name glyphs)
+pub list_stream : (glyphs : Glyphs) → is_in_stream (requested_view glyphs) ≡ is_given_stream (list_name glyphs)
 list_stream (Listed glyphs) = refl
 list_stream Every = refl
 list_stream (Characters found) = refl
@@ -95,12 +95,12 @@ left_last requests r left after before is =
 pub begun_by_nothing : (before : List Request) (line : List ℕ) (answer : Answer) → IsNoOrder (order_of line) answer → IsBegun before line None (Answered answer)
 begun_by_nothing before line answer h = inl h
 
-pub begun_too_long : (before : List Request) (line : List ℕ) (job : Job) (left numbers : ℕ) (answer : Answer) → order_of line ≡ Some (job_view job) → left ≡ left_behind before → numbers ≡ numbers_by job.glyphs → left < numbers → IsFailedBy 2 answer → IsBegun before line None (Answered answer)
+pub begun_too_long : (before : List Request) (line : List ℕ) (job : Job) (left numbers : ℕ) (answer : Answer) → order_of line ≡ Some (job_view job) → left ≡ left_behind before → numbers ≡ numbers_by job.glyphs.items → left < numbers → IsFailedBy 2 answer → IsBegun before line None (Answered answer)
 begun_too_long before line job left numbers answer is l n more refused =
-    let long : left_behind before < numbers_by job.glyphs = subst (λ (k : ℕ). left_behind before < k) n (subst (λ (k : ℕ). k < numbers) l more) in
+    let long : left_behind before < numbers_by job.glyphs.items = subst (λ (k : ℕ). left_behind before < k) n (subst (λ (k : ℕ). k < numbers) l more) in
     inr (record { job = job; is_requested = is; is_too_long = long; is_refused = refused })
 
-pub begun_few : (before : List Request) (line : List ℕ) (job : Job) (left numbers : ℕ) (state : State) → order_of line ≡ Some (job_view job) → left ≡ left_behind before → numbers ≡ numbers_by job.glyphs → numbers ≤ left → IsFirst (is_named_before before job) state → IsBegun before line (Some job) state
+pub begun_few : (before : List Request) (line : List ℕ) (job : Job) (left numbers : ℕ) (state : State) → order_of line ≡ Some (job_view job) → left ≡ left_behind before → numbers ≡ numbers_by job.glyphs.items → numbers ≤ left → IsFirst (is_named_before before job) state → IsBegun before line (Some job) state
 begun_few before line job left numbers state is l n few first =
     (is, (subst (λ (k : ℕ). k ≤ left_behind before) n (subst (λ (k : ℕ). numbers ≤ k) l few), first))
 

@@ -1,3 +1,4 @@
 pub mod BatchLaws
 pub mod FacesLaws
+pub mod Requesting
 mod Steps

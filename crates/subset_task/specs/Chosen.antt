@@ -1,5 +1,5 @@
 -- What the options in front of IN choose for a task.
-use Rattle.std.specs.Prelude.{◌≡◌, ◌⊎◌, ℕ, ℤ, List, [], not, false, if◌then◌else◌, Option, Some, None, string_bytes}
+use Rattle.std.specs.Prelude.{◌≡◌, ◌⊎◌, ℕ, ℤ, List, [], ◌∷◌, map, not, false, if◌then◌else◌, IsSome, Option, Some, None, string_bytes}
 use Rattle.std.specs.Option.{option_copied, option_and_then, option_map}
 use Rattle.subsetter.specs.Limits.{token_limit, depth_limit}
 use Rattle.subsetter_sfnt.specs.declared.extras.Extras.{Extras}
@@ -19,6 +19,7 @@ use Rattle.subset_task.specs.declared.task.RequestedGlyphs.TheVariants.{These, E
 use Rattle.subsetter_base.specs.declared.error.Error.TheVariants.{OutOfMemory}
 use Rattle.subset_task.specs.declared.refusals.failure.Failure.{Failure}
 use Rattle.subset_task.specs.declared.refusals.failure.Failure.TheVariants.{Error as Refused, List as WrongList, ReadList}
+use Rattle.subset_task.specs.Files.{file_at}
 use Rattle.subset_task.specs.declared.task.Plan.{Plan}
 use Rattle.subset_task.specs.declared.task.Task.{Task}
 use Rattle.subset_task.specs.declared.task.Form.{Form}
@@ -59,9 +60,21 @@ IsListFor (ListedCharacters given) list = Unit {0}
 IsListFor (InFile kind name) (Some list) = Unit {0}
 IsListFor (InFile kind name) None = ⊥
 
--- why none was read: the file can't be read or has no such list, or memory ran out
-abbrev pub IsUnlisted : Failure → Type 0
-IsUnlisted failure = (failure ≡ ReadList) ⊎ ((failure ≡ WrongList) ⊎ (failure ≡ Refused OutOfMemory))
+-- for each of them
+abbrev pub AreListsFor : List Glyphs → List (Option GlyphList) → Type 0
+AreListsFor [] [] = Unit {0}
+AreListsFor [] (list ∷ lists) = ⊥
+AreListsFor (one ∷ glyphs) [] = ⊥
+AreListsFor (one ∷ glyphs) (list ∷ lists) = IsListFor one list × AreListsFor glyphs lists
+
+-- why none was read: the file of a place can't be read or has no such list, or memory ran out
+abbrev pub IsUnlistedAt : ℕ → Failure → Type 0
+IsUnlistedAt place failure = (failure ≡ ReadList place) ⊎ ((failure ≡ WrongList place) ⊎ (failure ≡ Refused OutOfMemory))
+
+-- the same of one of the files
+pub data IsUnlisted (glyphs : List Glyphs) (failure : Failure) : Type 0 where
+  in_file : (place : ℕ) → IsUnlistedAt place failure → IsSome (file_at glyphs place) → IsUnlisted glyphs failure
+  no_memory : failure ≡ Refused OutOfMemory → IsUnlisted glyphs failure
 
 -- those that a file requests
 abbrev pub kept_by : GlyphList → KeptGlyphs
@@ -79,6 +92,12 @@ kept_for (ListedCharacters given) list = by_characters given.items
 kept_for (InFile kind name) (Some list) = kept_by list
 kept_for (InFile kind name) None = these []
 
+-- those of one after another
+abbrev pub kept_by_each : List Glyphs → List (Option GlyphList) → List KeptGlyphs
+kept_by_each [] lists = []
+kept_by_each (one ∷ glyphs) [] = []
+kept_by_each (one ∷ glyphs) (list ∷ lists) = kept_for one list ∷ kept_by_each glyphs lists
+
 -- the coordinates that are given, or the name of an instance
 abbrev pub at_chosen : Position → Option (List (Tag × ℤ))
 at_chosen (Coordinates at) = Some at.items
@@ -88,9 +107,10 @@ abbrev pub instance_chosen : Position → Option (List ℕ)
 instance_chosen (Coordinates at) = None
 instance_chosen (Named name) = Some (string_bytes name)
 
--- the task that a job requests
-pub record IsTaskOf (job : Job) (list : Option GlyphList) (task : Task) : Type 0 where
-  pub glyphs : kept_of task.requested ≡ kept_for job.glyphs list
+-- the task that a job requests, where these glyphs are kept
+pub record IsTaskOf (job : Job) (kept : List KeptGlyphs) (task : Task) : Type 0 where
+  pub glyphs : map kept_of task.requested.pieces.now ≡ kept
+  pub strict : task.requested.is_strict ≡ job.switches.strict
   pub index : task.index ≡ job.index
   pub limits : LimitsAreChosen job.limits task.options.limits
   pub extras : task.options.extras ≡ extras_chosen job.switches
@@ -98,9 +118,9 @@ pub record IsTaskOf (job : Job) (list : Option GlyphList) (task : Task) : Type 0
   pub form : task.form ≡ form_chosen job.switches
   pub at : option_copied task.at ≡ option_and_then at_chosen job.position
 
--- the plan that a job requests
-pub record IsPlanOf (job : Job) (list : Option GlyphList) (plan : Plan) : Type 0 where
-  pub task : IsTaskOf job list plan.task
+-- the plan that a job requests, where these glyphs are kept
+pub record IsPlanOf (job : Job) (kept : List KeptGlyphs) (plan : Plan) : Type 0 where
+  pub task : IsTaskOf job kept plan.task
   pub instance : option_copied plan.instance ≡ option_and_then instance_chosen job.position
   pub verbose : plan.verbose ≡ job.switches.verbose
   pub pdf : plan.pdf ≡ option_map (λ p. p.choice) job.pdf

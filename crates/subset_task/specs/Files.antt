@@ -1,6 +1,6 @@
 -- The files and the standard streams of a run: which one failed, and why the system refused it.
-use Rattle.std.specs.Prelude.{◌≡◌, ℕ, Result, Ok, Err, Option, Some, None, List, string_bytes}
-use Rattle.std.specs.Option.{option_map}
+use Rattle.std.specs.Prelude.{◌≡◌, ℕ, Result, Ok, Err, Option, Some, None, List, slice_get, string_bytes}
+use Rattle.std.specs.Option.{option_map, option_and_then}
 use Rattle.std.specs.IoError.{error_kind}
 use Rattle.std.specs.declared.io.Error.{Error as IoError}
 use Rattle.std.specs.declared.io.ErrorKind.TheVariants.{OutOfMemory}
@@ -8,7 +8,7 @@ use Rattle.subset_args.specs.declared.jobs.command.Glyphs.{Glyphs}
 use Rattle.subset_args.specs.declared.jobs.command.Glyphs.TheVariants.{Listed, Characters, InFile, ByText, Every}
 use Rattle.subset_args.specs.declared.jobs.command.Job.{Job}
 use Rattle.subset_task.specs.declared.refusals.failure.Failure.{Failure}
-use Rattle.subset_task.specs.declared.refusals.failure.Failure.TheVariants.{Error, NoMapping, NoInstance, NotPermitted, Usage, List as WrongList, Read, ReadList, Write, WritePdf, Output, LongAnswer}
+use Rattle.subset_task.specs.declared.refusals.failure.Failure.TheVariants.{Error, NoMapping, MissingCharacters, NoInstance, NotPermitted, Usage, List as WrongList, Read, ReadList, Write, WritePdf, Output, LongAnswer}
 
 -- the name of the PDF's file
 abbrev pub pdf_name : Job → Option (List ℕ)
@@ -26,16 +26,21 @@ list_name (InFile kind name) = Some (string_bytes name)
 list_name (ByText text) = None
 list_name Every = None
 
+-- that of the request of a place
+abbrev pub file_at : List Glyphs → ℕ → Option (List ℕ)
+file_at glyphs place = option_and_then list_name (slice_get glyphs place)
+
 -- the name of the file that failed
 abbrev pub name_by : Failure → Job → Option (List ℕ)
 name_by (Error e) job = None
 name_by NoMapping job = None
 name_by NoInstance job = None
+name_by MissingCharacters job = None
 name_by (NotPermitted permission) job = None
 name_by Usage job = None
-name_by WrongList job = None
+name_by (WrongList place) job = None
 name_by Read job = Some (string_bytes job.input)
-name_by ReadList job = list_name job.glyphs
+name_by (ReadList place) job = file_at job.glyphs.items place
 name_by Write job = output_name job
 name_by WritePdf job = pdf_name job
 name_by Output job = None
@@ -62,11 +67,12 @@ abbrev pub IsReasonBy : Failure → Kept → Option IoError → Type 0
 IsReasonBy (Error e) kept reason = reason ≡ None
 IsReasonBy NoMapping kept reason = reason ≡ None
 IsReasonBy NoInstance kept reason = reason ≡ None
+IsReasonBy MissingCharacters kept reason = reason ≡ None
 IsReasonBy (NotPermitted permission) kept reason = reason ≡ None
 IsReasonBy Usage kept reason = reason ≡ None
-IsReasonBy WrongList kept reason = reason ≡ None
+IsReasonBy (WrongList place) kept reason = reason ≡ None
 IsReasonBy Read kept reason = IsUnread kept.font reason
-IsReasonBy ReadList kept reason = reason ≡ None
+IsReasonBy (ReadList place) kept reason = reason ≡ None
 IsReasonBy Write kept reason = reason ≡ kept.output
 IsReasonBy WritePdf kept reason = reason ≡ kept.page
 IsReasonBy Output kept reason = reason ≡ kept.lines

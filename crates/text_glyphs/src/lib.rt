@@ -27,5 +27,5 @@ pub use choice::{CharacterTable, find_table};
 pub use encodings::Encoding;
 pub use halves::{Records, last_up_to, number_in};
 pub use laws::last_is_found;
-pub use reading::{Entry, ReadText, read_text};
+pub use reading::{Entry, ReadText, is_entry, read_text};
 pub use source::{TextSource, find_source};

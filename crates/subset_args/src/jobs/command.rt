@@ -64,8 +64,8 @@ pub struct Job {
     pub index: u32,
     /// The most bytes of the source font's file, if that is given.
     pub most_input: Option<u32>,
-    /// The glyphs to keep.
-    pub glyphs: Glyphs,
+    /// The glyphs to keep, one after another.
+    pub glyphs: Vec<Glyphs>,
     /// How far the charstring of a glyph may run, if that is given.
     pub limits: Option<RunLimits>,
     /// The options without a value that were given.

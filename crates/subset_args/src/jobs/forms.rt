@@ -5,12 +5,12 @@ ghost use Rattle.std.specs.Option.{option_copied, option_map};
 ghost use Rattle.std.specs.Result.{is_ok};
 ghost use Rattle.subset_args.specs.Forms.{is_same, without_pdf, wrong_file, wrong_pdf, names_position, begins_with_digit, numbers, listed_behind, plain_with, plain_at, plain, unless_behind, joined_at, parsed, has_output, free, first_late, say_position, beside_input, wrong_at, second, before, alone, parsed_behind, from_input, asked};
 ghost use Rattle.subset_args.specs.Mistakes.{fault_view, read_view};
-ghost use Rattle.subset_args.specs.View.{source_view, chosen_view, given_view, parsed_view, asked_view, words_view};
+ghost use Rattle.subset_args.specs.View.{chosen_view, given_view, parsed_view, asked_view, words_view};
 
 use crate::mistakes::{Mistake, Wrong, mistake_in};
 use crate::options::chosen::Chosen;
 use crate::options::joined::{Given, joined, says_position, wrong_behind, wrong_place};
-use crate::options::names::{Kind, Source, kind_of};
+use crate::options::names::{Kind, kind_of};
 use crate::words::u32_of;
 
 /// What is requested, in either form.
@@ -97,20 +97,19 @@ fn numbers(list: &str) -> Result<Option<&str>, Mistake<'_>>
     Ok(Some(list))
 }
 
-/// The list of glyphs behind INDEX, which an option may have in its place.
+/// The list of glyphs behind INDEX, which options may have in its place.
 fn listed_behind<'a>(
-    source: Option<Source<'_>>,
+    are_given: bool,
     words: &'a [String],
 ) -> Result<Option<&'a str>, Mistake<'a>>
-    ensures { read_view (λ listed. option_copied listed) result ≡ listed_behind (option_map source_view source.entry) (words_view words.now) }
+    ensures { read_view (λ listed. option_copied listed) result ≡ listed_behind are_given (words_view words.now) }
 {
-    match (source, words) {
-        (None, []) => Err(mistake_in(Wrong::NoGlyphs, "")),
-        (None, [list]) => numbers(list),
-        (Some(_), []) => Ok(None),
-        (Some(_), [word]) => Err(mistake_in(Wrong::BesideOption, word)),
-        (None, [_, word, ..]) => Err(mistake_in(Wrong::Further, word)),
-        (Some(_), [_, word, ..]) => Err(mistake_in(Wrong::Further, word)),
+    match (are_given, words) {
+        (false, []) => Err(mistake_in(Wrong::NoGlyphs, "")),
+        (false, [list]) => numbers(list),
+        (true, []) => Ok(None),
+        (true, [word]) => Err(mistake_in(Wrong::BesideOption, word)),
+        (_, [_, word, ..]) => Err(mistake_in(Wrong::Further, word)),
     }
 }
 
@@ -124,7 +123,7 @@ fn plain_with<'a>(
 ) -> Result<Asked<'a>, Mistake<'a>>
     ensures { read_view asked_view result ≡ plain_with (chosen_view chosen.entry) input.now output.now index (words_view words.now) }
 {
-    let listed = listed_behind(chosen.source, words)?;
+    let listed = listed_behind(chosen.sources.are_given(), words)?;
     if let Some(wrong) = wrong_pdf(&chosen, Some(output)) {
         return Err(wrong);
     }
@@ -270,7 +269,7 @@ fn free<'a>(chosen: Chosen<'a>, input: &'a str) -> Result<Asked<'a>, Mistake<'a>
     if !has_output(&chosen) {
         return Err(mistake_in(Wrong::NoOutput, ""));
     }
-    if chosen.source.is_none() {
+    if !chosen.sources.are_given() {
         return Err(mistake_in(Wrong::NoSource, ""));
     }
     Ok(Asked {

@@ -1,6 +1,6 @@
 //! What all arguments request, or what is wrong with them first.
 
-ghost use Rattle.std.specs.Prelude.{◌≡◌, IfOk};
+ghost use Rattle.std.specs.Prelude.{◌≡◌, map, IfOk};
 ghost use Rattle.std.specs.Option.{option_map};
 ghost use Rattle.subset_args.specs.Mistakes.{fault_view, Gives};
 ghost use Rattle.subset_args.specs.Request.{request_with, request_at, request_of, request_from, command_of, command_by_options, instead_of, shown_of, shown_by, batch_of, command};
@@ -9,7 +9,7 @@ ghost use Rattle.subset_args.specs.View.{chosen_view, parsed_view, asked_view, r
 
 use crate::jobs::command::{Command, Glyphs, Job, Position, Topic};
 use crate::jobs::forms::{Asked, Parsed, asked_by, parse_options, wrong_pdf};
-use crate::jobs::parts::{owned, read_at, read_glyphs, read_pdf, wrong_stream};
+use crate::jobs::parts::{is_stream, owned, read_at, read_glyphs, read_pdf, wrong_stream};
 use crate::mistakes::{Mistake, Unread, Wrong, mistake_in};
 use crate::options::chosen::Chosen;
 use crate::options::joined::{is_batch, is_option, looks_like_option, topic_of};
@@ -21,10 +21,10 @@ use std::alloc::{AllocError, Global};
 fn job_with(
     alloc: Global,
     asked: Asked<'_>,
-    glyphs: Glyphs,
+    glyphs: Vec<Glyphs>,
     position: Option<Position>,
 ) -> Result<Job, AllocError>
-    ensures { IfOk result (λ job. job_view job ≡ request_with (asked_view asked.entry) (requested_view glyphs) (option_map position_view position)) }
+    ensures { IfOk result (λ job. job_view job ≡ request_with (asked_view asked.entry) (map requested_view glyphs.items) (option_map position_view position)) }
 {
     let chosen = asked.chosen;
     Ok(Job {
@@ -42,8 +42,8 @@ fn job_with(
 }
 
 /// What is to be done with these glyphs, where no file is written twice.
-fn job_at<'a>(alloc: Global, asked: Asked<'a>, glyphs: Glyphs) -> Result<Job, Unread<'a>>
-    ensures { Gives job_view result (request_at (asked_view asked.entry) (requested_view glyphs)) }
+fn job_at<'a>(alloc: Global, asked: Asked<'a>, glyphs: Vec<Glyphs>) -> Result<Job, Unread<'a>>
+    ensures { Gives job_view result (request_at (asked_view asked.entry) (map requested_view glyphs.items)) }
 {
     let position = read_at(alloc, asked.chosen.at)?;
     if let Some(wrong) = wrong_pdf(&asked.chosen, asked.output) {
@@ -57,10 +57,11 @@ fn job_at<'a>(alloc: Global, asked: Asked<'a>, glyphs: Glyphs) -> Result<Job, Un
 fn job_of<'a>(alloc: Global, asked: Asked<'a>) -> Result<Job, Unread<'a>>
     ensures { Gives job_view result (request_of (asked_view asked.entry)) }
 {
-    if let Some(wrong) = wrong_stream(asked.input, asked.chosen.source) {
+    let sources = asked.chosen.sources.all(alloc)?;
+    if let Some(wrong) = wrong_stream(is_stream(asked.input), &sources) {
         return Err(Unread::Mistake(wrong));
     }
-    let glyphs = read_glyphs(alloc, asked.listed, asked.chosen.source)?;
+    let glyphs = read_glyphs(alloc, asked.listed, &sources)?;
     job_at(alloc, asked, glyphs)
 }
 

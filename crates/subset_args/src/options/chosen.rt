@@ -9,6 +9,7 @@ use crate::limits::RunLimits;
 use crate::listing::lists::FileKind;
 use crate::mistakes::{Mistake, Wrong, mistake_in};
 use crate::options::names::{Coding, Setting, Source, Switch};
+use crate::options::sources::Sources;
 use crate::options::values::{coding_of, holds_rights, limits_of};
 use crate::words::u32_of;
 
@@ -24,6 +25,7 @@ pub struct Switches {
     pub quiet: bool,
     pub verbose: bool,
     pub vertical: bool,
+    pub strict: bool,
 }
 
 impl Switches {
@@ -38,6 +40,7 @@ impl Switches {
         quiet: false,
         verbose: false,
         vertical: false,
+        strict: false,
     };
 
     /// Whether an option was given.
@@ -54,6 +57,7 @@ impl Switches {
             Switch::Quiet => self.quiet,
             Switch::Verbose => self.verbose,
             Switch::Vertical => self.vertical,
+            Switch::Strict => self.strict,
         }
     }
 
@@ -72,6 +76,7 @@ impl Switches {
             Switch::Quiet => all.quiet = true,
             Switch::Verbose => all.verbose = true,
             Switch::Vertical => all.vertical = true,
+            Switch::Strict => all.strict = true,
         }
         all
     }
@@ -95,8 +100,8 @@ pub struct Chosen<'a> {
     pub switches: Switches,
     /// How far the charstring of a glyph may run, if that is given.
     pub limits: Option<RunLimits>,
-    /// Where the glyphs are found, if that is given.
-    pub source: Option<Source<'a>>,
+    /// Where the glyphs are found.
+    pub sources: Sources<'a>,
     /// Where on the axes of a variable font, if that is given.
     pub at: Option<&'a str>,
     /// OUT, if an option gives it.
@@ -118,7 +123,7 @@ impl<'a> Chosen<'a> {
     pub const NOTHING: Chosen<'static> = Chosen {
         switches: Switches::NONE,
         limits: None,
-        source: None,
+        sources: Sources::Nowhere,
         at: None,
         output: None,
         index: None,
@@ -186,17 +191,14 @@ impl<'a> Chosen<'a> {
         }
     }
 
-    /// With what says where the glyphs are found.
+    /// With a further place where glyphs are found.
     fn with_source(self, word: &'a str, source: Source<'a>) -> Result<Chosen<'a>, Mistake<'a>>
         ensures { read_view chosen_view result ≡ with_source word.now (source_view source.entry) (chosen_view self.entry) }
     {
-        if self.source.is_some() {
-            return Err(mistake_in(Wrong::GlyphsTwice, word));
+        match self.sources.with(source) {
+            Some(sources) => Ok(Chosen { sources, ..self }),
+            None => Err(mistake_in(Wrong::Twice, word)),
         }
-        Ok(Chosen {
-            source: Some(source),
-            ..self
-        })
     }
 
     /// With user coordinates.

@@ -26,6 +26,8 @@ pub enum Switch {
     Verbose,
     /// `--vertical`
     Vertical,
+    /// `--strict`
+    Strict,
 }
 
 /// An option that a value follows.
@@ -101,13 +103,14 @@ pub enum Kind {
 }
 
 /// The options with a name, in the order of the help.
-pub const OPTIONS: [&str; 28] = [
+pub const OPTIONS: [&str; 29] = [
     "--gids",
     "--gids-file",
     "--text",
     "--text-file",
     "--unicodes",
     "--unicodes-file",
+    "--strict",
     "--output-file",
     "--face-index",
     "--most-input",
@@ -146,6 +149,7 @@ fn switch_of(word: &str) -> Option<Switch>
         "--quiet" => Some(Switch::Quiet),
         "--verbose" => Some(Switch::Verbose),
         "--vertical" => Some(Switch::Vertical),
+        "--strict" => Some(Switch::Strict),
         _ => None,
     }
 }

@@ -10,6 +10,7 @@ use Rattle.subsetter.specs.Bound.{IsWithin, HasFaultWithin}
 use Rattle.subsetter.specs.Fault.{HasFault}
 use Rattle.subsetter.specs.Subset.{IsSubset}
 use Rattle.cid_embed.specs.Embed.{numbering, HasEmbedFaultWithin, in_numbering, in_font}
+use Rattle.subset_task.specs.Making.Picked.{picked_view}
 use Rattle.subset_task.specs.Making.Requested.{IsRequested, IsUnasked}
 use Rattle.subsetter_base.specs.declared.tag.Tag.{Tag}
 use Rattle.subsetter_sfnt.specs.FontAt.{font_at}
@@ -109,10 +110,10 @@ module _ (task : Task) (bytes : List ℕ) where
 
   -- ---- what is made of it
 
-  module _ (picked : Picked) (asked : IsRequested (face_of task bytes) task.requested picked.characters.items picked.glyphs.items) where
+  module _ (picked : Picked) (asked : IsRequested (face_of task bytes) task.requested (picked_view picked)) where
     pub made_of_taken : (font : Font) → IsTaken task bytes picked.glyphs.items font → (r : Result Made Failure) → IfOk r (λ made. made.picked ≡ picked) → IfOk r (IsMadeOf task font picked.glyphs.items) → IfOk r (IsMade task bytes)
     made_of_taken font taken (Ok made) kept is = record {
-      requested = subst (λ (p : Picked). IsRequested (face_of task bytes) task.requested p.characters.items p.glyphs.items) (sym kept) asked;
+      requested = subst (λ (p : Picked). IsRequested (face_of task bytes) task.requested (picked_view p)) (sym kept) asked;
       font = font;
       taken = subst (λ (p : Picked). IsTaken task bytes p.glyphs.items font) (sym kept) taken;
       is_made = subst (λ (p : Picked). IsMadeOf task font p.glyphs.items made) (sym kept) is;
@@ -120,7 +121,7 @@ module _ (task : Task) (bytes : List ℕ) where
     made_of_taken font taken (Err e) kept is = tt
 
     refused_by : (why : Refusal) → HasRefusal task bytes picked.glyphs.items why → IsRefusedTask task bytes (Error why)
-    refused_by why refused = record { characters = picked.characters.items; glyphs = picked.glyphs.items; requested = asked; why = why; failure_is = refl; refused = refused }
+    refused_by why refused = record { picked = picked_view picked; requested = asked; why = why; failure_is = refl; refused = refused }
 
     pub refused_of_taken : (font : Font) → IsTaken task bytes picked.glyphs.items font → (r : Result Made Failure) → IfErr r (λ e. (e ≡ Error OutOfMemory) ⊎ IsRefusedFace task font picked.glyphs.items e) → IfErr r (λ e. (e ≡ Error OutOfMemory) ⊎ IsRefusedTask task bytes e)
     refused_of_taken font taken (Ok made) h = tt

@@ -13,26 +13,26 @@ use Rattle.subset_font.specs.declared.making.subset.Made.{Made}
 use Rattle.subset_task.specs.declared.task.Task.{Task}
 
 module _ (choice : PdfChoice) (task : Task) (bytes : List ℕ) (made : Made) (request : PdfRequest) where
-  pub shown_of : (characters glyphs : List ℕ) (sheet : Sheet) → IsRequestOf task choice request → characters ≡ made.picked.characters.items → glyphs ≡ made.picked.glyphs.items → IsSheetFor bytes request characters glyphs sheet → IsShown choice task bytes made sheet
-  shown_of characters glyphs sheet is c g h = record {
+  pub shown_of : (text lengths glyphs : List ℕ) (sheet : Sheet) → IsRequestOf task choice request → text ≡ made.picked.text.items → lengths ≡ made.picked.lengths.items → glyphs ≡ made.picked.glyphs.items → IsSheetFor bytes request text lengths glyphs sheet → IsShown choice task bytes made sheet
+  shown_of text lengths glyphs sheet is t n g h = record {
     request = request;
     is_requested = is;
-    is_sheet = subst (λ (l : List ℕ). IsSheetFor bytes request made.picked.characters.items l sheet) g (subst (λ (l : List ℕ). IsSheetFor bytes request l glyphs sheet) c h);
+    is_sheet = subst (λ (l : List ℕ). IsSheetFor bytes request made.picked.text.items made.picked.lengths.items l sheet) g (subst (λ (l : List ℕ). IsSheetFor bytes request made.picked.text.items l glyphs sheet) n (subst (λ (l : List ℕ). IsSheetFor bytes request l lengths glyphs sheet) t h));
   }
 
-  fault_of : (characters glyphs : List ℕ) (why : SheetError) → IsRequestOf task choice request → characters ≡ made.picked.characters.items → glyphs ≡ made.picked.glyphs.items → HasSheetFault bytes request characters glyphs why → IsUnshown choice task bytes made (failure_of why)
-  fault_of characters glyphs why is c g h = record {
+  fault_of : (text lengths glyphs : List ℕ) (why : SheetError) → IsRequestOf task choice request → text ≡ made.picked.text.items → lengths ≡ made.picked.lengths.items → glyphs ≡ made.picked.glyphs.items → HasSheetFault bytes request text lengths glyphs why → IsUnshown choice task bytes made (failure_of why)
+  fault_of text lengths glyphs why is t n g h = record {
     request = request;
     is_requested = is;
     why = why;
     failure_is = refl;
-    fault = subst (λ (l : List ℕ). HasSheetFault bytes request made.picked.characters.items l why) g (subst (λ (l : List ℕ). HasSheetFault bytes request l glyphs why) c h);
+    fault = subst (λ (l : List ℕ). HasSheetFault bytes request made.picked.text.items made.picked.lengths.items l why) g (subst (λ (l : List ℕ). HasSheetFault bytes request made.picked.text.items l glyphs why) n (subst (λ (l : List ℕ). HasSheetFault bytes request l lengths glyphs why) t h));
   }
 
   -- a refusal under its name
-  pub unshown_by : (characters glyphs : List ℕ) (why : SheetError) → IsRequestOf task choice request → characters ≡ made.picked.characters.items → glyphs ≡ made.picked.glyphs.items → (why ≡ Font OutOfMemory) ⊎ HasSheetFault bytes request characters glyphs why → (failure_of why ≡ Error OutOfMemory) ⊎ IsUnshown choice task bytes made (failure_of why)
-  unshown_by characters glyphs why is c g (inl memory) = inl (ap failure_of memory)
-  unshown_by characters glyphs why is c g (inr fault) = inr (fault_of characters glyphs why is c g fault)
+  pub unshown_by : (text lengths glyphs : List ℕ) (why : SheetError) → IsRequestOf task choice request → text ≡ made.picked.text.items → lengths ≡ made.picked.lengths.items → glyphs ≡ made.picked.glyphs.items → (why ≡ Font OutOfMemory) ⊎ HasSheetFault bytes request text lengths glyphs why → (failure_of why ≡ Error OutOfMemory) ⊎ IsUnshown choice task bytes made (failure_of why)
+  unshown_by text lengths glyphs why is t n g (inl memory) = inl (ap failure_of memory)
+  unshown_by text lengths glyphs why is t n g (inr fault) = inr (fault_of text lengths glyphs why is t n g fault)
 
 -- where nothing comes behind
 pub nothing_more : (text : List ℕ) → text ≡ text ++ []

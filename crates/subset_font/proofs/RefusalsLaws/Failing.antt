@@ -1,35 +1,61 @@
 -- Which failures there are where nothing is made.
-use Rattle.std.proofs.Common.{◌≡◌, ◌≢◌, ◌⊎◌, inl, inr, ℕ, List, Option, Some, None, Result, Ok, Err, sym, subst}
-use Rattle.std.specs.Prelude.{IfErr, IfSome, OnOk}
+use Rattle.std.proofs.Common.{◌≡◌, ◌≢◌, ◌⊎◌, inl, inr, ℕ, Bool, true, false, List, [], ◌∷◌, length, Option, Some, None, Result, Ok, Err, sym, subst}
+use Rattle.std.specs.Prelude.{◌&&◌, nat_lt, if◌then◌else◌, IfErr, IfSome, OnOk}
 use Rattle.subsetter_sfnt.specs.Read.{Font, kind_at}
 use Rattle.subsetter_sfnt.specs.declared.face.FontKind.{FontKind}
-use Rattle.subset_task.specs.Making.Requested.{unless_no_kind, IsUnasked}
+use Rattle.subset_task.specs.Making.Picked.{Picked}
+use Rattle.subset_task.specs.Making.Requested.{unless_no_kind, unless_no_font, or_failure, picked_of, with_rest, picked_each, unless_any_missing, IsUnasked}
 use Rattle.subsetter_base.specs.declared.error.Error.TheVariants.{UnknownKind, MalformedFont}
 use Rattle.subset_font.specs.Making.Made.{face_of, IsUnmade}
 use Rattle.subset_font.specs.Making.Outcome.{IsOutcome, IsNoOutcome}
 use Rattle.subset_font.specs.Making.Carried.{IsOfMaking, IsFailureOf, IsBeforeWriting}
 use Rattle.subset_task.specs.declared.task.Task.{Task}
+use Rattle.subset_task.specs.declared.task.Requests.{Requests}
 use Rattle.subset_task.specs.declared.task.RequestedGlyphs.{RequestedGlyphs}
 use Rattle.subset_task.specs.declared.task.RequestedGlyphs.TheVariants.{These, Every, ByText, ByCharacters}
 use Rattle.subset_args.specs.declared.options.chosen.PdfChoice.{PdfChoice}
 use Rattle.subset_pdf.specs.declared.sheet.SheetError.{SheetError}
-use Rattle.subset_pdf.specs.declared.sheet.SheetError.TheVariants.{Font as RefusedFont, NotPermitted as Forbidden}
+use Rattle.subset_pdf.specs.declared.sheet.SheetError.TheVariants.{Font as RefusedFont, NotPermitted as Forbidden, TextTooLong}
 use Rattle.subset_font.specs.Making.Sheet.{failure_of, IsUnshownIf}
 use Rattle.subset_font.specs.declared.making.subset.Made.{Made}
 use Rattle.subset_font.specs.declared.making.outcome.Outcome.{Outcome}
 use Rattle.subset_task.specs.declared.task.Plan.{Plan}
 use Rattle.subset_task.specs.declared.refusals.failure.Failure.{Failure}
-use Rattle.subset_task.specs.declared.refusals.failure.Failure.TheVariants.{Error, NoMapping, NoInstance, NotPermitted, Usage, List as WrongList, Read, ReadList, Write, WritePdf, Output, LongAnswer}
+use Rattle.subset_task.specs.declared.refusals.failure.Failure.TheVariants.{Error, NoMapping, MissingCharacters, NoInstance, NotPermitted, Usage, List as WrongList, Read, ReadList, Write, WritePdf, Output, LongAnswer}
 
 no_kind : (kind : Option FontKind) (failure : Failure) → IsOfMaking failure → IsOfMaking (unless_no_kind kind failure)
 no_kind (Some kind) failure h = h
 no_kind None failure h = tt
 
-unasked_kind : (font : Font) (asked : RequestedGlyphs) (failure : Failure) → IsUnasked font asked failure → IsOfMaking failure
-unasked_kind font (These given) failure u = elim u [ ]
-unasked_kind font Every failure u = subst IsOfMaking (sym u.0) (no_kind (kind_at font.bytes 0) (Error MalformedFont) tt)
-unasked_kind font (ByText text) failure u = subst IsOfMaking (sym u.0) (no_kind (kind_at font.bytes 0) NoMapping tt)
-unasked_kind font (ByCharacters given) failure u = subst IsOfMaking (sym u.0) (no_kind (kind_at font.bytes 0) NoMapping tt)
+none_kind : (failure why : Failure) (found : Option Picked) → IsOfMaking failure → or_failure failure found ≡ Err why → IsOfMaking why
+none_kind failure why None h u = let same : failure ≡ why = cc in subst IsOfMaking same h
+none_kind failure why (Some picked) h u = absurd cc
+
+unpicked_kind : (font : Font) (one : RequestedGlyphs) (why : Failure) → picked_of font one ≡ Err why → IsOfMaking why
+unpicked_kind font (These given) why u = absurd cc
+unpicked_kind font Every why u = none_kind (unless_no_font font.bytes (Error MalformedFont)) why _ (no_kind (kind_at font.bytes 0) (Error MalformedFont) tt) u
+unpicked_kind font (ByText text) why u = none_kind (unless_no_font font.bytes NoMapping) why _ (no_kind (kind_at font.bytes 0) NoMapping tt) u
+unpicked_kind font (ByCharacters given) why u = none_kind (unless_no_font font.bytes NoMapping) why _ (no_kind (kind_at font.bytes 0) NoMapping tt) u
+
+rest_kind : (first rest : Result Picked Failure) (why : Failure) → (first ≡ Err why → IsOfMaking why) → (rest ≡ Err why → IsOfMaking why) → with_rest first rest ≡ Err why → IsOfMaking why
+rest_kind (Ok picked) (Ok more) why a b u = absurd cc
+rest_kind (Ok picked) (Err e) why a b u = b u
+rest_kind (Err e) rest why a b u = a u
+
+each_kind : (font : Font) (asked : List RequestedGlyphs) (why : Failure) → picked_each font asked ≡ Err why → IsOfMaking why
+each_kind font [] why u = absurd cc
+each_kind font (one ∷ more) why u = rest_kind (picked_of font one) (picked_each font more) why (unpicked_kind font one why) (each_kind font more why) u
+
+missing_kind : (b : Bool) (picked : Picked) (why : Failure) → (if b then Err MissingCharacters else Ok picked) ≡ Err why → IsOfMaking why
+missing_kind true picked why u = let same : MissingCharacters ≡ why = cc in subst IsOfMaking same tt
+missing_kind false picked why u = absurd cc
+
+strict_kind : (is_strict : Bool) (r : Result Picked Failure) (why : Failure) → (r ≡ Err why → IsOfMaking why) → unless_any_missing is_strict r ≡ Err why → IsOfMaking why
+strict_kind is_strict (Ok picked) why h u = missing_kind (is_strict && nat_lt 0 (length picked.missing)) picked why u
+strict_kind is_strict (Err e) why h u = h u
+
+unasked_kind : (font : Font) (asked : Requests) (failure : Failure) → IsUnasked font asked failure → IsOfMaking failure
+unasked_kind font asked failure u = strict_kind asked.is_strict (picked_each font asked.pieces.now) failure (each_kind font asked.pieces.now failure) u
 
 unmade_kind : (task : Task) (bytes : List ℕ) (failure : Failure) → IsUnmade task bytes failure → IsOfMaking failure
 unmade_kind task bytes failure (inl memory) = subst IsOfMaking (sym memory) tt
@@ -44,6 +70,7 @@ unplaced_kind failure (inr (inr e)) = subst IsOfMaking (sym e) tt
 sheet_error_kind : (why : SheetError) → IsOfMaking (failure_of why)
 sheet_error_kind (RefusedFont e) = tt
 sheet_error_kind (Forbidden permission) = tt
+sheet_error_kind TextTooLong = tt
 
 unshown_if_kind : (choice : Option PdfChoice) (task : Task) (bytes : List ℕ) (made : Made) (failure : Failure) → IsUnshownIf choice task bytes made failure → IsOfMaking failure
 unshown_if_kind None task bytes made failure u = elim u [ ]
@@ -74,11 +101,12 @@ making_before : (failure : Failure) → IsOfMaking failure → IsBeforeWriting f
 making_before (Error e) h = tt
 making_before NoMapping h = tt
 making_before NoInstance h = tt
+making_before MissingCharacters h = tt
 making_before (NotPermitted permission) h = tt
 making_before Usage h = elim h [ ]
-making_before WrongList h = elim h [ ]
+making_before (WrongList place) h = elim h [ ]
 making_before Read h = elim h [ ]
-making_before ReadList h = elim h [ ]
+making_before (ReadList place) h = elim h [ ]
 making_before Write h = elim h [ ]
 making_before WritePdf h = elim h [ ]
 making_before Output h = elim h [ ]
@@ -112,11 +140,12 @@ abbrev IsElse : Failure → Type 0
 IsElse (Error e) = Unit {0}
 IsElse NoMapping = Unit {0}
 IsElse NoInstance = Unit {0}
+IsElse MissingCharacters = Unit {0}
 IsElse (NotPermitted permission) = Unit {0}
 IsElse Usage = ⊥
-IsElse WrongList = Unit {0}
+IsElse (WrongList place) = Unit {0}
 IsElse Read = Unit {0}
-IsElse ReadList = Unit {0}
+IsElse (ReadList place) = Unit {0}
 IsElse Write = Unit {0}
 IsElse WritePdf = Unit {0}
 IsElse Output = Unit {0}
@@ -126,11 +155,12 @@ making_else : (failure : Failure) → IsOfMaking failure → IsElse failure
 making_else (Error e) h = tt
 making_else NoMapping h = tt
 making_else NoInstance h = tt
+making_else MissingCharacters h = tt
 making_else (NotPermitted permission) h = tt
 making_else Usage h = elim h [ ]
-making_else WrongList h = tt
+making_else (WrongList place) h = tt
 making_else Read h = tt
-making_else ReadList h = tt
+making_else (ReadList place) h = tt
 making_else Write h = tt
 making_else WritePdf h = tt
 making_else Output h = tt

@@ -5,8 +5,8 @@ use Rattle.std.specs.Str.{chars, encode_utf8_all}
 use Rattle.subset_lines.specs.Characters.{plain}
 use Rattle.subset_args.specs.declared.jobs.command.Job.{Job}
 use Rattle.subset_args.specs.declared.listing.lists.GlyphList.{GlyphList}
-use Rattle.subset_task.specs.Chosen.{IsUnlisted, IsPlanOf}
-use Rattle.subset_task.specs.Files.{list_name, name_by}
+use Rattle.subset_task.specs.Chosen.{IsUnlisted, kept_by_each, IsPlanOf}
+use Rattle.subset_task.specs.Files.{file_at, name_by}
 use Rattle.subset_font.specs.Making.Outcome.{IsOutcome}
 use Rattle.subset_font.specs.Making.Carried.{IsFailureOf}
 use Rattle.subset_task.specs.Refusals.Failure.{status_of}
@@ -16,7 +16,7 @@ use Rattle.subset_task.specs.Batch.Answers.{IsFailedWith}
 use Rattle.subset_task.specs.declared.task.Plan.{Plan}
 use Rattle.subset_font.specs.declared.making.outcome.Outcome.{Outcome}
 use Rattle.subset_task.specs.declared.refusals.failure.Failure.{Failure}
-use Rattle.subset_task.specs.declared.refusals.failure.Failure.TheVariants.{Error, NoMapping, NoInstance, NotPermitted, Usage, List as WrongList, Read, ReadList, Write, WritePdf, Output, LongAnswer}
+use Rattle.subset_task.specs.declared.refusals.failure.Failure.TheVariants.{Error, NoMapping, MissingCharacters, NoInstance, NotPermitted, Usage, List as WrongList, Read, ReadList, Write, WritePdf, Output, LongAnswer}
 use Rattle.subset_task.specs.declared.batch.answers.Answer.{Answer}
 use Rattle.subset_task.specs.declared.batch.answers.Answer.TheVariants.{Done, Failed, NoMemory}
 
@@ -24,23 +24,23 @@ use Rattle.subset_task.specs.declared.batch.answers.Answer.TheVariants.{Done, Fa
 
 -- the object is what a run of its own prints, of what its plan makes of these bytes
 pub record IsDone (bytes : List ℕ) (job : Job) (object : List ℕ) : Type 0 where
-  pub list : Option GlyphList
+  pub lists : List (Option GlyphList)
   pub plan : Plan
-  pub is_plan : IsPlanOf job list plan
+  pub is_plan : IsPlanOf job (kept_by_each job.glyphs.items lists) plan
   pub outcome : Outcome
   pub is_made : IsOutcome plan bytes outcome
   pub is_printed : object ≡ report_of plan.task.form outcome
 
 -- its plan makes nothing of them
 pub record IsRefusedJob (bytes : List ℕ) (job : Job) (failure : Failure) : Type 0 where
-  pub list : Option GlyphList
+  pub lists : List (Option GlyphList)
   pub plan : Plan
-  pub is_plan : IsPlanOf job list plan
+  pub is_plan : IsPlanOf job (kept_by_each job.glyphs.items lists) plan
   pub why : IsFailureOf plan (Some bytes) failure
 
 -- or it has no list of glyphs, or more than 64 MiB would be answered, or a file can't be written
 abbrev pub IsUndone : List ℕ → Job → Failure → Type 0
-IsUndone bytes job failure = IsUnlisted failure ⊎ (IsRefusedJob bytes job failure ⊎ ((failure ≡ LongAnswer) ⊎ ((failure ≡ WritePdf) ⊎ (failure ≡ Write))))
+IsUndone bytes job failure = IsUnlisted job.glyphs.items failure ⊎ (IsRefusedJob bytes job failure ⊎ ((failure ≡ LongAnswer) ⊎ ((failure ≡ WritePdf) ⊎ (failure ≡ Write))))
 
 -- ---- the answer
 
@@ -54,11 +54,12 @@ abbrev pub message_of : Failure → Job → List ℕ
 message_of (Error e) job = failure_text (Error e)
 message_of NoMapping job = failure_text NoMapping
 message_of NoInstance job = failure_text NoInstance
+message_of MissingCharacters job = failure_text MissingCharacters
 message_of (NotPermitted permission) job = failure_text (NotPermitted permission)
 message_of Usage job = failure_text Usage
-message_of WrongList job = named_text (codes "no list of glyphs in") (list_name job.glyphs)
+message_of (WrongList place) job = named_text (codes "no list of glyphs in") (file_at job.glyphs.items place)
 message_of Read job = named_text (failure_text Read) (name_by Read job)
-message_of ReadList job = named_text (failure_text ReadList) (name_by ReadList job)
+message_of (ReadList place) job = named_text (failure_text (ReadList place)) (name_by (ReadList place) job)
 message_of Write job = named_text (failure_text Write) (name_by Write job)
 message_of WritePdf job = named_text (failure_text WritePdf) (name_by WritePdf job)
 message_of Output job = failure_text Output

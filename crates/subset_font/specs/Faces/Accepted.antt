@@ -1,5 +1,5 @@
 -- Whether a subset of all glyphs of a face is made, and why not.
-use Rattle.std.specs.Prelude.{◌≡◌, ◌⊎◌, ◌==◌, ◌≤◌, ℕ, Bool, true, false, if◌then◌else◌, List, length, Option, Some, None, codes}
+use Rattle.std.specs.Prelude.{◌≡◌, ◌⊎◌, ◌==◌, ◌≤◌, ℕ, Bool, true, false, if◌then◌else◌, List, [], ◌∷◌, length, Option, Some, None, codes}
 use Rattle.std.specs.Borrow.{Bor}
 use Rattle.std.specs.Option.{option_map, unwrap_or}
 use Rattle.subsetter_base.specs.declared.error.Error.{Error as Refusal}
@@ -18,11 +18,11 @@ use Rattle.subset_task.specs.declared.task.RequestedGlyphs.TheVariants.{These, E
 use Rattle.subset_task.specs.declared.task.Task.{Task}
 use Rattle.subset_font.specs.declared.making.subset.Made.{Made}
 use Rattle.subset_task.specs.declared.refusals.failure.Failure.{Failure}
-use Rattle.subset_task.specs.declared.refusals.failure.Failure.TheVariants.{Error, NoMapping, NoInstance, NotPermitted, Usage, List as WrongList, Read, ReadList, Write, WritePdf, Output, LongAnswer}
+use Rattle.subset_task.specs.declared.refusals.failure.Failure.TheVariants.{Error, NoMapping, MissingCharacters, NoInstance, NotPermitted, Usage, List as WrongList, Read, ReadList, Write, WritePdf, Output, LongAnswer}
 
 -- its task: the font as it is given, with all extras, within limits, and without widths
 abbrev pub IsPlain : ℕ → Limits → RequestedGlyphs → Task → Type 0
-IsPlain index limits requested task = (task.requested ≡ requested) × ((task.index ≡ index) × ((task.options.limits ≡ limits) × ((task.options.extras ≡ all_extras) × ((task.widths ≡ false) × (task.at ≡ None)))))
+IsPlain index limits requested task = (task.requested.pieces.now ≡ requested ∷ []) × (task.requested.is_strict ≡ false) × ((task.index ≡ index) × ((task.options.limits ≡ limits) × ((task.options.extras ≡ all_extras) × ((task.widths ≡ false) × (task.at ≡ None)))))
 
 -- a subset of all glyphs is made, within no more tokens than the default
 pub record IsAccepted (font : Font) : Type 0 where
@@ -71,11 +71,12 @@ abbrev pub is_of_memory : Failure → Bool
 is_of_memory (Error e) = is_memory_error e
 is_of_memory NoMapping = false
 is_of_memory NoInstance = false
+is_of_memory MissingCharacters = false
 is_of_memory (NotPermitted permission) = false
 is_of_memory Usage = false
-is_of_memory WrongList = false
+is_of_memory (WrongList place) = false
 is_of_memory Read = false
-is_of_memory ReadList = false
+is_of_memory (ReadList place) = false
 is_of_memory Write = false
 is_of_memory WritePdf = false
 is_of_memory Output = false

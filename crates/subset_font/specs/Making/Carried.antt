@@ -7,7 +7,7 @@ use Rattle.subset_font.specs.Report.{report_of}
 use Rattle.subset_task.specs.declared.task.Plan.{Plan}
 use Rattle.subset_font.specs.declared.making.outcome.Outcome.{Outcome}
 use Rattle.subset_task.specs.declared.refusals.failure.Failure.{Failure}
-use Rattle.subset_task.specs.declared.refusals.failure.Failure.TheVariants.{Error, NoMapping, NoInstance, NotPermitted, Usage, List as WrongList, Read, ReadList, Write, WritePdf, Output, LongAnswer}
+use Rattle.subset_task.specs.declared.refusals.failure.Failure.TheVariants.{Error, NoMapping, MissingCharacters, NoInstance, NotPermitted, Usage, List as WrongList, Read, ReadList, Write, WritePdf, Output, LongAnswer}
 
 -- a font was written: what the plan makes of the bytes that were read, where these are known
 pub record WritesFont (plan : Plan) (source old new : Option (List ℕ)) : Type 0 where
@@ -28,11 +28,12 @@ abbrev pub IsOfMaking : Failure → Type 0
 IsOfMaking (Error e) = Unit {0}
 IsOfMaking NoMapping = Unit {0}
 IsOfMaking NoInstance = Unit {0}
+IsOfMaking MissingCharacters = Unit {0}
 IsOfMaking (NotPermitted permission) = Unit {0}
 IsOfMaking Usage = ⊥
-IsOfMaking WrongList = ⊥
+IsOfMaking (WrongList place) = ⊥
 IsOfMaking Read = ⊥
-IsOfMaking ReadList = ⊥
+IsOfMaking (ReadList place) = ⊥
 IsOfMaking Write = ⊥
 IsOfMaking WritePdf = ⊥
 IsOfMaking Output = ⊥
@@ -47,11 +48,12 @@ abbrev pub IsBeforeWriting : Failure → Type 0
 IsBeforeWriting (Error e) = Unit {0}
 IsBeforeWriting NoMapping = Unit {0}
 IsBeforeWriting NoInstance = Unit {0}
+IsBeforeWriting MissingCharacters = Unit {0}
 IsBeforeWriting (NotPermitted permission) = Unit {0}
 IsBeforeWriting Usage = Unit {0}
-IsBeforeWriting WrongList = Unit {0}
+IsBeforeWriting (WrongList place) = Unit {0}
 IsBeforeWriting Read = Unit {0}
-IsBeforeWriting ReadList = Unit {0}
+IsBeforeWriting (ReadList place) = Unit {0}
 IsBeforeWriting Write = ⊥
 IsBeforeWriting WritePdf = ⊥
 IsBeforeWriting Output = ⊥

@@ -17,6 +17,7 @@ use Rattle.cid_embed.specs.Embed.{numbering, HasEmbedFault, HasEmbedFaultWithin}
 use Rattle.cid_embed.specs.Text.{width_array}
 use Rattle.cid_embed.specs.Width.{width}
 use Rattle.subset_lines.specs.Objects.Json.{array_of}
+use Rattle.subset_task.specs.Making.Picked.{Picked, picked_view}
 use Rattle.subset_task.specs.Making.Requested.{IsRequested, IsUnasked}
 use Rattle.subset_task.specs.declared.task.Task.{Task}
 use Rattle.subset_task.specs.declared.task.Form.{Form}
@@ -76,7 +77,7 @@ pub record IsMadeOf (task : Task) (font : Font) (glyphs : List ℕ) (made : Made
 
 -- what a task makes of the bytes of a font
 pub record IsMade (task : Task) (bytes : List ℕ) (made : Made) : Type 0 where
-  pub requested : IsRequested (face_of task bytes) task.requested made.picked.characters.items made.picked.glyphs.items
+  pub requested : IsRequested (face_of task bytes) task.requested (picked_view made.picked)
   pub font : Font
   pub taken : IsTaken task bytes made.picked.glyphs.items font
   pub is_made : IsMadeOf task font made.picked.glyphs.items made
@@ -110,12 +111,11 @@ pub record IsRefusedFace (task : Task) (font : Font) (glyphs : List ℕ) (failur
 
 -- the asked glyphs are refused
 pub record IsRefusedTask (task : Task) (bytes : List ℕ) (failure : Failure) : Type 0 where
-  pub characters : List ℕ
-  pub glyphs : List ℕ
-  pub requested : IsRequested (face_of task bytes) task.requested characters glyphs
+  pub picked : Picked
+  pub requested : IsRequested (face_of task bytes) task.requested picked
   pub why : Refusal
   pub failure_is : failure ≡ Error why
-  pub refused : HasRefusal task bytes glyphs why
+  pub refused : HasRefusal task bytes picked.glyphs why
 
 -- the font that is taken, by the file of the static font, if there is one
 abbrev pub taken_of : Task → List ℕ → Option (List ℕ) → Font

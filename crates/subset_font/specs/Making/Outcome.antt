@@ -1,10 +1,12 @@
 -- What a plan makes of a font that is read, and why it doesn't.
-use Rattle.std.specs.Prelude.{◌≡◌, ◌⊎◌, ℕ, ℤ, Bool, true, false, not, ◌&&◌, is_some, if◌then◌else◌, List, [], ◌++◌, map, length, Option, Some, None, codes}
+use Rattle.std.specs.Prelude.{◌≡◌, ◌⊎◌, ℕ, ℤ, Bool, true, false, not, ◌&&◌, nat_lt, is_some, if◌then◌else◌, List, [], ◌++◌, map, length, Option, Some, None, codes}
 use Rattle.std.specs.Borrow.{Bor}
 use Rattle.std.specs.Option.{option_copied}
 use Rattle.subsetter_base.specs.declared.error.Error.TheVariants.{OutOfMemory, UnknownKind, MalformedFont}
 use Rattle.subsetter_base.specs.declared.tag.Tag.{Tag}
-use Rattle.subsetter_sfnt.specs.Read.{Font, as_font, records, stored}
+use Rattle.subsetter_sfnt.specs.Read.{Font, as_font, kind_at, records, stored}
+use Rattle.subsetter_sfnt.specs.declared.face.FontKind.{FontKind}
+use Rattle.subsetter_sfnt.specs.declared.face.FontKind.TheVariants.{Collection, Single}
 use Rattle.glyph_names.specs.Names.{glyph_name}
 use Rattle.subset_lines.specs.Objects.Members.{members}
 use Rattle.subset_lines.specs.Faces.Sizes.{sizes_text}
@@ -13,7 +15,7 @@ use Rattle.subset_task.specs.Faces.Axes.{axes_known}
 use Rattle.subset_font.specs.Making.Made.{face_of, IsMade, IsUnmade}
 use Rattle.subset_lines.specs.declared.faces.outlines.Outlines.{Outlines}
 use Rattle.subset_lines.specs.declared.faces.outlines.Outlines.TheVariants.{TrueType, Cff, Cff2, Missing}
-use Rattle.subset_task.specs.Faces.Missing.{missing}
+use Rattle.subset_task.specs.Faces.Missing.{first_missing}
 use Rattle.subset_task.specs.Faces.Named.{face_settings}
 use Rattle.subset_task.specs.Faces.Outlines.{outlines_of}
 use Rattle.subset_task.specs.Notes.{notes_for}
@@ -39,17 +41,27 @@ sizes_of font new = table_sizes (records_in (bytes_or_none (records font))) (rec
 abbrev pub sizes_if : Bool → Font → List ℕ → Option (List TableSize)
 sizes_if verbose font new = if verbose then Some (sizes_of font new) else None
 
--- the members of a JSON object: sizes, tables with `--verbose`, and notes on the coordinates and on characters without a glyph
-abbrev pub members_of : Bool → Option (List (Tag × ℤ)) → Font → Made → List ℕ
-members_of verbose at font made = members (length font.bytes) (length made.font.items) (sizes_if verbose font made.font.items) (axes_known font) (notes_for (axes_known font) at) (missing made.picked.characters.items made.picked.glyphs.items)
+-- a file that holds one font
+abbrev pub is_single : Option FontKind → Bool
+is_single (Some Single) = true
+is_single (Some Collection) = false
+is_single None = false
 
-abbrev pub more_by : Form → Bool → Option (List (Tag × ℤ)) → Font → Made → Option Sheet → List ℕ
-more_by Lines verbose at font made sheet = if verbose then sizes_text (sizes_of font made.font.items) (length font.bytes) (length made.font.items) else []
-more_by Json verbose at font made sheet = members_of verbose at font made ++ pdf_text sheet
-more_by Silence verbose at font made sheet = []
+-- the index of another face than its only one, where an option requests the glyphs
+abbrev pub other_face : Bool → Font → Option ℕ
+other_face by_option font = if by_option && (nat_lt 0 font.index && is_single (kind_at font.bytes 0)) then Some font.index else None
+
+-- the members of a JSON object: sizes, tables with `--verbose`, and notes on the coordinates, on characters without a glyph, and on the face
+abbrev pub members_of : Bool → Bool → Option (List (Tag × ℤ)) → Font → Made → List ℕ
+members_of verbose by_option at font made = members (length font.bytes) (length made.font.items) (sizes_if verbose font made.font.items) (axes_known font) (notes_for (axes_known font) at) (first_missing made.picked.missing.items) (other_face by_option font)
+
+abbrev pub more_by : Form → Bool → Bool → Option (List (Tag × ℤ)) → Font → Made → Option Sheet → List ℕ
+more_by Lines verbose by_option at font made sheet = if verbose then sizes_text (sizes_of font made.font.items) (length font.bytes) (length made.font.items) else []
+more_by Json verbose by_option at font made sheet = members_of verbose by_option at font made ++ pdf_text sheet
+more_by Silence verbose by_option at font made sheet = []
 
 abbrev pub more_text : Plan → List ℕ → Made → Option Sheet → List ℕ
-more_text plan bytes made sheet = more_by plan.task.form plan.verbose (option_copied plan.task.at) (face_of plan.task bytes) made sheet
+more_text plan bytes made sheet = more_by plan.task.form plan.verbose plan.by_option (option_copied plan.task.at) (face_of plan.task bytes) made sheet
 
 -- ---- the names of the glyphs, which a JSON object has
 

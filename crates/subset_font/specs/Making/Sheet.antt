@@ -1,7 +1,8 @@
 -- The PDF that is made beside the font, and why there is none.
-use Rattle.std.specs.Prelude.{◌≡◌, ℕ, ℤ, List, [], length, Option, Some, None, unwrap_or, IsSome, IfSome}
+use Rattle.std.specs.Prelude.{◌≡◌, ℕ, ℤ, List, [], ◌∷◌, length, Option, Some, None, unwrap_or, IsSome, IfSome}
 use Rattle.std.specs.Option.{option_copied}
 use Rattle.subsetter_base.specs.declared.tag.Tag.{Tag}
+use Rattle.subsetter_base.specs.declared.error.Error.TheVariants.{OverflowError}
 use Rattle.subset_args.specs.declared.options.chosen.PdfChoice.{PdfChoice}
 use Rattle.subset_lines.specs.Objects.Pdf.{pdf_member}
 use Rattle.pdf_sheet.specs.declared.frame.Layout.{Layout}
@@ -10,7 +11,7 @@ use Rattle.subset_pdf.specs.Sheet.{HasSheetFault, IsSheetFor}
 use Rattle.subset_pdf.specs.declared.options.PdfRequest.{PdfRequest}
 use Rattle.subset_pdf.specs.declared.sheet.Sheet.{Sheet}
 use Rattle.subset_pdf.specs.declared.sheet.SheetError.{SheetError}
-use Rattle.subset_pdf.specs.declared.sheet.SheetError.TheVariants.{Font, NotPermitted as Forbidden}
+use Rattle.subset_pdf.specs.declared.sheet.SheetError.TheVariants.{Font, NotPermitted as Forbidden, TextTooLong}
 use Rattle.subset_task.specs.declared.refusals.failure.Failure.{Failure}
 use Rattle.subset_task.specs.declared.refusals.failure.Failure.TheVariants.{Error, NotPermitted}
 use Rattle.subset_font.specs.declared.making.subset.Made.{Made}
@@ -18,12 +19,17 @@ use Rattle.subset_task.specs.declared.task.RequestedGlyphs.{RequestedGlyphs}
 use Rattle.subset_task.specs.declared.task.RequestedGlyphs.TheVariants.{These, Every, ByText, ByCharacters}
 use Rattle.subset_task.specs.declared.task.Task.{Task}
 
--- the glyphs of a text are shown in a line, others in a grid
-abbrev pub layout_of : RequestedGlyphs → Layout
-layout_of (These given) = Grid
-layout_of Every = Grid
-layout_of (ByText text) = Line
-layout_of (ByCharacters given) = Grid
+-- the glyphs of a text alone are shown in a line, others in a grid
+abbrev pub layout_by : RequestedGlyphs → Layout
+layout_by (These given) = Grid
+layout_by Every = Grid
+layout_by (ByText text) = Line
+layout_by (ByCharacters given) = Grid
+
+abbrev pub layout_of : List RequestedGlyphs → Layout
+layout_of [] = Grid
+layout_of (one ∷ []) = layout_by one
+layout_of (one ∷ other ∷ more) = Grid
 
 abbrev pub settings_of : Option (List (Tag × ℤ)) → List (Tag × ℤ)
 settings_of at = unwrap_or at []
@@ -35,13 +41,13 @@ pub record IsRequestOf (task : Task) (choice : PdfChoice) (request : PdfRequest)
   pub limits : request.limits ≡ task.options.limits
   pub hinting : request.hinting ≡ task.options.extras.hinting
   pub choice_is : request.choice ≡ choice
-  pub layout : request.layout ≡ layout_of task.requested
+  pub layout : request.layout ≡ layout_of task.requested.pieces.now
 
 -- a sheet of the font and the glyphs of what a task made
 pub record IsShown (choice : PdfChoice) (task : Task) (bytes : List ℕ) (made : Made) (sheet : Sheet) : Type 0 where
   pub request : PdfRequest
   pub is_requested : IsRequestOf task choice request
-  pub is_sheet : IsSheetFor bytes request made.picked.characters.items made.picked.glyphs.items sheet
+  pub is_sheet : IsSheetFor bytes request made.picked.text.items made.picked.lengths.items made.picked.glyphs.items sheet
 
 abbrev pub IsSheetIf : Option PdfChoice → Task → List ℕ → Made → Option Sheet → Type 0
 IsSheetIf None task bytes made sheet = sheet ≡ None
@@ -52,13 +58,14 @@ IsSheetIf (Some choice) task bytes made sheet = IsSome sheet × IfSome sheet (Is
 abbrev pub failure_of : SheetError → Failure
 failure_of (Font e) = Error e
 failure_of (Forbidden permission) = NotPermitted permission
+failure_of TextTooLong = Error OverflowError
 
 pub record IsUnshown (choice : PdfChoice) (task : Task) (bytes : List ℕ) (made : Made) (failure : Failure) : Type 0 where
   pub request : PdfRequest
   pub is_requested : IsRequestOf task choice request
   pub why : SheetError
   pub failure_is : failure ≡ failure_of why
-  pub fault : HasSheetFault bytes request made.picked.characters.items made.picked.glyphs.items why
+  pub fault : HasSheetFault bytes request made.picked.text.items made.picked.lengths.items made.picked.glyphs.items why
 
 abbrev pub IsUnshownIf : Option PdfChoice → Task → List ℕ → Made → Failure → Type 0
 IsUnshownIf None task bytes made failure = ⊥

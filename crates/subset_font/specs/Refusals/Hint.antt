@@ -1,5 +1,5 @@
 -- What a second line says of a font that is refused.
-use Rattle.std.specs.Prelude.{ℕ, if◌then◌else◌, Bool, true, false, List, [], Option, Some, None, is_some, codes}
+use Rattle.std.specs.Prelude.{ℕ, if◌then◌else◌, Bool, true, false, List, [], ◌∷◌, Option, Some, None, is_some, codes}
 use Rattle.std.specs.Option.{option_map}
 use Rattle.subsetter_base.specs.declared.error.Error.{Error as Refusal}
 use Rattle.subsetter_base.specs.declared.error.Error.TheVariants.{UnknownKind, MalformedFont, Unimplemented, SubsetError, OverflowError, CFFError, OutOfMemory}
@@ -21,7 +21,7 @@ use Rattle.subset_task.specs.declared.task.Task.{Task}
 use Rattle.pdf_values.specs.Permission.{is_usable}
 use Rattle.pdf_values.specs.declared.permission.Permission.{Permission}
 use Rattle.subset_task.specs.declared.refusals.failure.Failure.{Failure}
-use Rattle.subset_task.specs.declared.refusals.failure.Failure.TheVariants.{Error, NoMapping, NoInstance, NotPermitted, Usage, List as WrongList, Read, ReadList, Write, WritePdf, Output, LongAnswer}
+use Rattle.subset_task.specs.declared.refusals.failure.Failure.TheVariants.{Error, NoMapping, MissingCharacters, NoInstance, NotPermitted, Usage, List as WrongList, Read, ReadList, Write, WritePdf, Output, LongAnswer}
 use Rattle.subset_task.specs.declared.refusals.hint.text.Hint.{Hint}
 use Rattle.subset_task.specs.declared.refusals.hint.text.Hint.TheVariants.{Font, Cff2, NoUnicode, WrongAxes, NoAxes, Forbidden}
 
@@ -43,9 +43,17 @@ needed_table (These given) widths = for_widths widths
 needed_table (ByText text) widths = for_widths widths
 needed_table (ByCharacters given) widths = for_widths widths
 
--- what the tables of the font show
+-- what the tables of the font show for the glyphs of one request
+abbrev pub reason_for : Refusal → Face → Bool → RequestedGlyphs → Option Hint
+reason_for e font widths asked = option_map Font (reason_of e font (listed asked) (needed_table asked widths))
+
+-- for the first for which they show anything
+abbrev pub first_reason : Refusal → Face → Bool → List RequestedGlyphs → Option Hint
+first_reason e font widths [] = None
+first_reason e font widths (one ∷ more) = or_else (reason_for e font widths one) (first_reason e font widths more)
+
 abbrev pub reason_in : Refusal → Task → List ℕ → Option Hint
-reason_in e task bytes = option_map Font (reason_of e (face_of task bytes) (listed task.requested) (needed_table task.requested task.widths))
+reason_in e task bytes = first_reason e (face_of task bytes) task.widths task.requested.pieces.now
 
 -- outlines of CFF2
 abbrev pub cff2_by : Outlines → Option Hint
@@ -104,11 +112,12 @@ abbrev pub axes_hint : Failure → List ℕ → ℕ → Option Hint
 axes_hint (Error e) bytes index = axes_hint_of_error e bytes index
 axes_hint NoMapping bytes index = None
 axes_hint NoInstance bytes index = None
+axes_hint MissingCharacters bytes index = None
 axes_hint (NotPermitted permission) bytes index = None
 axes_hint Usage bytes index = None
-axes_hint WrongList bytes index = None
+axes_hint (WrongList place) bytes index = None
 axes_hint Read bytes index = None
-axes_hint ReadList bytes index = None
+axes_hint (ReadList place) bytes index = None
 axes_hint Write bytes index = None
 axes_hint WritePdf bytes index = None
 axes_hint Output bytes index = None
@@ -123,11 +132,12 @@ abbrev pub hint_of : Failure → Task → List ℕ → Option Hint
 hint_of (Error e) task bytes = hint_of_error e task bytes
 hint_of NoMapping task bytes = hint_of_mapping (face_of task bytes)
 hint_of NoInstance task bytes = None
+hint_of MissingCharacters task bytes = None
 hint_of (NotPermitted permission) task bytes = Some (Forbidden (forbidden_bit permission))
 hint_of Usage task bytes = None
-hint_of WrongList task bytes = None
+hint_of (WrongList place) task bytes = None
 hint_of Read task bytes = None
-hint_of ReadList task bytes = None
+hint_of (ReadList place) task bytes = None
 hint_of Write task bytes = None
 hint_of WritePdf task bytes = None
 hint_of Output task bytes = None

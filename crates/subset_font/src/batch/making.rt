@@ -22,8 +22,8 @@ use subset_args::{Job, Plain};
 use subset_lines::characters::plain_text;
 use subset_task::batch::answers::{Answer, Object, failed};
 use subset_task::reading::read_whole;
-use subset_task::refusals::failure::{Failure, file_by, given, list_file, pdf_file};
-use subset_task::run::request::{list_of, plan_of};
+use subset_task::refusals::failure::{Failure, file_at, file_by, given, pdf_file};
+use subset_task::run::request::{each_requested, lists_of, plan_of};
 use subset_task::streams::{MOST_INPUT, Target, is_to_standard_output};
 use subset_task::task::{Form, Plan};
 use subsetter::Error;
@@ -135,8 +135,9 @@ fn perform<R: Files + Print + Input + AllocGlobal>(
 {
     let mut text = Vec::new(rt.alloc());
     let mut reason = None;
-    let list = list_of(rt, &job.glyphs, &mut text, &mut reason)?;
-    let plan = plan_of(job, &list);
+    let lists = lists_of(rt, &job.glyphs, &mut text, &mut reason)?;
+    let pieces = each_requested(rt.alloc(), &job.glyphs, &lists)?;
+    let plan = plan_of(job, &pieces);
     let mut page = Target::new(rt, pdf_file(job));
     let mut output = Target::new(rt, given(&job.output));
     carry_answer(rt.alloc(), font, &plan, &mut page, &mut output)
@@ -160,8 +161,8 @@ fn named_text(alloc: Global, text: &str, name: Option<&str>) -> Result<String, A
 fn text_of(alloc: Global, failure: &Failure, job: &Job) -> Result<String, AllocError>
     ensures { IfOk result (λ text. string_bytes text ≡ message_of failure.now job.now) }
 {
-    if let Failure::List = failure {
-        return named_text(alloc, "no list of glyphs in", list_file(&job.glyphs));
+    if let Failure::List(place) = failure {
+        return named_text(alloc, "no list of glyphs in", file_at(&job.glyphs, *place));
     }
     let text = format!(in alloc; "{failure}")?;
     named_text(alloc, &text, file_by(failure, job))

@@ -1,10 +1,11 @@
 //! Whether a subset of all glyphs of a face is made, and why not.
 
-ghost use Rattle.std.specs.Prelude.{◌≡◌, ◌≤◌, IfOk, IfErr, OnOk, Some, None, codes, string_bytes};
+ghost use Rattle.std.specs.Prelude.{◌≡◌, ◌≤◌, [], ◌∷◌, IfOk, IfErr, OnOk, Some, None, codes, string_bytes};
 ghost use Rattle.std.specs.Option.{option_map};
 ghost use Rattle.subsetter_sfnt.specs.Extras.{all_extras};
 ghost use Rattle.subset_font.specs.Faces.Accepted.{IsPlain, listed_or_every, is_of_memory, IsCause, IsAccepted, IsRefusedWhole, IsAnswer};
 ghost use Rattle.subset_task.specs.Refusals.Texts.{hint_text};
+ghost use Rattle.subset_task.specs.declared.task.RequestedGlyphs.{RequestedGlyphs};
 
 use crate::making::subset::make_of;
 use crate::refusals::hint::found::find_hint;
@@ -13,7 +14,7 @@ use std::alloc::{AllocError, Global};
 use subset_task::making::requested::first_glyphs;
 use subset_task::refusals::failure::Failure;
 use subset_task::refusals::hint::text::Hint;
-use subset_task::task::{Form, RequestedGlyphs, Task};
+use subset_task::task::{Form, RequestedGlyphs, Requests, Task};
 use subsetter::{Error, Extras, Limits, Options, Tag};
 use subsetter_sfnt::directory::table;
 
@@ -67,11 +68,14 @@ fn is_of_limits(font: &[u8], index: u32, failure: &Failure) -> bool {
 }
 
 /// The task of a subset of all glyphs, or of these, within limits.
-fn task_for<'a>(index: u32, limits: Limits, requested: RequestedGlyphs<'a>) -> Task<'a>
-    ensures { IsPlain index limits requested.entry result }
+fn task_for<'a>(index: u32, limits: Limits, pieces: &'a [RequestedGlyphs<'a>]) -> Task<'a>
+    ensures { (one : RequestedGlyphs) → pieces.now ≡ one ∷ [] → IsPlain index limits one result }
 {
     Task {
-        requested,
+        requested: Requests {
+            pieces,
+            is_strict: false,
+        },
         index,
         options: Options {
             limits,
@@ -123,7 +127,8 @@ fn reason_of(
 {
     let count = count_glyphs(font, index).unwrap_or(0);
     let glyphs = first_glyphs(alloc, count)?;
-    let task = task_for(index, Limits::default(), listed_or_every(&glyphs));
+    let pieces = [listed_or_every(&glyphs)];
+    let task = task_for(index, Limits::default(), &pieces);
     text_of(alloc, find_hint(failure, font, &task))
 }
 
@@ -177,7 +182,8 @@ fn make_all(alloc: Global, font: &[u8], index: u32) -> Result<(), Failure>
     ensures err { IfErr result (IsRefusedWhole (record { bytes = font.now; index = index; extras = all_extras })) }
 {
     let limits = limits_for(font, index);
-    let task = task_for(index, limits, RequestedGlyphs::Every);
+    let pieces = [RequestedGlyphs::Every];
+    let task = task_for(index, limits, &pieces);
     match make_of(alloc, font, &task) {
         Ok(_made) => Ok(()),
         Err(failure) => Err(failure),

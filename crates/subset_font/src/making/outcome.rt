@@ -6,8 +6,8 @@ ghost use Rattle.subset_lines.specs.Faces.Sizes.{sizes_text};
 ghost use Rattle.subsetter_sfnt.specs.Extras.{all_extras};
 ghost use Rattle.subset_font.specs.Making.Made.{face_of, IsMade, IsUnmade};
 ghost use Rattle.subset_task.specs.Faces.Named.{face_settings};
-ghost use Rattle.subsetter_sfnt.specs.Read.{stored};
-ghost use Rattle.subset_font.specs.Making.Outcome.{is_cff2, takes_default, sizes_of, sizes_if, members_of, more_text, names_of, names_for, IsOutcome, IsNoOutcome};
+ghost use Rattle.subsetter_sfnt.specs.Read.{kind_at, stored};
+ghost use Rattle.subset_font.specs.Making.Outcome.{is_cff2, takes_default, sizes_of, sizes_if, is_single, other_face, members_of, more_text, names_of, names_for, IsOutcome, IsNoOutcome};
 ghost use Rattle.subset_font.specs.Making.Sheet.{IsSheetIf, IsUnshownIf};
 ghost use Rattle.font_reasons.specs.Directory.{bytes_or_none};
 ghost use Rattle.subset_task.specs.declared.refusals.failure.Failure.TheVariants.{Error as Refused};
@@ -20,7 +20,7 @@ use glyph_names::glyph_names;
 use std::alloc::{AllocError, Global};
 use subset_lines::{Outlines, TableSize, json_members, size_lines};
 use subset_pdf::Sheet;
-use subset_task::faces::missing::missing;
+use subset_task::faces::missing::first_missing;
 use subset_task::faces::named::face_settings;
 use subset_task::faces::outlines::outlines_of;
 use subset_task::faces::tables::table_sizes;
@@ -28,7 +28,8 @@ use subset_task::notes::{known_axes, notes_for};
 use subset_task::refusals::failure::Failure;
 use subset_task::task::{Form, Plan, Task};
 use subsetter::{Error, Tag};
-use subsetter_sfnt::directory::table;
+use subsetter_sfnt::directory::{kind_at, table};
+use subsetter_sfnt::face::FontKind;
 
 /// What a plan makes of a font.
 #[derive(Drop)]
@@ -90,21 +91,43 @@ fn as_given(tables: &Option<Vec<TableSize>>) -> Option<&[TableSize]>
     }
 }
 
+/// Whether a file holds one font.
+fn is_single(font: &[u8]) -> bool
+    ensures { result ≡ is_single (kind_at font.now 0) }
+{
+    match kind_at(font, 0) {
+        Some(FontKind::Single) => true,
+        Some(FontKind::Collection) => false,
+        None => false,
+    }
+}
+
+/// The index of another face than the only one of a file, where an option requests the glyphs.
+pub fn other_face(by_option: bool, font: &[u8], index: u32) -> Option<u32>
+    ensures { result ≡ other_face by_option (record { bytes = font.now; index = index; extras = all_extras }) }
+{
+    if by_option && (index > 0 && is_single(font)) {
+        return Some(index);
+    }
+    None
+}
+
 /// The further members of the JSON object.
 fn members_of(
     alloc: Global,
     font: &[u8],
     index: u32,
     verbose: bool,
+    by_option: bool,
     at: Option<&[(Tag, i32)]>,
     made: &Made,
 ) -> Result<Vec<u8>, AllocError>
-    ensures { IfOk result (λ v. v.items ≡ members_of verbose (option_copied at.entry) (record { bytes = font.now; index = index; extras = all_extras }) made.now) }
+    ensures { IfOk result (λ v. v.items ≡ members_of verbose by_option (option_copied at.entry) (record { bytes = font.now; index = index; extras = all_extras }) made.now) }
 {
     let tables = sizes_if(alloc, verbose, font, index, &made.font)?;
     let axes = known_axes(alloc, font, index)?;
     let notes = notes_for(alloc, &axes, at)?;
-    let characters = missing(alloc, &made.picked.characters, &made.picked.glyphs)?;
+    let characters = first_missing(alloc, &made.picked.missing)?;
     json_members(
         alloc,
         font.len() as u64,
@@ -113,6 +136,7 @@ fn members_of(
         &axes,
         &notes,
         &characters,
+        other_face(by_option, font, index),
     )
     .map_err(|_| AllocError)
 }
@@ -131,7 +155,8 @@ fn more_of(
     match plan.task.form {
         Form::Lines if plan.verbose => lines_of_sizes(alloc, font, index, &made.font),
         Form::Json => {
-            let members = members_of(alloc, font, index, plan.verbose, plan.task.at, made)?;
+            let at = plan.task.at;
+            let members = members_of(alloc, font, index, plan.verbose, plan.by_option, at, made)?;
             with_pdf(alloc, members, sheet)
         }
         Form::Lines => Ok(Vec::new(alloc)),

@@ -2,7 +2,7 @@
 
 ghost use Rattle.std.specs.Prelude.{◌≡◌, ◌⊎◌, ◌++◌, IfOk, IfErr};
 ghost use Rattle.std.specs.Option.{option_copied};
-ghost use Rattle.subset_font.specs.Making.Sheet.{layout_of, settings_of, pdf_text, pdf_text_of, IsRequestOf, IsShown, IsUnshown, IsSheetIf, IsUnshownIf};
+ghost use Rattle.subset_font.specs.Making.Sheet.{layout_by, layout_of, settings_of, pdf_text, pdf_text_of, IsRequestOf, IsShown, IsUnshown, IsSheetIf, IsUnshownIf};
 ghost use Rattle.subset_task.specs.declared.refusals.failure.Failure.TheVariants.{Error as Refused};
 ghost use Rattle.subsetter_base.specs.declared.error.Error.TheVariants.{OutOfMemory};
 
@@ -13,17 +13,27 @@ use subset_lines::json_pdf;
 use subset_pdf::{Layout, PdfRequest, Sheet, SheetError, make_sheet};
 use subset_task::refusals::failure::Failure;
 use subset_task::task::{RequestedGlyphs, Task};
-use subsetter::Tag;
+use subsetter::{Error, Tag};
 
-/// How the glyphs are shown: those of a text in a line, others in a grid.
-fn layout_of(asked: &RequestedGlyphs<'_>) -> Layout
-    ensures { result ≡ layout_of asked.now }
+/// How the glyphs of one request are shown: those of a text in a line, others in a grid.
+fn layout_by(asked: &RequestedGlyphs<'_>) -> Layout
+    ensures { result ≡ layout_by asked.now }
 {
     match asked {
         RequestedGlyphs::ByText(_) => Layout::Line,
         RequestedGlyphs::These(_) => Layout::Grid,
         RequestedGlyphs::Every => Layout::Grid,
         RequestedGlyphs::ByCharacters(_) => Layout::Grid,
+    }
+}
+
+/// How the glyphs of requests are shown: where there are several in a grid.
+fn layout_of(asked: &[RequestedGlyphs<'_>]) -> Layout
+    ensures { result ≡ layout_of asked.now }
+{
+    match asked {
+        [one] => layout_by(one),
+        _ => Layout::Grid,
     }
 }
 
@@ -47,7 +57,7 @@ fn request_of<'a>(task: &Task<'a>, choice: PdfChoice) -> PdfRequest<'a>
         limits: task.options.limits,
         hinting: task.options.extras.hinting,
         choice,
-        layout: layout_of(&task.requested),
+        layout: layout_of(task.requested.pieces),
     }
 }
 
@@ -64,10 +74,18 @@ fn make_shown(
 {
     let request = request_of(task, choice);
     let picked = &made.picked;
-    match make_sheet(alloc, font, &request, &picked.characters, &picked.glyphs) {
+    match make_sheet(
+        alloc,
+        font,
+        &request,
+        &picked.text,
+        &picked.lengths,
+        &picked.glyphs,
+    ) {
         Ok(sheet) => Ok(sheet),
         Err(SheetError::Font(error)) => Err(Failure::Error(error)),
         Err(SheetError::NotPermitted(permission)) => Err(Failure::NotPermitted(permission)),
+        Err(SheetError::TextTooLong) => Err(Failure::Error(Error::OverflowError)),
     }
 }
 

@@ -5,6 +5,7 @@ ghost use Rattle.std.specs.Option.{option_map};
 ghost use Rattle.cid_embed.specs.Embed.{numbering};
 ghost use Rattle.subsetter_sfnt.specs.FontAt.{font_at};
 ghost use Rattle.subsetter.specs.Bound.{IsWithin};
+ghost use Rattle.subset_task.specs.Making.Picked.{picked_view};
 ghost use Rattle.subset_task.specs.Making.Requested.{IsRequested};
 ghost use Rattle.subset_font.specs.Making.Made.{face_of, taken_of, IsFaultless, IsFaultlessWithWidths, IsWidthText, IsTaken, IsMadeOf, IsMade, IsRefusal, IsRefusalOfWidths, IsUntaken, IsRefusedFace, IsRefusedTask, IsUnmade, width_text};
 ghost use Rattle.subset_task.specs.declared.refusals.failure.Failure.TheVariants.{Error as Refused};
@@ -134,7 +135,7 @@ fn static_of(
 
 /// The subset for the glyphs that were found.
 fn make_for(alloc: Global, font: &[u8], task: &Task<'_>, picked: Picked) -> Result<Made, Failure>
-    requires { IsRequested (face_of task.now font.now) task.now.requested picked.characters.items picked.glyphs.items }
+    requires { IsRequested (face_of task.now font.now) task.now.requested (picked_view picked) }
     ensures ok { IfOk result (IsMade task.now font.now) }
     ensures err { IfErr result (λ e. (e ≡ Refused OutOfMemory) ⊎ IsRefusedTask task.now font.now e) }
 {

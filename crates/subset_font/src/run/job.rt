@@ -4,7 +4,7 @@ ghost use Rattle.std.specs.Prelude.{◌≡◌, ◌≢◌, ◌≤◌, IfErr};
 ghost use Rattle.subset_task.specs.declared.refusals.failure.Failure.TheVariants.{Read as CannotRead, Usage};
 
 use crate::making::carried::carry_out;
-use crate::run::reports::{report_made, report_unlisted};
+use crate::run::reports::{report, report_made, report_unlisted};
 use std::alloc::Global;
 use std::fs::OpenFile;
 use std::io;
@@ -13,7 +13,7 @@ use std::rt::Files;
 use subset_args::Job;
 use subset_task::refusals::failure::{Failure, given, pdf_file};
 use subset_task::refusals::reason::{Noted, reason_of};
-use subset_task::run::request::{list_of, plan_of};
+use subset_task::run::request::{each_requested, lists_of, plan_of};
 use subset_task::streams::{
     MOST_INPUT, Source, Target, is_to_standard_output, lines_beside, open_source,
 };
@@ -127,11 +127,15 @@ pub fn run_job<R: Files + Print + Eprint + Input + AllocGlobal>(rt: &R, job: &Jo
 {
     let mut text = Vec::new(rt.alloc());
     let mut reason = None;
-    let list = match list_of(rt, &job.glyphs, &mut text, &mut reason) {
-        Ok(list) => list,
+    let lists = match lists_of(rt, &job.glyphs, &mut text, &mut reason) {
+        Ok(lists) => lists,
         Err(failure) => return report_unlisted(rt, &Err(failure), job, &text, reason),
     };
-    let plan = plan_of(job, &list);
+    let pieces = match each_requested(rt.alloc(), &job.glyphs, &lists) {
+        Ok(pieces) => pieces,
+        Err(failure) => return report(rt, &Err(failure), None),
+    };
+    let plan = plan_of(job, &pieces);
     let mut font = Vec::new(rt.alloc());
     let is_font_there = is_to_standard_output(rt, given(&job.output))
         || is_to_standard_output(rt, pdf_file(job));

@@ -4,21 +4,23 @@ ghost use Rattle.std.specs.Prelude.{◌≡◌};
 ghost use Rattle.subset_task.specs.Refusals.Failure.{status_of_end};
 ghost use Rattle.subset_font.specs.Report.{has_notes};
 
-use crate::making::outcome::takes_default;
+use crate::making::outcome::{other_face, takes_default};
 use crate::refusals::hint::found::{find_axes_hint, find_hint, no_axes};
 use crate::refusals::limit_hint::find_limit_hint;
+use std::alloc::{AllocError, Global};
 use std::io;
 use subset_args::{
     CODES_EXPECTED, FEW_EXPECTED, FileKind, Glyphs, Job, ORDER_EXPECTED, PARTS_EXPECTED, Shown,
     Topic, codes_descend, descends, find_wrong,
 };
 use subset_lines::note_lines;
-use subset_task::faces::missing::missing_in;
+use subset_task::faces::missing::first_missing;
 use subset_task::faces::named::instance_names;
+use subset_task::making::requested::pick;
 use subset_task::notes::{known_axes, notes_for};
 use subset_task::refusals::failure::{Failure, Report, file_of, status_of_run};
 use subset_task::refusals::hint::text::Hint;
-use subset_task::task::{Form, Plan, Task};
+use subset_task::task::{Form, Plan, Requests, Task};
 use subsetter::{Error, Tag};
 
 /// Prints why a run failed, if it did, and answers the status.
@@ -96,8 +98,11 @@ fn report_many<R: Eprint>(rt: &R, kind: FileKind) {
 }
 
 /// Reports what is wrong in a file that lists glyphs, if that is why a run failed.
-fn report_list<R: Eprint>(rt: &R, ended: &Result<(), Failure>, glyphs: &Glyphs, text: &[u8]) {
-    if let (Err(Failure::List), Glyphs::InFile(kind, _)) = (ended, glyphs) {
+fn report_list<R: Eprint>(rt: &R, ended: &Result<(), Failure>, glyphs: &[Glyphs], text: &[u8]) {
+    let Err(Failure::List(place)) = ended else {
+        return;
+    };
+    if let Some(Glyphs::InFile(kind, _)) = glyphs.get(*place) {
         match find_wrong(*kind, text) {
             Some(part) => report_part(rt, *kind, part),
             None => report_many(rt, *kind),
@@ -116,8 +121,20 @@ fn has_notes(form: Form, is_font_there: bool) -> bool
     }
 }
 
-/// Reports coordinates that the font doesn't have, with the axes that it has, and characters without a glyph. They are passed
-/// over where memory runs out.
+/// The characters that a face lacks of those that are requested; none where no glyphs are found.
+fn missing_in(alloc: Global, font: &[u8], task: &Task<'_>) -> Vec<char> {
+    let asked = Requests {
+        pieces: task.requested.pieces,
+        is_strict: false,
+    };
+    match pick(alloc, font, task.index, &asked) {
+        Ok(picked) => picked.missing,
+        Err(_) => Vec::new(alloc),
+    }
+}
+
+/// Reports coordinates that the font doesn't have, with the axes that it has, characters without a glyph, and another face than
+/// the only one. They are passed over where memory runs out.
 fn report_notes<R: Eprint + AllocGlobal>(rt: &R, font: &[u8], plan: &Plan<'_>) {
     let Ok(axes) = known_axes(rt.alloc(), font, plan.task.index) else {
         return;
@@ -125,11 +142,12 @@ fn report_notes<R: Eprint + AllocGlobal>(rt: &R, font: &[u8], plan: &Plan<'_>) {
     let Ok(notes) = notes_for(rt.alloc(), &axes, plan.task.at) else {
         return;
     };
-    let Some(characters) = missing_in(rt.alloc(), font, plan.task.index, &plan.task.requested)
-    else {
+    let missing = missing_in(rt.alloc(), font, &plan.task);
+    let Ok(characters) = first_missing(rt.alloc(), &missing) else {
         return;
     };
-    if let Ok(text) = note_lines(rt.alloc(), &axes, &notes, &characters) {
+    let index = other_face(plan.by_option, font, plan.task.index);
+    if let Ok(text) = note_lines(rt.alloc(), &axes, &notes, &characters, index) {
         print_lines(rt, &text);
     }
 }
@@ -146,6 +164,53 @@ fn print_lines<R: Eprint>(rt: &R, text: &[u8]) {
 fn report_names<R: Eprint + AllocGlobal>(rt: &R, font: &[u8], index: u32) {
     if let Ok(text) = instance_names(rt.alloc(), font, index) {
         print_lines(rt, &text);
+    }
+}
+
+/// How many characters the line of those without a glyph names.
+const MOST_NAMED: usize = 20;
+
+/// Adds a character behind a text.
+fn push_named(
+    alloc: Global,
+    text: &mut String,
+    before: &str,
+    character: char,
+) -> Result<(), AllocError> {
+    let code = u32::from(character);
+    let name = format!(in alloc; "{before}U+{code:04X}")?;
+    text.push_str(&name)
+}
+
+/// The line of characters without a glyph, which ascend: the first twenty, each once, and how many more there are.
+fn missing_text(alloc: Global, characters: &[char]) -> Result<String, AllocError> {
+    let mut text = String::from_str(alloc, "no glyph for ")?;
+    let mut last = None;
+    let mut count = 0usize;
+    for character in characters {
+        if last == Some(*character) {
+            continue;
+        }
+        if count < MOST_NAMED {
+            let before = if count == 0 { "" } else { ", " };
+            push_named(alloc, &mut text, before, *character)?;
+        }
+        last = Some(*character);
+        count = count.saturating_add(1);
+    }
+    if count > MOST_NAMED {
+        let more = count - MOST_NAMED;
+        text.push_str(&format!(in alloc; " and {more} more")?)?;
+    }
+    Ok(text)
+}
+
+/// Reports the characters without a glyph, where there may be none. They are passed over where memory runs out.
+fn report_missing<R: Eprint + AllocGlobal>(rt: &R, font: &[u8], task: &Task<'_>) {
+    let mut characters = missing_in(rt.alloc(), font, task);
+    characters.sort_unstable();
+    if let Ok(text) = missing_text(rt.alloc(), &characters) {
+        let _ = eprintln!(rt; "{text}");
     }
 }
 
@@ -177,8 +242,10 @@ fn report_more<R: Eprint + AllocGlobal>(rt: &R, failure: &Failure, font: &[u8], 
         Some(hint) => report_hint(rt, Some(hint)),
         None => report_hint(rt, find_limit_hint(rt.alloc(), failure, font, plan)),
     }
-    if let Failure::NoInstance = failure {
-        report_names(rt, font, plan.task.index);
+    match failure {
+        Failure::NoInstance => report_names(rt, font, plan.task.index),
+        Failure::MissingCharacters => report_missing(rt, font, &plan.task),
+        _ => {}
     }
 }
 

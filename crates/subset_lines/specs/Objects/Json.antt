@@ -3,8 +3,7 @@ use Rattle.std.specs.Prelude.{ℕ, List, [], ◌∷◌, ◌++◌, drop, map, Opt
 use Rattle.subsetter_base.specs.Indexes.{index_of}
 use Rattle.subset_lines.specs.Faces.Axes.{shown}
 use Rattle.subset_lines.specs.Objects.Quoted.{quoted}
-use Rattle.subset_lines.specs.Text.{Numbers, first_name}
-use Rattle.subsetter_base.specs.Bytes.{first_number}
+use Rattle.subset_lines.specs.Text.{Numbers, first_character, first_name}
 
 -- the member that has a character's number
 abbrev pub character_member : Option ℕ → List ℕ
@@ -26,9 +25,9 @@ abbrev pub object_of : Option ℕ → List ℕ → ℕ → Option ℕ → List �
 object_of character name old new = codes "{" ++ character_member character ++ (codes "\"old\":" ++ decimal old ++ codes ",\"new\":" ++ number_or_null new) ++ name_member name ++ codes "}"
 
 -- the objects of glyphs, in order, with a text in front of the first and a comma between each two
-abbrev pub objects : List ℕ → List ℕ → List ℕ → List (List ℕ) → List ℕ → List ℕ
+abbrev pub objects : List ℕ → List ℕ → List (Option ℕ) → List (List ℕ) → List ℕ → List ℕ
 objects before order characters names [] = []
-objects before order characters names (old ∷ glyphs) = (before ++ object_of (first_number characters) (first_name names) old (index_of order old)) ++ objects (codes ",") order (drop 1 characters) (drop 1 names) glyphs
+objects before order characters names (old ∷ glyphs) = (before ++ object_of (first_character characters) (first_name names) old (index_of order old)) ++ objects (codes ",") order (drop 1 characters) (drop 1 names) glyphs
 
 -- the member that has the widths, whose text an empty one isn't
 abbrev pub widths_member : List ℕ → List ℕ

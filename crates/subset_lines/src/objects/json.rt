@@ -87,7 +87,7 @@ fn write_object<W: Write>(
 #[tactic(auto, using(crate::proofs::Written::at_first, crate::proofs::Written::after_part, crate::proofs::Written::at_last))]
 fn write_each<W: Write>(
     mapper: &GlyphRemapper,
-    characters: &[char],
+    characters: &[Option<char>],
     names: &[&[u8]],
     glyphs: &[u16],
     out: &mut W,

@@ -35,18 +35,19 @@ fn write_members<W: Write>(
     axes: &[Axis],
     notes: &[Note],
     characters: &[char],
+    index: Option<u32>,
     out: &mut W,
 ) -> Result<(), Unwritten>
-    ensures { OnOk result (Appends (W.contents out.old) (W.contents out.new) (members old new (option_copied tables.entry) axes.now notes.now characters.now)) }
+    ensures { OnOk result (Appends (W.contents out.old) (W.contents out.new) (members old new (option_copied tables.entry) axes.now notes.now characters.now index)) }
 {
     write_sizes_member(old, new, out)?;
     write_tables(tables, out)?;
     write_text(b",\"notes\":", out)?;
-    write_notes_array(alloc, axes, notes, characters, out)
+    write_notes_array(alloc, axes, notes, characters, index, out)
 }
 
 /// The text of further members of the JSON object of a subset: the sizes of both files in bytes, their tables, if they are
-/// given, and notes on coordinates and on characters without a glyph.
+/// given, and notes on coordinates, on characters without a glyph, and on the index of a face that the file doesn't have.
 ///
 /// `Unwritten` where a request for memory was refused.
 pub fn json_members(
@@ -57,10 +58,13 @@ pub fn json_members(
     axes: &[Axis],
     notes: &[Note],
     characters: &[char],
+    index: Option<u32>,
 ) -> Result<Vec<u8>, Unwritten>
-    ensures { IfOk result (λ text. text.items ≡ members old new (option_copied tables.entry) axes.now notes.now characters.now) }
+    ensures { IfOk result (λ text. text.items ≡ members old new (option_copied tables.entry) axes.now notes.now characters.now index) }
 {
     let mut text = Vec::new(alloc);
-    write_members(alloc, old, new, tables, axes, notes, characters, &mut text)?;
+    write_members(
+        alloc, old, new, tables, axes, notes, characters, index, &mut text,
+    )?;
     Ok(text)
 }

@@ -1,5 +1,5 @@
 -- The requests of a batch, and how far each is.
-use Rattle.std.specs.Prelude.{◌≡◌, ◌⊎◌, ◌≤◌, ◌<◌, ◌+◌, ◌-◌, length, ℕ, Bool, true, false, ◌||◌, if◌then◌else◌, List, [], ◌∷◌, ◌++◌, Option, Some, None, String, is_some, slice_get, string_bytes}
+use Rattle.std.specs.Prelude.{◌≡◌, ◌⊎◌, ◌≤◌, ◌<◌, ◌+◌, ◌-◌, ◌^◌, min, length, ℕ, Bool, true, false, ◌||◌, if◌then◌else◌, List, [], ◌∷◌, ◌++◌, Option, Some, None, String, is_some, slice_get, string_bytes}
 use Rattle.std.specs.Global.{Global}
 use Rattle.std.specs.HashMap.{HashMap, get_by_text}
 use Rattle.std.specs.Str.{bytes_eq}
@@ -49,17 +49,22 @@ AreNames requests names = (name : List ℕ) → is_some (get_by_text names name)
 
 -- ---- lists of numbers
 
--- how many numbers the list of a request has
-abbrev pub numbers_by : Glyphs → ℕ
-numbers_by (Listed glyphs) = length glyphs.items
-numbers_by (Characters found) = length found.items
-numbers_by (InFile kind name) = 0
-numbers_by (ByText text) = 0
-numbers_by Every = 0
+-- how many numbers a list has
+abbrev pub list_numbers : Glyphs → ℕ
+list_numbers (Listed glyphs) = length glyphs.items
+list_numbers (Characters found) = length found.items
+list_numbers (InFile kind name) = 0
+list_numbers (ByText text) = 0
+list_numbers Every = 0
+
+-- and those of a request, as far as 64 bits count
+abbrev pub numbers_by : List Glyphs → ℕ
+numbers_by [] = 0
+numbers_by (one ∷ glyphs) = min (list_numbers one + numbers_by glyphs) (2 ^ 64 - 1)
 
 abbrev pub numbers_if : Option Job → ℕ
 numbers_if None = 0
-numbers_if (Some job) = numbers_by job.glyphs
+numbers_if (Some job) = numbers_by job.glyphs.items
 
 -- and those of all
 abbrev pub numbers_in : List Request → ℕ
@@ -82,12 +87,12 @@ IsFirst named Written = ⊥
 pub record IsTooLong (before : List Request) (line : List ℕ) (answer : Answer) : Type 0 where
   pub job : Job
   pub is_requested : order_of line ≡ Some (job_view job)
-  pub is_too_long : left_behind before < numbers_by job.glyphs
+  pub is_too_long : left_behind before < numbers_by job.glyphs.items
   pub is_refused : IsFailedBy 2 answer
 
 -- the request of a line behind others
 abbrev pub IsBegun : List Request → List ℕ → Option Job → State → Type 0
-IsBegun before line (Some job) state = (order_of line ≡ Some (job_view job)) × ((numbers_by job.glyphs ≤ left_behind before) × IsFirst (is_named_before before job) state)
+IsBegun before line (Some job) state = (order_of line ≡ Some (job_view job)) × ((numbers_by job.glyphs.items ≤ left_behind before) × IsFirst (is_named_before before job) state)
 IsBegun before line None (Answered answer) = IsNoOrder (order_of line) answer ⊎ IsTooLong before line answer
 IsBegun before line None Due = ⊥
 IsBegun before line None Written = ⊥

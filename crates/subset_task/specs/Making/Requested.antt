@@ -1,25 +1,19 @@
 -- Which glyphs a task asks for of a font.
-use Rattle.std.specs.Prelude.{◌≡◌, ℕ, List, [], map, Option, Some, None}
+use Rattle.std.specs.Prelude.{◌≡◌, ℕ, ◌&&◌, nat_lt, Bool, if◌then◌else◌, List, [], ◌∷◌, length, Option, Some, None, Result, Ok, Err}
 use Rattle.std.specs.Option.{option_map}
-use Rattle.std.specs.Str.{encode_utf8_all}
+use Rattle.std.specs.Str.{chars}
 use Rattle.subsetter_base.specs.declared.error.Error.TheVariants.{UnknownKind, MalformedFont}
 use Rattle.subsetter_sfnt.specs.Read.{Font, kind_at}
 use Rattle.subsetter_sfnt.specs.declared.face.FontKind.{FontKind}
 use Rattle.font_reasons.specs.Parts.{face_glyphs}
-use Rattle.cmap.specs.Faces.{face_mapping}
-use Rattle.cmap.specs.Subtable.{glyph_of}
+use Rattle.text_glyphs.specs.Faces.{face_source}
 use Rattle.subset_args.specs.Listing.Lists.{counting}
+use Rattle.subset_task.specs.Making.Picked.{Picked, nothing, both, bare, of_text, of_characters}
+use Rattle.subset_task.specs.declared.task.Requests.{Requests}
 use Rattle.subset_task.specs.declared.task.RequestedGlyphs.{RequestedGlyphs}
 use Rattle.subset_task.specs.declared.task.RequestedGlyphs.TheVariants.{These, Every, ByText, ByCharacters}
 use Rattle.subset_task.specs.declared.refusals.failure.Failure.{Failure}
-use Rattle.subset_task.specs.declared.refusals.failure.Failure.TheVariants.{Error, NoMapping}
-
--- these glyphs are asked for, with the characters that they stand for, where a text or characters are given
-abbrev pub IsRequested : Font → RequestedGlyphs → List ℕ → List ℕ → Type 0
-IsRequested font (These given) characters glyphs = (characters ≡ []) × (glyphs ≡ given.now)
-IsRequested font Every characters glyphs = (characters ≡ []) × (option_map (counting 0) (face_glyphs font) ≡ Some glyphs)
-IsRequested font (ByText text) characters glyphs = (encode_utf8_all characters ≡ text.now) × (option_map (λ m. map (glyph_of m) characters) (face_mapping font) ≡ Some glyphs)
-IsRequested font (ByCharacters given) characters glyphs = (characters ≡ given.now) × (option_map (λ m. map (glyph_of m) characters) (face_mapping font) ≡ Some glyphs)
+use Rattle.subset_task.specs.declared.refusals.failure.Failure.TheVariants.{Error, NoMapping, MissingCharacters}
 
 -- a file that is no font by its first bytes (OpenType, "Organization of an OpenType Font") lacks all tables
 abbrev pub unless_no_kind : Option FontKind → Failure → Failure
@@ -29,9 +23,46 @@ unless_no_kind None failure = Error UnknownKind
 abbrev pub unless_no_font : List ℕ → Failure → Failure
 unless_no_font bytes failure = unless_no_kind (kind_at bytes 0) failure
 
--- why no glyphs are found: the face doesn't say how many it has, or has no such table
-abbrev pub IsUnasked : Font → RequestedGlyphs → Failure → Type 0
-IsUnasked font (These given) failure = ⊥
-IsUnasked font Every failure = (failure ≡ unless_no_font font.bytes (Error MalformedFont)) × (face_glyphs font ≡ None)
-IsUnasked font (ByText text) failure = (failure ≡ unless_no_font font.bytes NoMapping) × (face_mapping font ≡ None)
-IsUnasked font (ByCharacters given) failure = (failure ≡ unless_no_font font.bytes NoMapping) × (face_mapping font ≡ None)
+abbrev pub or_failure : Failure → Option Picked → Result Picked Failure
+or_failure failure None = Err failure
+or_failure failure (Some picked) = Ok picked
+
+-- the glyphs of one request, or why there are none: the face doesn't say how many it has, or has no table of characters
+abbrev pub picked_of : Font → RequestedGlyphs → Result Picked Failure
+picked_of font (These given) = Ok (bare given.now)
+picked_of font Every = or_failure (unless_no_font font.bytes (Error MalformedFont)) (option_map (λ count. bare (counting 0 count)) (face_glyphs font))
+picked_of font (ByText text) = or_failure (unless_no_font font.bytes NoMapping) (option_map (λ source. of_text source (chars text.now)) (face_source font))
+picked_of font (ByCharacters given) = or_failure (unless_no_font font.bytes NoMapping) (option_map (λ source. of_characters source given.now) (face_source font))
+
+-- behind others
+abbrev pub behind : Picked → Result Picked Failure → Result Picked Failure
+behind picked (Ok more) = Ok (both picked more)
+behind picked (Err failure) = Err failure
+
+abbrev pub with_rest : Result Picked Failure → Result Picked Failure → Result Picked Failure
+with_rest (Ok picked) rest = behind picked rest
+with_rest (Err failure) rest = Err failure
+
+-- those of requests, one after another
+abbrev pub picked_each : Font → List RequestedGlyphs → Result Picked Failure
+picked_each font [] = Ok nothing
+picked_each font (one ∷ more) = with_rest (picked_of font one) (picked_each font more)
+
+-- unless the face lacks a character, where none may be lacking
+abbrev pub unless_missing : Bool → Picked → Result Picked Failure
+unless_missing is_strict picked = if is_strict && nat_lt 0 (length picked.missing) then Err MissingCharacters else Ok picked
+
+abbrev pub unless_any_missing : Bool → Result Picked Failure → Result Picked Failure
+unless_any_missing is_strict (Ok picked) = unless_missing is_strict picked
+unless_any_missing is_strict (Err failure) = Err failure
+
+abbrev pub picked_for : Font → Requests → Result Picked Failure
+picked_for font asked = unless_any_missing asked.is_strict (picked_each font asked.pieces.now)
+
+-- these glyphs are asked for
+abbrev pub IsRequested : Font → Requests → Picked → Type 0
+IsRequested font asked picked = picked_for font asked ≡ Ok picked
+
+-- or why none are
+abbrev pub IsUnasked : Font → Requests → Failure → Type 0
+IsUnasked font asked failure = picked_for font asked ≡ Err failure

@@ -3,7 +3,7 @@ use Rattle.std.specs.Prelude.{ℕ, ◌==◌, if◌then◌else◌, List, ◌++◌
 use Rattle.subsetter_base.specs.Texts.{error_text}
 use Rattle.font_reasons.specs.Texts.{reason_text}
 use Rattle.subset_task.specs.declared.refusals.failure.Failure.{Failure}
-use Rattle.subset_task.specs.declared.refusals.failure.Failure.TheVariants.{Error, NoMapping, NoInstance, NotPermitted, Usage, List as WrongList, Read, ReadList, Write, WritePdf, Output, LongAnswer}
+use Rattle.subset_task.specs.declared.refusals.failure.Failure.TheVariants.{Error, NoMapping, MissingCharacters, NoInstance, NotPermitted, Usage, List as WrongList, Read, ReadList, Write, WritePdf, Output, LongAnswer}
 use Rattle.subset_task.specs.declared.refusals.hint.text.Hint.{Hint}
 use Rattle.subset_task.specs.declared.refusals.hint.text.Hint.TheVariants.{Font, Cff2, NoUnicode, WrongAxes, NoAxes, MoreBytes, LittleLimits, GivenLimits, Forbidden}
 
@@ -11,11 +11,12 @@ abbrev pub failure_text : Failure → List ℕ
 failure_text (Error e) = error_text e
 failure_text NoMapping = codes "no Unicode cmap in font"
 failure_text NoInstance = codes "no such instance in font"
+failure_text MissingCharacters = codes "characters without a glyph"
 failure_text (NotPermitted permission) = codes "embedding not permitted"
 failure_text Usage = codes "usage: subset_font IN OUT INDEX GID[,GID..]"
-failure_text WrongList = codes "usage: subset_font IN OUT INDEX GID[,GID..]"
+failure_text (WrongList place) = codes "usage: subset_font IN OUT INDEX GID[,GID..]"
 failure_text Read = codes "cannot read"
-failure_text ReadList = codes "cannot read"
+failure_text (ReadList place) = codes "cannot read"
 failure_text Write = codes "cannot write"
 failure_text WritePdf = codes "cannot write"
 failure_text Output = codes "cannot write standard output"
@@ -32,7 +33,7 @@ forbidden_text bit = if bit == 1 then codes "fsType bit " ++ (decimal bit ++ cod
 abbrev pub hint_text : Hint → List ℕ
 hint_text (Font reason) = reason_text reason
 hint_text Cff2 = codes "CFF2: choose coordinates by --at; \"\" is the default"
-hint_text NoUnicode = codes "cmap: no table for Unicode in format 4 or 12"
+hint_text NoUnicode = codes "cmap: no table of characters in a format that is read"
 hint_text WrongAxes = codes "fvar: the table can't be read"
 hint_text NoAxes = codes "no axes in the font"
 hint_text (MoreBytes most) = codes "the new font has more than the " ++ (decimal most ++ codes " bytes of --limits")

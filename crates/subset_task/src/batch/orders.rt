@@ -2,14 +2,15 @@
 
 ghost use Rattle.std.specs.Prelude.{◌≡◌, map, string_bytes, IfOk, IfErr, Some};
 ghost use Rattle.std.specs.Option.{option_copied};
-ghost use Rattle.subset_args.specs.View.{job_view};
+ghost use Rattle.subset_args.specs.Request.{lists_in_stream};
+ghost use Rattle.subset_args.specs.View.{job_view, requested_view};
 ghost use Rattle.subset_task.specs.Batch.Answers.{IsFailedBy};
 ghost use Rattle.subset_task.specs.Batch.Orders.{is_given_stream, uses_streams, with_json, with_answer, order_by, order_of, IsNoOrder};
 
 use crate::batch::answers::{Answer, failed};
 use crate::refusals::failure::{Failure, given, list_file, pdf_file};
 use std::alloc::Global;
-use subset_args::{Command, Job, Mistake, Switches, Unread, is_stream, read_words};
+use subset_args::{Command, Glyphs, Job, Mistake, Switches, Unread, is_stream, read_words};
 use subset_batch::{Unread as UnreadLine, read_request};
 
 /// The status of a line that is wrong, as of wrong arguments.
@@ -32,12 +33,27 @@ fn is_given_stream(name: Option<&str>) -> bool
     }
 }
 
+/// Whether one of the files of glyphs is standard input.
+#[tactic(auto, using(crate::proofs::BatchLaws::list_stream))]
+fn lists_in_stream(glyphs: &[Glyphs]) -> bool
+    ensures { result ≡ lists_in_stream (map requested_view glyphs.now) }
+{
+    let mut rest = glyphs;
+    while let [one, behind @ ..] = rest {
+        if is_given_stream(list_file(one)) {
+            return true;
+        }
+        rest = behind;
+    }
+    false
+}
+
 /// Whether a request reads or writes a standard stream, by its name.
-#[tactic(auto, using(crate::proofs::BatchLaws::list_stream, crate::proofs::BatchLaws::pdf_stream), unfolding(crate::specs::Batch::Orders::uses_streams))]
+#[tactic(auto, using(crate::proofs::BatchLaws::pdf_stream), unfolding(crate::specs::Batch::Orders::uses_streams))]
 fn uses_streams(job: &Job) -> bool
     ensures { result ≡ uses_streams (job_view job.now) }
 {
-    (is_stream(&job.input) || is_given_stream(list_file(&job.glyphs)))
+    (is_stream(&job.input) || lists_in_stream(&job.glyphs))
         || (is_given_stream(given(&job.output)) || is_given_stream(pdf_file(job)))
 }
 

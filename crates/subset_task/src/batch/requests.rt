@@ -8,7 +8,7 @@ ghost use Rattle.subset_args.specs.View.{job_view};
 ghost use Rattle.subset_batch.specs.View.{line_view};
 ghost use Rattle.subset_task.specs.Batch.Answers.{IsFailedBy};
 ghost use Rattle.subset_task.specs.Batch.Orders.{order_of, IsNoOrder};
-ghost use Rattle.subset_task.specs.Batch.Requests.{numbers_by, numbers_if, left_behind, is_of_name, writes, writes_if, is_written, is_written_if, is_named_before, AreNames, IsFirst, IsBegun, AddsLine, AreBegun, due, of_source, answer_in};
+ghost use Rattle.subset_task.specs.Batch.Requests.{list_numbers, numbers_by, numbers_if, left_behind, is_of_name, writes, writes_if, is_written, is_written_if, is_named_before, AreNames, IsFirst, IsBegun, AddsLine, AreBegun, due, of_source, answer_in};
 
 use crate::batch::answers::{Answer, failed};
 use crate::batch::orders::order_of;
@@ -106,11 +106,11 @@ fn first_state(alloc: Global, before: &[Request], names: &HashMap<String, ()>, j
     }
 }
 
-/// How many numbers the list of a request has.
-pub fn numbers_of(job: &Job) -> usize
-    ensures { result ≡ numbers_by job.now.glyphs }
+/// How many numbers a list has.
+fn list_numbers(glyphs: &Glyphs) -> usize
+    ensures { result ≡ list_numbers glyphs.now }
 {
-    match &job.glyphs {
+    match glyphs {
         Glyphs::Listed(glyphs) => glyphs.len(),
         Glyphs::Characters(found) => found.len(),
         Glyphs::InFile(_, _) => 0,
@@ -119,7 +119,24 @@ pub fn numbers_of(job: &Job) -> usize
     }
 }
 
-/// The answer to a request whose list is too long.
+/// How many numbers lists have.
+fn numbers_by(glyphs: &[Glyphs]) -> usize
+    ensures { result ≡ numbers_by glyphs.now }
+{
+    match glyphs {
+        [] => 0,
+        [one, more @ ..] => list_numbers(one).saturating_add(numbers_by(more)),
+    }
+}
+
+/// How many numbers the lists of a request have.
+pub fn numbers_of(job: &Job) -> usize
+    ensures { result ≡ numbers_by job.now.glyphs.items }
+{
+    numbers_by(&job.glyphs)
+}
+
+/// The answer to a request whose lists are too long.
 fn too_long(alloc: Global) -> Answer
     ensures { IsFailedBy 2 result }
 {

@@ -1,8 +1,9 @@
 //! What the arguments of a run request to be made.
 
-ghost use Rattle.std.specs.Prelude.{◌≡◌, ◌⊎◌, drop, IfErr, IfOk};
+ghost use Rattle.std.specs.Prelude.{◌≡◌, ◌⊎◌, [], ◌∷◌, ◌++◌, drop, map, IfErr, IfOk, OnOk, IsSome};
 ghost use Rattle.std.specs.Vec.Iter.{into_iter_items};
-ghost use Rattle.subset_task.specs.Chosen.{IsListFor, IsUnlisted, kept_of, kept_by, kept_for, IsTaskOf, IsPlanOf};
+ghost use Rattle.subset_task.specs.Chosen.{IsListFor, AreListsFor, IsUnlistedAt, IsUnlisted, kept_of, kept_by, kept_for, kept_by_each, IsTaskOf, IsPlanOf};
+ghost use Rattle.subset_task.specs.Files.{list_name};
 ghost use Rattle.subset_task.specs.declared.refusals.failure.Failure.TheVariants.{Error as Refused, Usage};
 ghost use Rattle.subsetter_base.specs.declared.error.Error.TheVariants.{OutOfMemory};
 
@@ -11,9 +12,10 @@ use crate::refusals::failure::Failure;
 use crate::refusals::reason::{Noted, unread};
 use crate::streams::{MOST_INPUT, open_source};
 use crate::task::{
-    Plan, RequestedGlyphs, Task, at_of, extras_of, form_of, instance_of, limits_of, pdf_of,
+    Plan, RequestedGlyphs, Requests, Task, at_of, extras_of, form_of, instance_of, limits_of,
+    pdf_of,
 };
-use std::alloc::Global;
+use std::alloc::{AllocError, Global};
 use std::io::ErrorKind;
 use std::rt::{Env, Files};
 use std::{env, io};
@@ -42,51 +44,91 @@ pub fn read_arguments<R: Env + AllocGlobal>(rt: &R) -> Result<Vec<String>, Failu
     }
 }
 
-/// What a file requests. Its text is kept.
+/// What the file of a place requests. Its text is kept.
 fn read_list_file<R: Files + Input + AllocGlobal>(
     rt: &R,
+    place: usize,
     kind: FileKind,
     name: &str,
     text: &mut Vec<u8>,
     reason: &mut Option<io::Error>,
 ) -> Result<GlyphList, Failure>
-    ensures { IfErr result IsUnlisted }
+    ensures { IfErr result (IsUnlistedAt place) }
 {
     let mut file = match open_source(rt, name, MOST_INPUT) {
         Ok(file) => Noted::new(file),
         Err(error) => {
             *reason = Some(error);
-            return Err(Failure::ReadList);
+            return Err(Failure::ReadList(place));
         }
     };
     match read_whole(rt.alloc(), &mut file, 0) {
         Ok(whole) => *text = whole,
         Err(_) => {
             *reason = unread(file.reason());
-            return Err(Failure::ReadList);
+            return Err(Failure::ReadList(place));
         }
     }
     match read_list(rt.alloc(), kind, text) {
         Ok(list) => Ok(list),
-        Err(ArgsError::Usage) => Err(Failure::List),
+        Err(ArgsError::Usage) => Err(Failure::List(place)),
         Err(ArgsError::OutOfMemory) => Err(Failure::Error(Error::OutOfMemory)),
     }
 }
 
 /// The list of glyphs, where a file has it. The file's text is kept.
-pub fn list_of<R: Files + Input + AllocGlobal>(
+fn list_of<R: Files + Input + AllocGlobal>(
     rt: &R,
+    place: usize,
     glyphs: &Glyphs,
     text: &mut Vec<u8>,
     reason: &mut Option<io::Error>,
 ) -> Result<Option<GlyphList>, Failure>
     ensures ok { IfOk result (IsListFor glyphs.now) }
-    ensures err { IfErr result IsUnlisted }
+    ensures err { IfErr result (λ e. IsUnlistedAt place e × IsSome (list_name glyphs.now)) }
 {
     match glyphs {
-        Glyphs::InFile(kind, name) => Ok(Some(read_list_file(rt, *kind, name, text, reason)?)),
+        Glyphs::InFile(kind, name) => {
+            Ok(Some(read_list_file(rt, place, *kind, name, text, reason)?))
+        }
         _ => Ok(None),
     }
+}
+
+/// Adds a list.
+fn push_list(lists: &mut Vec<Option<GlyphList>>, list: Option<GlyphList>) -> Result<(), AllocError>
+    ensures { OnOk result (lists.new.items ≡ lists.old.items ++ list ∷ []) }
+{
+    lists.push(list)?;
+    Ok(())
+}
+
+/// The lists of glyphs, one for each request that a file has. The text of the last file that was read is kept.
+#[tactic(auto, using(crate::proofs::Requesting::one_more_list, crate::proofs::Requesting::all_lists))]
+pub fn lists_of<R: Files + Input + AllocGlobal>(
+    rt: &R,
+    glyphs: &[Glyphs],
+    text: &mut Vec<u8>,
+    reason: &mut Option<io::Error>,
+) -> Result<Vec<Option<GlyphList>>, Failure>
+    ensures ok { IfOk result (λ lists. AreListsFor glyphs.now lists.items) }
+    ensures err { IfErr result (IsUnlisted glyphs.now) }
+{
+    let mut lists = Vec::new(rt.alloc());
+    for place in 0..glyphs.len() {
+        match list_of(rt, place, &glyphs[place], text, reason) {
+            Ok(list) => push_list(&mut lists, list).map_err(no_memory)?,
+            Err(failure) => return Err(failure),
+        }
+    }
+    Ok(lists)
+}
+
+/// What is answered where a request for memory was refused.
+fn no_memory(_error: AllocError) -> Failure
+    ensures { result ≡ Refused OutOfMemory }
+{
+    Failure::Error(Error::OutOfMemory)
 }
 
 /// Which glyphs a file requests.
@@ -101,9 +143,8 @@ fn requested_by(list: &GlyphList) -> RequestedGlyphs<'_>
     }
 }
 
-/// Which glyphs are kept.
+/// Which glyphs are kept by one request.
 fn requested_of<'a>(glyphs: &'a Glyphs, list: &'a Option<GlyphList>) -> RequestedGlyphs<'a>
-    requires { IsListFor glyphs.now list.now }
     ensures { kept_of result ≡ kept_for glyphs.now list.now }
 {
     match (glyphs, list) {
@@ -116,13 +157,49 @@ fn requested_of<'a>(glyphs: &'a Glyphs, list: &'a Option<GlyphList>) -> Requeste
     }
 }
 
-/// What a job requests to be made of the font.
-fn task_of<'a>(job: &'a Job, list: &'a Option<GlyphList>) -> Task<'a>
-    requires { IsListFor job.now.glyphs list.now }
-    ensures { IsTaskOf job.now list.now result }
+/// Adds a request.
+fn push_requested<'a>(
+    requested: &mut Vec<RequestedGlyphs<'a>>,
+    one: RequestedGlyphs<'a>,
+) -> Result<(), AllocError>
+    ensures { OnOk result (requested.new.items ≡ requested.old.items ++ one.entry ∷ []) }
+{
+    requested.push(one)?;
+    Ok(())
+}
+
+/// Which glyphs are kept, one request after another.
+pub fn each_requested<'a>(
+    alloc: Global,
+    glyphs: &'a [Glyphs],
+    lists: &'a [Option<GlyphList>],
+) -> Result<Vec<RequestedGlyphs<'a>>, Failure>
+    ensures ok { IfOk result (λ v. map kept_of v.items ≡ kept_by_each glyphs.now lists.now) }
+    ensures err { IfErr result (λ e. e ≡ Refused OutOfMemory) }
+{
+    let mut requested = Vec::new(alloc);
+    let mut rest = glyphs;
+    let mut left = lists;
+    while let [one, behind @ ..] = rest {
+        let [list, others @ ..] = left else {
+            return Ok(requested);
+        };
+        push_requested(&mut requested, requested_of(one, list)).map_err(no_memory)?;
+        rest = behind;
+        left = others;
+    }
+    Ok(requested)
+}
+
+/// What a job requests to be made of the font, by its requests of glyphs.
+fn task_of<'a>(job: &'a Job, pieces: &'a [RequestedGlyphs<'a>]) -> Task<'a>
+    ensures { IsTaskOf job.now (map kept_of pieces.now) result }
 {
     Task {
-        requested: requested_of(&job.glyphs, list),
+        requested: Requests {
+            pieces,
+            is_strict: job.switches.strict,
+        },
         index: job.index,
         options: Options {
             limits: limits_of(job.limits),
@@ -135,12 +212,11 @@ fn task_of<'a>(job: &'a Job, list: &'a Option<GlyphList>) -> Task<'a>
 }
 
 /// The same at the coordinates of a named instance, if one is requested.
-pub fn plan_of<'a>(job: &'a Job, list: &'a Option<GlyphList>) -> Plan<'a>
-    requires { IsListFor job.now.glyphs list.now }
-    ensures { IsPlanOf job.now list.now result }
+pub fn plan_of<'a>(job: &'a Job, pieces: &'a [RequestedGlyphs<'a>]) -> Plan<'a>
+    ensures { IsPlanOf job.now (map kept_of pieces.now) result }
 {
     Plan {
-        task: task_of(job, list),
+        task: task_of(job, pieces),
         instance: instance_of(&job.position),
         verbose: job.switches.verbose,
         pdf: pdf_of(&job.pdf),

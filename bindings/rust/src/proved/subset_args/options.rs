@@ -4,4 +4,5 @@
 pub(crate) mod chosen;
 pub(crate) mod joined;
 pub(crate) mod names;
+pub(crate) mod sources;
 pub(crate) mod values;

@@ -29,14 +29,14 @@ Options are before IN, each at most once, in any order.
 With -o or --pdf they may also be after IN. --text=ABC is
 --text ABC, and so with each long option and its value.
 
-Which glyphs, where no GID is given:
+Which glyphs, where no GID is given; of several options
+those of one after another:
   --gids LIST       numbers and ranges, as 3,5,10-20, or *
                     for every glyph
   --gids-file FILE  the same from a file, also with blanks
                     and line ends; - is standard input
   --text TEXT       the glyphs of TEXT's characters by the
-                    font's cmap, unshaped; a line end is a
-                    character, too
+                    font's cmap, unshaped
   --text-file FILE  the same of a file's text, without its
                     line ends
   --unicodes LIST   the glyphs of characters, by hexadecimal
@@ -45,6 +45,7 @@ Which glyphs, where no GID is given:
   --unicodes-file FILE
                     the same from a file, also with blanks
                     and line ends
+  --strict          refuses a character without a glyph
 A character without a glyph is shown by glyph 0, with a note
 on standard error. D800-DFFF are no characters, and are
 passed over.

@@ -6,8 +6,8 @@ use crate::proved::subsetter_base::GlyphRemapper;
 /// The glyphs whose new numbers are printed.
 #[derive(Clone, Copy)]
 pub struct Numbering<'a> {
-    /// The characters that the glyphs stand for, as far as there are any.
-    pub characters: &'a [char],
+    /// The characters that the glyphs stand for, if they stand for one.
+    pub characters: &'a [Option<char>],
     /// The names of the glyphs, as far as there are any; an empty one is none.
     pub names: &'a [&'a [u8]],
     /// The old numbers.
@@ -21,10 +21,10 @@ pub struct Numbering<'a> {
 pub struct Unwritten;
 
 /// The first character, and the others.
-pub fn take_first(characters: &[char]) -> (Option<char>, &[char]) {
+pub fn take_first(characters: &[Option<char>]) -> (Option<char>, &[Option<char>]) {
     match characters {
         [] => (None, characters),
-        [character, others @ ..] => (Some(*character), others),
+        [character, others @ ..] => (*character, others),
     }
 }
 

@@ -25,9 +25,11 @@ pub enum SheetError {
     Font(Error),
     /// The font's maker doesn't permit it, and the user holds no rights.
     NotPermitted(Permission),
+    /// The text of a glyph is too long.
+    TextTooLong,
 }
 
-/// What the PDF has of the font for glyphs in use, of which no text is too long.
+/// What the PDF has of the font for glyphs in use.
 fn font_for(
     alloc: Global,
     data: &[u8],
@@ -39,8 +41,7 @@ fn font_for(
         Ok(font) => Ok(font),
         Err(FontError::Subset(error)) => Err(SheetError::Font(error)),
         Err(FontError::NotPermitted(permission)) => Err(SheetError::NotPermitted(permission)),
-        // (no text is too long)
-        Err(FontError::TextTooLong) => Err(SheetError::Font(Error::OverflowError)),
+        Err(FontError::TextTooLong) => Err(SheetError::TextTooLong),
     }
 }
 
@@ -70,22 +71,24 @@ fn sheet_of(
     }
 }
 
-/// A PDF that shows glyphs of a font in 36 points, each with its character as its text, as far as there are any: in a line, or
-/// in a grid of 12 by 16 a page.
+/// A PDF that shows glyphs of a font in 36 points, each with its text, so many of the characters that are left: in a line, or in
+/// a grid of 12 by 16 a page.
 ///
 /// # Errors
 ///
 /// - `NotPermitted`: `fsType` forbids it, and the user holds no rights.
+/// - `TextTooLong`: the text of a glyph is too long.
 /// - `Font`: what `pdf_font` answers; the PDF would have 10,000,000,000 bytes or more (`OverflowError`); a request for memory was
 ///   refused (`OutOfMemory`).
 pub fn make_sheet(
     alloc: Global,
     data: &[u8],
     request: &PdfRequest<'_>,
-    characters: &[char],
+    text: &[char],
+    lengths: &[usize],
     glyphs: &[u16],
 ) -> Result<Sheet, SheetError> {
-    match shown_of(alloc, characters, glyphs) {
+    match shown_of(alloc, text, lengths, glyphs) {
         Ok(shown) => sheet_of(alloc, data, request, &shown),
         Err(error) => Err(SheetError::Font(error)),
     }

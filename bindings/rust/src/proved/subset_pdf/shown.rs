@@ -7,33 +7,46 @@ use crate::proved::pdf_font::Shown;
 use crate::proved::subsetter_base::Error;
 use crate::rattle::alloc::Global;
 
-/// The text of the first entry, which is the first character, if there is one; and the characters of the others.
-fn take_text(characters: &[char]) -> (&[char], &[char]) {
-    match characters {
-        [] => (characters, characters),
-        [_, others @ ..] => (&characters[..1], others),
+/// So many characters of a text, or all where there are fewer, and the others.
+fn cut(text: &[char], count: usize) -> (&[char], &[char]) {
+    if count < text.len() {
+        (&text[..count], &text[count..])
+    } else {
+        (text, &[])
     }
 }
 
-/// Glyphs in use, in order, each with its character as its text, as far as there are any.
+/// The first number, 0 where there is none, and the others.
+fn take_number(numbers: &[usize]) -> (usize, &[usize]) {
+    match numbers {
+        [] => (0, numbers),
+        [number, others @ ..] => (*number, others),
+    }
+}
+
+/// Glyphs in use, in order, each with its text: so many of the characters that are left.
 ///
 /// # Errors
 ///
 /// `OutOfMemory` alone.
 pub fn shown_of<'a>(
     alloc: Global,
-    characters: &'a [char],
+    text: &'a [char],
+    lengths: &[usize],
     glyphs: &[u16],
 ) -> Result<Vec<Shown<'a>>, Error> {
     let mut shown = Vec::with_capacity(alloc, glyphs.len())?;
-    let mut rest = characters;
+    let mut rest = text;
+    let mut left = lengths;
     for glyph in glyphs {
-        let (text, others) = take_text(rest);
+        let (count, fewer) = take_number(left);
+        let (text, others) = cut(rest, count);
         shown.push(Shown {
             glyph: *glyph,
             text,
         })?;
         rest = others;
+        left = fewer;
     }
     Ok(shown)
 }

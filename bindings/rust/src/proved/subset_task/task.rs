@@ -4,7 +4,7 @@
 use crate::proved::subset_args::{PdfChoice, PdfJob, Position, RunLimits, Switches};
 use crate::proved::subsetter::{Extras, Limits, Options, Tag};
 
-/// Which glyphs are kept.
+/// Which glyphs are kept, by one request.
 #[derive(Clone, Copy)]
 pub enum RequestedGlyphs<'a> {
     /// Those of these old numbers, in the requested order.
@@ -15,6 +15,15 @@ pub enum RequestedGlyphs<'a> {
     ByText(&'a str),
     /// Those of these characters.
     ByCharacters(&'a [char]),
+}
+
+/// All glyphs that are kept: those of one request after another.
+#[derive(Clone, Copy)]
+pub struct Requests<'a> {
+    /// The requests.
+    pub pieces: &'a [RequestedGlyphs<'a>],
+    /// Whether the face may lack none of the characters.
+    pub is_strict: bool,
 }
 
 /// How the new numbers are printed.
@@ -32,7 +41,7 @@ pub enum Form {
 #[derive(Clone, Copy)]
 pub struct Task<'a> {
     /// The glyphs to keep.
-    pub requested: RequestedGlyphs<'a>,
+    pub requested: Requests<'a>,
     /// The font of a collection, from 0.
     pub index: u32,
     /// How far a charstring may run, and what is kept besides outlines and metrics.

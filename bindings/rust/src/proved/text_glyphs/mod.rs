@@ -34,6 +34,8 @@ pub use characters::glyphs_of;
 pub use choice::find_table;
 #[cfg(feature = "variable-fonts")]
 pub use halves::{last_up_to, number_in, Records};
+#[cfg(feature = "program")]
+pub use reading::is_entry;
 #[cfg(feature = "variable-fonts")]
 pub use reading::{read_text, Entry, ReadText};
 #[cfg(feature = "variable-fonts")]

@@ -113,8 +113,8 @@ fn ignorables_in(text: &[char]) -> usize {
     n
 }
 
-/// Whether a character has an entry.
-fn is_entry(character: char) -> bool {
+/// Whether a character has an entry: it is no control and no default ignorable.
+pub fn is_entry(character: char) -> bool {
     !(is_control(character) || is_ignorable(character))
 }
 

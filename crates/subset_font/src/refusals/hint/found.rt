@@ -5,7 +5,7 @@ ghost use Rattle.std.specs.Option.{option_map};
 ghost use Rattle.subsetter_sfnt.specs.Extras.{all_extras};
 ghost use Rattle.font_reasons.specs.Explained.{no_cmap};
 ghost use Rattle.subset_task.specs.declared.refusals.hint.text.Hint.TheVariants.{Font};
-ghost use Rattle.subset_font.specs.Refusals.Hint.{listed, for_widths, needed_table, reason_in, is_cff2, no_coordinates, hint_of_error, no_mapping, hint_of_mapping, no_axes, axes_hint_of_error, axes_hint, forbidden_bit, hint_of};
+ghost use Rattle.subset_font.specs.Refusals.Hint.{listed, for_widths, needed_table, reason_for, first_reason, reason_in, is_cff2, no_coordinates, hint_of_error, no_mapping, hint_of_mapping, no_axes, axes_hint_of_error, axes_hint, forbidden_bit, hint_of};
 
 use font_reasons::{Reason, Request, directory_of, find_reason, missing_table, no_font, no_table};
 use subset_lines::Outlines;
@@ -58,16 +58,50 @@ fn needed_table(asked: &RequestedGlyphs<'_>, widths: bool) -> Option<Tag>
     }
 }
 
+/// What the tables show of a font that is refused by an error, for the glyphs of one request.
+fn reason_for(
+    error: Error,
+    font: &[u8],
+    index: u32,
+    widths: bool,
+    asked: &RequestedGlyphs<'_>,
+) -> Option<Hint>
+    ensures { result ≡ reason_for error (record { bytes = font.now; index = index; extras = all_extras }) widths asked.now }
+{
+    let request = Request {
+        index,
+        glyphs: listed(asked),
+        needs: needed_table(asked, widths),
+    };
+    shown(find_reason(error, font, request))
+}
+
+/// The same for the first request for which they show anything.
+fn first_reason(
+    error: Error,
+    font: &[u8],
+    index: u32,
+    widths: bool,
+    asked: &[RequestedGlyphs<'_>],
+) -> Option<Hint>
+    ensures { result ≡ first_reason error (record { bytes = font.now; index = index; extras = all_extras }) widths asked.now }
+{
+    let mut rest = asked;
+    while let [one, behind @ ..] = rest {
+        let hint = reason_for(error, font, index, widths, one);
+        if hint.is_some() {
+            return hint;
+        }
+        rest = behind;
+    }
+    None
+}
+
 /// What the tables show of a font that is refused by an error.
 fn reason_in(error: Error, font: &[u8], task: &Task<'_>) -> Option<Hint>
     ensures { result ≡ reason_in error task.now font.now }
 {
-    let request = Request {
-        index: task.index,
-        glyphs: listed(&task.requested),
-        needs: needed_table(&task.requested, task.widths),
-    };
-    shown(find_reason(error, font, request))
+    first_reason(error, font, task.index, task.widths, task.requested.pieces)
 }
 
 /// Whether a face has outlines of `CFF2`.

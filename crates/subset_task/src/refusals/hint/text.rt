@@ -10,7 +10,7 @@ pub enum Hint {
     Font(Reason),
     /// The outlines are those of `CFF2`, and no coordinates are given.
     Cff2,
-    /// `cmap` has no table for Unicode that is read.
+    /// `cmap` has no table of characters that is read.
     NoUnicode,
     /// `fvar` can't be read.
     WrongAxes,
@@ -86,7 +86,7 @@ impl fmt::Display for Hint {
         match *self {
             Hint::Font(reason) => write!(f, "{reason}"),
             Hint::Cff2 => { f.write_str("CFF2: choose coordinates by --at; \"\" is the default") }
-            Hint::NoUnicode => f.write_str("cmap: no table for Unicode in format 4 or 12"),
+            Hint::NoUnicode => f.write_str("cmap: no table of characters in a format that is read"),
             Hint::WrongAxes => f.write_str("fvar: the table can't be read"),
             Hint::NoAxes => f.write_str("no axes in the font"),
             Hint::MoreBytes(most) => {

@@ -8,7 +8,7 @@ use crate::proved::subset_args::options::chosen::Chosen;
 use crate::proved::subset_args::options::joined::{
     joined, says_position, wrong_behind, wrong_place, Given,
 };
-use crate::proved::subset_args::options::names::{kind_of, Kind, Source};
+use crate::proved::subset_args::options::names::{kind_of, Kind};
 use crate::proved::subset_args::words::u32_of;
 
 /// What is requested, in either form.
@@ -81,18 +81,14 @@ fn numbers(list: &str) -> Result<Option<&str>, Mistake<'_>> {
     Ok(Some(list))
 }
 
-/// The list of glyphs behind INDEX, which an option may have in its place.
-fn listed_behind<'a>(
-    source: Option<Source<'_>>,
-    words: &'a [String],
-) -> Result<Option<&'a str>, Mistake<'a>> {
-    match (source, words) {
-        (None, []) => Err(mistake_in(Wrong::NoGlyphs, "")),
-        (None, [list]) => numbers(list),
-        (Some(_), []) => Ok(None),
-        (Some(_), [word]) => Err(mistake_in(Wrong::BesideOption, word)),
-        (None, [_, word, ..]) => Err(mistake_in(Wrong::Further, word)),
-        (Some(_), [_, word, ..]) => Err(mistake_in(Wrong::Further, word)),
+/// The list of glyphs behind INDEX, which options may have in its place.
+fn listed_behind<'a>(are_given: bool, words: &'a [String]) -> Result<Option<&'a str>, Mistake<'a>> {
+    match (are_given, words) {
+        (false, []) => Err(mistake_in(Wrong::NoGlyphs, "")),
+        (false, [list]) => numbers(list),
+        (true, []) => Ok(None),
+        (true, [word]) => Err(mistake_in(Wrong::BesideOption, word)),
+        (_, [_, word, ..]) => Err(mistake_in(Wrong::Further, word)),
     }
 }
 
@@ -104,7 +100,7 @@ fn plain_with<'a>(
     index: u32,
     words: &'a [String],
 ) -> Result<Asked<'a>, Mistake<'a>> {
-    let listed = listed_behind(chosen.source, words)?;
+    let listed = listed_behind(chosen.sources.are_given(), words)?;
     if let Some(wrong) = wrong_pdf(&chosen, Some(output)) {
         return Err(wrong);
     }
@@ -240,7 +236,7 @@ fn free<'a>(chosen: Chosen<'a>, input: &'a str) -> Result<Asked<'a>, Mistake<'a>
     if !has_output(&chosen) {
         return Err(mistake_in(Wrong::NoOutput, ""));
     }
-    if chosen.source.is_none() {
+    if !chosen.sources.are_given() {
         return Err(mistake_in(Wrong::NoSource, ""));
     }
     Ok(Asked {

@@ -63,25 +63,50 @@ fn by_source<'a>(alloc: Global, source: Source<'a>) -> Result<Glyphs, Unread<'a>
     }
 }
 
+/// Adds what is requested by one more.
+fn push_glyphs(glyphs: &mut Vec<Glyphs>, more: Glyphs) -> Result<(), AllocError> {
+    glyphs.push(more)?;
+    Ok(())
+}
+
+/// What is requested by one alone.
+fn alone(alloc: Global, one: Glyphs) -> Result<Vec<Glyphs>, AllocError> {
+    let mut glyphs = Vec::new(alloc);
+    push_glyphs(&mut glyphs, one)?;
+    Ok(glyphs)
+}
+
 /// The glyphs of a list that is an argument of its own.
-fn numbers_listed<'a>(alloc: Global, list: &'a str) -> Result<Glyphs, Unread<'a>> {
+fn numbers_listed<'a>(alloc: Global, list: &'a str) -> Result<Vec<Glyphs>, Unread<'a>> {
     match glyphs_of(alloc, list) {
-        Ok(glyphs) => Ok(Glyphs::Listed(glyphs)),
+        Ok(glyphs) => Ok(alone(alloc, Glyphs::Listed(glyphs))?),
         Err(ArgsError::OutOfMemory) => Err(Unread::OutOfMemory),
         Err(ArgsError::Usage) => Err(Unread::Mistake(wrong_list(alloc, Listing::Numbers, list)?)),
     }
 }
 
-/// Which glyphs are requested: those that an argument lists, or an option.
+/// Those that options request, one after another.
+fn each_requested<'a>(alloc: Global, sources: &[Source<'a>]) -> Result<Vec<Glyphs>, Unread<'a>> {
+    let mut glyphs = Vec::new(alloc);
+    let mut rest = sources;
+    while let [source, behind @ ..] = rest {
+        let more = by_source(alloc, *source)?;
+        push_glyphs(&mut glyphs, more)?;
+        rest = behind;
+    }
+    Ok(glyphs)
+}
+
+/// Which glyphs are requested: those that an argument lists, or those of options.
 pub fn read_glyphs<'a>(
     alloc: Global,
     listed: Option<&'a str>,
-    source: Option<Source<'a>>,
-) -> Result<Glyphs, Unread<'a>> {
-    match (listed, source) {
+    sources: &[Source<'a>],
+) -> Result<Vec<Glyphs>, Unread<'a>> {
+    match (listed, sources) {
         (Some(list), _) => numbers_listed(alloc, list),
-        (None, Some(source)) => by_source(alloc, source),
-        (None, None) => Err(Unread::Mistake(mistake_in(Wrong::NoGlyphs, ""))),
+        (None, []) => Err(Unread::Mistake(mistake_in(Wrong::NoGlyphs, ""))),
+        (None, [_, ..]) => each_requested(alloc, sources),
     }
 }
 
@@ -99,23 +124,31 @@ fn file_option(kind: FileKind) -> &'static str {
     }
 }
 
-/// A file of glyphs that is standard input, as IN is.
-fn wrong_file<'a>(input: &str, kind: FileKind, name: &str) -> Option<Mistake<'a>> {
-    if is_stream(input) && is_stream(name) {
-        return Some(mistake_in(Wrong::InputTwice, file_option(kind)));
+/// What standard input has, if it is a file of glyphs.
+fn stream_kind(source: Source<'_>) -> Option<FileKind> {
+    match source {
+        Source::File(kind, name) if is_stream(name) => Some(kind),
+        Source::File(_, _) => None,
+        Source::Text(_) => None,
+        Source::InList(_) => None,
+        Source::Characters(_) => None,
     }
-    None
 }
 
-/// The same of what an option requests.
-pub fn wrong_stream<'a>(input: &str, source: Option<Source<'_>>) -> Option<Mistake<'a>> {
-    match source {
-        Some(Source::File(kind, name)) => wrong_file(input, kind, name),
-        Some(Source::Text(_)) => None,
-        Some(Source::InList(_)) => None,
-        Some(Source::Characters(_)) => None,
-        None => None,
+/// The first file of glyphs that is standard input, where that is taken before it.
+pub fn wrong_stream<'a>(is_taken: bool, sources: &[Source<'_>]) -> Option<Mistake<'a>> {
+    let mut is_taken = is_taken;
+    let mut rest = sources;
+    while let [source, behind @ ..] = rest {
+        if let Some(kind) = stream_kind(*source) {
+            if is_taken {
+                return Some(mistake_in(Wrong::InputTwice, file_option(kind)));
+            }
+            is_taken = true;
+        }
+        rest = behind;
     }
+    None
 }
 
 /// Whether a text is the name of a named instance, and not coordinates: it has no equals sign, and isn't empty.

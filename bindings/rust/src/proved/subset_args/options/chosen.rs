@@ -5,6 +5,7 @@ use crate::proved::subset_args::limits::RunLimits;
 use crate::proved::subset_args::listing::lists::FileKind;
 use crate::proved::subset_args::mistakes::{mistake_in, Mistake, Wrong};
 use crate::proved::subset_args::options::names::{Coding, Setting, Source, Switch};
+use crate::proved::subset_args::options::sources::Sources;
 use crate::proved::subset_args::options::values::{coding_of, holds_rights, limits_of};
 use crate::proved::subset_args::words::u32_of;
 
@@ -20,6 +21,7 @@ pub struct Switches {
     pub quiet: bool,
     pub verbose: bool,
     pub vertical: bool,
+    pub strict: bool,
 }
 
 impl Switches {
@@ -34,6 +36,7 @@ impl Switches {
         quiet: false,
         verbose: false,
         vertical: false,
+        strict: false,
     };
 
     /// Whether an option was given.
@@ -48,6 +51,7 @@ impl Switches {
             Switch::Quiet => self.quiet,
             Switch::Verbose => self.verbose,
             Switch::Vertical => self.vertical,
+            Switch::Strict => self.strict,
         }
     }
 
@@ -64,6 +68,7 @@ impl Switches {
             Switch::Quiet => all.quiet = true,
             Switch::Verbose => all.verbose = true,
             Switch::Vertical => all.vertical = true,
+            Switch::Strict => all.strict = true,
         }
         all
     }
@@ -87,8 +92,8 @@ pub struct Chosen<'a> {
     pub switches: Switches,
     /// How far the charstring of a glyph may run, if that is given.
     pub limits: Option<RunLimits>,
-    /// Where the glyphs are found, if that is given.
-    pub source: Option<Source<'a>>,
+    /// Where the glyphs are found.
+    pub sources: Sources<'a>,
     /// Where on the axes of a variable font, if that is given.
     pub at: Option<&'a str>,
     /// OUT, if an option gives it.
@@ -110,7 +115,7 @@ impl<'a> Chosen<'a> {
     pub const NOTHING: Chosen<'static> = Chosen {
         switches: Switches::NONE,
         limits: None,
-        source: None,
+        sources: Sources::Nowhere,
         at: None,
         output: None,
         index: None,
@@ -172,15 +177,12 @@ impl<'a> Chosen<'a> {
         }
     }
 
-    /// With what says where the glyphs are found.
+    /// With a further place where glyphs are found.
     fn with_source(self, word: &'a str, source: Source<'a>) -> Result<Chosen<'a>, Mistake<'a>> {
-        if self.source.is_some() {
-            return Err(mistake_in(Wrong::GlyphsTwice, word));
+        match self.sources.with(source) {
+            Some(sources) => Ok(Chosen { sources, ..self }),
+            None => Err(mistake_in(Wrong::Twice, word)),
         }
-        Ok(Chosen {
-            source: Some(source),
-            ..self
-        })
     }
 
     /// With user coordinates.

@@ -10,8 +10,8 @@ use crate::proved::subset_font::run::job::{open_font, room_of};
 use crate::proved::subset_lines::characters::plain_text;
 use crate::proved::subset_task::batch::answers::{failed, Answer, Object};
 use crate::proved::subset_task::reading::read_whole;
-use crate::proved::subset_task::refusals::failure::{file_by, given, list_file, pdf_file, Failure};
-use crate::proved::subset_task::run::request::{list_of, plan_of};
+use crate::proved::subset_task::refusals::failure::{file_at, file_by, given, pdf_file, Failure};
+use crate::proved::subset_task::run::request::{each_requested, lists_of, plan_of};
 use crate::proved::subset_task::streams::{is_to_standard_output, Target, MOST_INPUT};
 use crate::proved::subset_task::task::{Form, Plan};
 use crate::proved::subsetter::Error;
@@ -92,8 +92,9 @@ fn perform<R: Files + Print + Input + AllocGlobal>(
 ) -> Result<Vec<u8>, Failure> {
     let mut text = Vec::new(rt.alloc());
     let mut reason = None;
-    let list = list_of(rt, &job.glyphs, &mut text, &mut reason)?;
-    let plan = plan_of(job, &list);
+    let lists = lists_of(rt, &job.glyphs, &mut text, &mut reason)?;
+    let pieces = each_requested(rt.alloc(), &job.glyphs, &lists)?;
+    let plan = plan_of(job, &pieces);
     let mut page = Target::new(rt, pdf_file(job));
     let mut output = Target::new(rt, given(&job.output));
     carry_answer(rt.alloc(), font, &plan, &mut page, &mut output)
@@ -112,8 +113,8 @@ fn named_text(alloc: Global, text: &str, name: Option<&str>) -> Result<String, A
 
 /// Why a request failed, in words.
 fn text_of(alloc: Global, failure: &Failure, job: &Job) -> Result<String, AllocError> {
-    if let Failure::List = failure {
-        return named_text(alloc, "no list of glyphs in", list_file(&job.glyphs));
+    if let Failure::List(place) = failure {
+        return named_text(alloc, "no list of glyphs in", file_at(&job.glyphs, *place));
     }
     let text = format!(in alloc; "{failure}")?;
     named_text(alloc, &text, file_by(failure, job))

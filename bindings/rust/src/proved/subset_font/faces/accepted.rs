@@ -9,7 +9,7 @@ use crate::proved::subset_font::refusals::hint::found::find_hint;
 use crate::proved::subset_task::making::requested::first_glyphs;
 use crate::proved::subset_task::refusals::failure::Failure;
 use crate::proved::subset_task::refusals::hint::text::Hint;
-use crate::proved::subset_task::task::{Form, RequestedGlyphs, Task};
+use crate::proved::subset_task::task::{Form, RequestedGlyphs, Requests, Task};
 use crate::proved::subsetter::{Error, Extras, Limits, Options, Tag};
 use crate::proved::subsetter_sfnt::directory::table;
 use crate::rattle::alloc::{AllocError, Global};
@@ -60,9 +60,12 @@ fn is_of_limits(font: &[u8], index: u32, failure: &Failure) -> bool {
 }
 
 /// The task of a subset of all glyphs, or of these, within limits.
-fn task_for<'a>(index: u32, limits: Limits, requested: RequestedGlyphs<'a>) -> Task<'a> {
+fn task_for<'a>(index: u32, limits: Limits, pieces: &'a [RequestedGlyphs<'a>]) -> Task<'a> {
     Task {
-        requested,
+        requested: Requests {
+            pieces,
+            is_strict: false,
+        },
         index,
         options: Options {
             limits,
@@ -107,7 +110,8 @@ fn reason_of(
 ) -> Result<Option<String>, AllocError> {
     let count = count_glyphs(font, index).unwrap_or(0);
     let glyphs = first_glyphs(alloc, count)?;
-    let task = task_for(index, Limits::default(), listed_or_every(&glyphs));
+    let pieces = [listed_or_every(&glyphs)];
+    let task = task_for(index, Limits::default(), &pieces);
     text_of(alloc, find_hint(failure, font, &task))
 }
 
@@ -151,7 +155,8 @@ fn parts_of(
 /// Makes a subset of all glyphs within limits that a second is enough for, and drops it.
 fn make_all(alloc: Global, font: &[u8], index: u32) -> Result<(), Failure> {
     let limits = limits_for(font, index);
-    let task = task_for(index, limits, RequestedGlyphs::Every);
+    let pieces = [RequestedGlyphs::Every];
+    let task = task_for(index, limits, &pieces);
     match make_of(alloc, font, &task) {
         Ok(_made) => Ok(()),
         Err(failure) => Err(failure),

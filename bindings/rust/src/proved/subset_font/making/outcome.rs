@@ -9,7 +9,7 @@ use crate::proved::subset_font::making::sheet::{sheet_if, with_pdf};
 use crate::proved::subset_font::making::subset::{make_of, Made};
 use crate::proved::subset_lines::{json_members, size_lines, Outlines, TableSize};
 use crate::proved::subset_pdf::Sheet;
-use crate::proved::subset_task::faces::missing::missing;
+use crate::proved::subset_task::faces::missing::first_missing;
 use crate::proved::subset_task::faces::named::face_settings;
 use crate::proved::subset_task::faces::outlines::outlines_of;
 use crate::proved::subset_task::faces::tables::table_sizes;
@@ -17,7 +17,8 @@ use crate::proved::subset_task::notes::{known_axes, notes_for};
 use crate::proved::subset_task::refusals::failure::Failure;
 use crate::proved::subset_task::task::{Form, Plan, Task};
 use crate::proved::subsetter::{Error, Tag};
-use crate::proved::subsetter_sfnt::directory::table;
+use crate::proved::subsetter_sfnt::directory::{kind_at, table};
+use crate::proved::subsetter_sfnt::face::FontKind;
 use crate::rattle::alloc::{AllocError, Global};
 
 /// What a plan makes of a font.
@@ -76,19 +77,37 @@ fn as_given(tables: &Option<Vec<TableSize>>) -> Option<&[TableSize]> {
     }
 }
 
+/// Whether a file holds one font.
+fn is_single(font: &[u8]) -> bool {
+    match kind_at(font, 0) {
+        Some(FontKind::Single) => true,
+        Some(FontKind::Collection) => false,
+        None => false,
+    }
+}
+
+/// The index of another face than the only one of a file, where an option requests the glyphs.
+pub fn other_face(by_option: bool, font: &[u8], index: u32) -> Option<u32> {
+    if by_option && (index > 0 && is_single(font)) {
+        return Some(index);
+    }
+    None
+}
+
 /// The further members of the JSON object.
 fn members_of(
     alloc: Global,
     font: &[u8],
     index: u32,
     verbose: bool,
+    by_option: bool,
     at: Option<&[(Tag, i32)]>,
     made: &Made,
 ) -> Result<Vec<u8>, AllocError> {
     let tables = sizes_if(alloc, verbose, font, index, &made.font)?;
     let axes = known_axes(alloc, font, index)?;
     let notes = notes_for(alloc, &axes, at)?;
-    let characters = missing(alloc, &made.picked.characters, &made.picked.glyphs)?;
+    let characters = first_missing(alloc, &made.picked.missing)?;
     json_members(
         alloc,
         font.len() as u64,
@@ -97,6 +116,7 @@ fn members_of(
         &axes,
         &notes,
         &characters,
+        other_face(by_option, font, index),
     )
     .map_err(|_| AllocError)
 }
@@ -113,7 +133,8 @@ fn more_of(
     match plan.task.form {
         Form::Lines if plan.verbose => lines_of_sizes(alloc, font, index, &made.font),
         Form::Json => {
-            let members = members_of(alloc, font, index, plan.verbose, plan.task.at, made)?;
+            let at = plan.task.at;
+            let members = members_of(alloc, font, index, plan.verbose, plan.by_option, at, made)?;
             with_pdf(alloc, members, sheet)
         }
         Form::Lines => Ok(Vec::new(alloc)),

@@ -9,16 +9,24 @@ use crate::proved::subset_lines::json_pdf;
 use crate::proved::subset_pdf::{make_sheet, Layout, PdfRequest, Sheet, SheetError};
 use crate::proved::subset_task::refusals::failure::Failure;
 use crate::proved::subset_task::task::{RequestedGlyphs, Task};
-use crate::proved::subsetter::Tag;
+use crate::proved::subsetter::{Error, Tag};
 use crate::rattle::alloc::{AllocError, Global};
 
-/// How the glyphs are shown: those of a text in a line, others in a grid.
-fn layout_of(asked: &RequestedGlyphs<'_>) -> Layout {
+/// How the glyphs of one request are shown: those of a text in a line, others in a grid.
+fn layout_by(asked: &RequestedGlyphs<'_>) -> Layout {
     match asked {
         RequestedGlyphs::ByText(_) => Layout::Line,
         RequestedGlyphs::These(_) => Layout::Grid,
         RequestedGlyphs::Every => Layout::Grid,
         RequestedGlyphs::ByCharacters(_) => Layout::Grid,
+    }
+}
+
+/// How the glyphs of requests are shown: where there are several in a grid.
+fn layout_of(asked: &[RequestedGlyphs<'_>]) -> Layout {
+    match asked {
+        [one] => layout_by(one),
+        _ => Layout::Grid,
     }
 }
 
@@ -38,7 +46,7 @@ fn request_of<'a>(task: &Task<'a>, choice: PdfChoice) -> PdfRequest<'a> {
         limits: task.options.limits,
         hinting: task.options.extras.hinting,
         choice,
-        layout: layout_of(&task.requested),
+        layout: layout_of(task.requested.pieces),
     }
 }
 
@@ -52,10 +60,18 @@ fn make_shown(
 ) -> Result<Sheet, Failure> {
     let request = request_of(task, choice);
     let picked = &made.picked;
-    match make_sheet(alloc, font, &request, &picked.characters, &picked.glyphs) {
+    match make_sheet(
+        alloc,
+        font,
+        &request,
+        &picked.text,
+        &picked.lengths,
+        &picked.glyphs,
+    ) {
         Ok(sheet) => Ok(sheet),
         Err(SheetError::Font(error)) => Err(Failure::Error(error)),
         Err(SheetError::NotPermitted(permission)) => Err(Failure::NotPermitted(permission)),
+        Err(SheetError::TextTooLong) => Err(Failure::Error(Error::OverflowError)),
     }
 }
 

@@ -5,10 +5,10 @@ use crate::rattle::prelude::{AllocGlobal, Eprint, Input, Print, Vec};
 
 use crate::proved::subset_args::Job;
 use crate::proved::subset_font::making::carried::carry_out;
-use crate::proved::subset_font::run::reports::{report_made, report_unlisted};
+use crate::proved::subset_font::run::reports::{report, report_made, report_unlisted};
 use crate::proved::subset_task::refusals::failure::{given, pdf_file, Failure};
 use crate::proved::subset_task::refusals::reason::{reason_of, Noted};
-use crate::proved::subset_task::run::request::{list_of, plan_of};
+use crate::proved::subset_task::run::request::{each_requested, lists_of, plan_of};
 use crate::proved::subset_task::streams::{
     is_to_standard_output, lines_beside, open_source, Source, Target, MOST_INPUT,
 };
@@ -123,11 +123,15 @@ fn perform<R: Files + Print + Eprint + Input + AllocGlobal>(
 pub fn run_job<R: Files + Print + Eprint + Input + AllocGlobal>(rt: &R, job: &Job) -> u8 {
     let mut text = Vec::new(rt.alloc());
     let mut reason = None;
-    let list = match list_of(rt, &job.glyphs, &mut text, &mut reason) {
-        Ok(list) => list,
+    let lists = match lists_of(rt, &job.glyphs, &mut text, &mut reason) {
+        Ok(lists) => lists,
         Err(failure) => return report_unlisted(rt, &Err(failure), job, &text, reason),
     };
-    let plan = plan_of(job, &list);
+    let pieces = match each_requested(rt.alloc(), &job.glyphs, &lists) {
+        Ok(pieces) => pieces,
+        Err(failure) => return report(rt, &Err(failure), None),
+    };
+    let plan = plan_of(job, &pieces);
     let mut font = Vec::new(rt.alloc());
     let is_font_there =
         is_to_standard_output(rt, given(&job.output)) || is_to_standard_output(rt, pdf_file(job));

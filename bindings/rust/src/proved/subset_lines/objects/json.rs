@@ -77,7 +77,7 @@ fn write_object<W: Write>(
 /// Writes the objects of glyphs, by characters and names as far as there are any.
 fn write_each<W: Write>(
     mapper: &GlyphRemapper,
-    characters: &[char],
+    characters: &[Option<char>],
     names: &[&[u8]],
     glyphs: &[u16],
     out: &mut W,

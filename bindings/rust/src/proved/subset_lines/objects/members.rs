@@ -30,16 +30,17 @@ fn write_members<W: Write>(
     axes: &[Axis],
     notes: &[Note],
     characters: &[char],
+    index: Option<u32>,
     out: &mut W,
 ) -> Result<(), Unwritten> {
     write_sizes_member(old, new, out)?;
     write_tables(tables, out)?;
     write_text(b",\"notes\":", out)?;
-    write_notes_array(alloc, axes, notes, characters, out)
+    write_notes_array(alloc, axes, notes, characters, index, out)
 }
 
 /// The text of further members of the JSON object of a subset: the sizes of both files in bytes, their tables, if they are
-/// given, and notes on coordinates and on characters without a glyph.
+/// given, and notes on coordinates, on characters without a glyph, and on the index of a face that the file doesn't have.
 ///
 /// `Unwritten` where a request for memory was refused.
 pub fn json_members(
@@ -50,8 +51,11 @@ pub fn json_members(
     axes: &[Axis],
     notes: &[Note],
     characters: &[char],
+    index: Option<u32>,
 ) -> Result<Vec<u8>, Unwritten> {
     let mut text = Vec::new(alloc);
-    write_members(alloc, old, new, tables, axes, notes, characters, &mut text)?;
+    write_members(
+        alloc, old, new, tables, axes, notes, characters, index, &mut text,
+    )?;
     Ok(text)
 }

@@ -3,7 +3,9 @@
 
 use crate::rattle::prelude::String;
 
-use crate::proved::subset_args::{is_stream, read_words, Command, Job, Mistake, Switches, Unread};
+use crate::proved::subset_args::{
+    is_stream, read_words, Command, Glyphs, Job, Mistake, Switches, Unread,
+};
 use crate::proved::subset_batch::{read_request, Unread as UnreadLine};
 use crate::proved::subset_task::batch::answers::{failed, Answer};
 use crate::proved::subset_task::refusals::failure::{given, list_file, pdf_file, Failure};
@@ -25,9 +27,21 @@ fn is_given_stream(name: Option<&str>) -> bool {
     }
 }
 
+/// Whether one of the files of glyphs is standard input.
+fn lists_in_stream(glyphs: &[Glyphs]) -> bool {
+    let mut rest = glyphs;
+    while let [one, behind @ ..] = rest {
+        if is_given_stream(list_file(one)) {
+            return true;
+        }
+        rest = behind;
+    }
+    false
+}
+
 /// Whether a request reads or writes a standard stream, by its name.
 fn uses_streams(job: &Job) -> bool {
-    (is_stream(&job.input) || is_given_stream(list_file(&job.glyphs)))
+    (is_stream(&job.input) || lists_in_stream(&job.glyphs))
         || (is_given_stream(given(&job.output)) || is_given_stream(pdf_file(job)))
 }
 

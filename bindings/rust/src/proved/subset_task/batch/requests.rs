@@ -84,9 +84,9 @@ fn first_state(alloc: Global, before: &[Request], names: &HashMap<String, ()>, j
     }
 }
 
-/// How many numbers the list of a request has.
-pub fn numbers_of(job: &Job) -> usize {
-    match &job.glyphs {
+/// How many numbers a list has.
+fn list_numbers(glyphs: &Glyphs) -> usize {
+    match glyphs {
         Glyphs::Listed(glyphs) => glyphs.len(),
         Glyphs::Characters(found) => found.len(),
         Glyphs::InFile(_, _) => 0,
@@ -95,7 +95,20 @@ pub fn numbers_of(job: &Job) -> usize {
     }
 }
 
-/// The answer to a request whose list is too long.
+/// How many numbers lists have.
+fn numbers_by(glyphs: &[Glyphs]) -> usize {
+    match glyphs {
+        [] => 0,
+        [one, more @ ..] => list_numbers(one).saturating_add(numbers_by(more)),
+    }
+}
+
+/// How many numbers the lists of a request have.
+pub fn numbers_of(job: &Job) -> usize {
+    numbers_by(&job.glyphs)
+}
+
+/// The answer to a request whose lists are too long.
 fn too_long(alloc: Global) -> Answer {
     let text = "the lists of all lines have more than 2000000 numbers";
     failed(TOO_LONG, String::from_str(alloc, text))

@@ -3,9 +3,6 @@
 
 use crate::rattle::prelude::Vec;
 
-use crate::proved::subset_lines::take_first;
-use crate::proved::subset_task::making::requested::pick;
-use crate::proved::subset_task::task::RequestedGlyphs;
 use crate::rattle::alloc::{AllocError, Global};
 
 /// Whether a character is listed.
@@ -18,55 +15,21 @@ fn is_listed(found: &[char], character: char) -> bool {
     false
 }
 
-/// Adds a character that is shown by glyph 0, if it isn't listed, and fewer than four are.
-fn push_missing(
-    found: &mut Vec<char>,
-    character: Option<char>,
-    glyph: u16,
-) -> Result<(), AllocError> {
-    let character = match character {
-        Some(character) => character,
-        _ => {
-            return Ok(());
-        }
-    };
-    if glyph == 0 && found.len() < 4 && !is_listed(found, character) {
+/// Adds a character, if it isn't listed, and fewer than four are.
+fn push_missing(found: &mut Vec<char>, character: char) -> Result<(), AllocError> {
+    if found.len() < 4 && !is_listed(found, character) {
         found.push(character)?;
     }
     Ok(())
 }
 
-/// The first four of the characters that are shown by glyph 0, each once.
-pub fn missing(
-    alloc: Global,
-    characters: &[char],
-    glyphs: &[u16],
-) -> Result<Vec<char>, AllocError> {
+/// The first four of the characters that a face lacks, each once.
+pub fn first_missing(alloc: Global, characters: &[char]) -> Result<Vec<char>, AllocError> {
     let mut found = Vec::new(alloc);
     let mut rest = characters;
-    for glyph in glyphs {
-        let (character, others) = take_first(rest);
-        push_missing(&mut found, character, *glyph)?;
-        rest = others;
+    while let [character, behind @ ..] = rest {
+        push_missing(&mut found, *character)?;
+        rest = behind;
     }
     Ok(found)
-}
-
-/// The same of the characters that a task requests of a face. None where no glyphs are found, or memory runs out.
-pub fn missing_in(
-    alloc: Global,
-    font: &[u8],
-    index: u32,
-    asked: &RequestedGlyphs<'_>,
-) -> Option<Vec<char>> {
-    let picked = match pick(alloc, font, index, asked) {
-        Ok(picked) => picked,
-        _ => {
-            return None;
-        }
-    };
-    match missing(alloc, &picked.characters, &picked.glyphs) {
-        Ok(found) => Some(found),
-        Err(_) => None,
-    }
 }

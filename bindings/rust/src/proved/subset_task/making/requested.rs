@@ -3,30 +3,52 @@
 
 use crate::rattle::prelude::{IteratorExt, Vec};
 
-use crate::proved::cmap::{find_subtable, glyphs_of, Subtable};
 use crate::proved::font_reasons::count_glyphs;
 use crate::proved::subset_task::refusals::failure::Failure;
-use crate::proved::subset_task::task::RequestedGlyphs;
+use crate::proved::subset_task::task::{RequestedGlyphs, Requests};
 use crate::proved::subsetter::{Error, Tag};
 use crate::proved::subsetter_sfnt::directory::{kind_at, table};
+use crate::proved::text_glyphs::{find_source, glyphs_of, is_entry, read_text, Entry, TextSource};
 use crate::rattle::alloc::{AllocError, Global};
 
-/// The glyphs to keep, and the characters that they stand for, where a text or characters are given.
+/// The glyphs to keep, one after another, and the characters that request them.
 pub struct Picked {
-    pub characters: Vec<char>,
+    /// The old numbers.
     pub glyphs: Vec<u16>,
+    /// The character of each, if it is requested by one.
+    pub characters: Vec<Option<char>>,
+    /// The texts of all, one after another.
+    pub text: Vec<char>,
+    /// How many characters of that each has.
+    pub lengths: Vec<usize>,
+    /// The characters that the face lacks, in order.
+    pub missing: Vec<char>,
 }
 
-/// The table of a face's `cmap` by which Unicode characters have glyphs.
-fn find_mapping(file: &[u8], index: u32) -> Option<Subtable<'_>> {
-    let cmap = table(file, index, Tag::new(b"cmap"))?;
-    find_subtable(cmap)
+impl Picked {
+    /// No glyphs.
+    fn new(alloc: Global) -> Picked {
+        Picked {
+            glyphs: Vec::new(alloc),
+            characters: Vec::new(alloc),
+            text: Vec::new(alloc),
+            lengths: Vec::new(alloc),
+            missing: Vec::new(alloc),
+        }
+    }
+
+    /// Adds glyphs.
+    fn append(&mut self, more: &Picked) -> Result<(), AllocError> {
+        self.glyphs.extend_from_slice(&more.glyphs)?;
+        self.characters.extend_from_slice(&more.characters)?;
+        self.text.extend_from_slice(&more.text)?;
+        self.lengths.extend_from_slice(&more.lengths)?;
+        self.missing.extend_from_slice(&more.missing)?;
+        Ok(())
+    }
 }
 
-/// The characters of a text.
-fn characters_of(alloc: Global, text: &str) -> Result<Vec<char>, AllocError> {
-    text.chars().collect_with(alloc)
-}
+// ---- by number
 
 /// So many glyphs, from 0 on.
 pub fn first_glyphs(alloc: Global, count: u16) -> Result<Vec<u16>, AllocError> {
@@ -35,6 +57,173 @@ pub fn first_glyphs(alloc: Global, count: u16) -> Result<Vec<u16>, AllocError> {
         glyphs.push(glyph)?;
     }
     Ok(glyphs)
+}
+
+/// No character for each glyph.
+fn no_characters(alloc: Global, glyphs: &[u16]) -> Result<Vec<Option<char>>, AllocError> {
+    glyphs.iter().map(|_| None).collect_with(alloc)
+}
+
+/// No text for each glyph.
+fn no_lengths(alloc: Global, glyphs: &[u16]) -> Result<Vec<usize>, AllocError> {
+    glyphs.iter().map(|_| 0).collect_with(alloc)
+}
+
+/// Glyphs that are requested by number.
+fn bare(alloc: Global, glyphs: Vec<u16>) -> Result<Picked, AllocError> {
+    let characters = no_characters(alloc, &glyphs)?;
+    let lengths = no_lengths(alloc, &glyphs)?;
+    Ok(Picked {
+        glyphs,
+        characters,
+        text: Vec::new(alloc),
+        lengths,
+        missing: Vec::new(alloc),
+    })
+}
+
+// ---- by a text
+
+/// The characters of a text.
+fn characters_of(alloc: Global, text: &str) -> Result<Vec<char>, AllocError> {
+    text.chars().collect_with(alloc)
+}
+
+/// The text of an entry.
+fn part(text: &[char], entry: Entry) -> &[char] {
+    if entry.start <= entry.end && entry.end <= text.len() {
+        &text[entry.start..entry.end]
+    } else {
+        &[]
+    }
+}
+
+/// The texts of entries, one after another.
+fn texts_of(alloc: Global, text: &[char], entries: &[Entry]) -> Result<Vec<char>, AllocError> {
+    let mut texts = Vec::with_capacity(alloc, text.len())?;
+    let mut rest = entries;
+    while let [entry, behind @ ..] = rest {
+        texts.extend_from_slice(part(text, *entry))?;
+        rest = behind;
+    }
+    Ok(texts)
+}
+
+/// How many characters each of these has.
+fn lengths_of(alloc: Global, text: &[char], entries: &[Entry]) -> Result<Vec<usize>, AllocError> {
+    entries
+        .iter()
+        .map(|entry| part(text, *entry).len())
+        .collect_with(alloc)
+}
+
+/// The glyphs of entries.
+fn glyphs_in(alloc: Global, entries: &[Entry]) -> Result<Vec<u16>, AllocError> {
+    entries.iter().map(|entry| entry.glyph).collect_with(alloc)
+}
+
+/// The character of each entry of a text.
+fn entry_characters(alloc: Global, text: &[char]) -> Result<Vec<Option<char>>, AllocError> {
+    text.iter()
+        .copied()
+        .filter(|c| is_entry(*c))
+        .map(|c| Some(c))
+        .collect_with(alloc)
+}
+
+/// The character at a place of a text.
+fn character_at(text: &[char], place: usize) -> char {
+    if place < text.len() {
+        text[place]
+    } else {
+        '\0'
+    }
+}
+
+/// The characters at places of a text.
+fn characters_at(alloc: Global, text: &[char], places: &[usize]) -> Result<Vec<char>, AllocError> {
+    places
+        .iter()
+        .map(|place| character_at(text, *place))
+        .collect_with(alloc)
+}
+
+/// The glyphs of a text.
+fn of_text(alloc: Global, source: &TextSource<'_>, text: &[char]) -> Result<Picked, AllocError> {
+    let read = read_text(alloc, source, text)?;
+    let glyphs = glyphs_in(alloc, &read.entries)?;
+    let characters = entry_characters(alloc, text)?;
+    let texts = texts_of(alloc, text, &read.entries)?;
+    let lengths = lengths_of(alloc, text, &read.entries)?;
+    let missing = characters_at(alloc, text, &read.missing)?;
+    Ok(Picked {
+        glyphs,
+        characters,
+        text: texts,
+        lengths,
+        missing,
+    })
+}
+
+// ---- by characters
+
+/// The characters whose glyph is 0.
+fn lacking(alloc: Global, characters: &[char], glyphs: &[u16]) -> Result<Vec<char>, AllocError> {
+    let mut found = Vec::new(alloc);
+    let mut rest = characters;
+    let mut left = glyphs;
+    while let [character, behind @ ..] = rest {
+        let (glyph, others) = match left {
+            [glyph, others @ ..] => (glyph, others),
+            _ => {
+                return Ok(found);
+            }
+        };
+        if *glyph == 0 {
+            found.push(*character)?;
+        }
+        rest = behind;
+        left = others;
+    }
+    Ok(found)
+}
+
+/// Each character.
+fn each_character(alloc: Global, characters: &[char]) -> Result<Vec<Option<char>>, AllocError> {
+    characters.iter().map(|c| Some(*c)).collect_with(alloc)
+}
+
+/// A text of one character for each.
+fn each_length(alloc: Global, characters: &[char]) -> Result<Vec<usize>, AllocError> {
+    characters.iter().map(|_| 1).collect_with(alloc)
+}
+
+/// The glyphs of characters, each by itself.
+fn of_characters(
+    alloc: Global,
+    source: &TextSource<'_>,
+    given: &[char],
+) -> Result<Picked, AllocError> {
+    let glyphs = glyphs_of(alloc, &source.table, given)?;
+    let missing = lacking(alloc, given, &glyphs)?;
+    let characters = each_character(alloc, given)?;
+    let lengths = each_length(alloc, given)?;
+    let text = Vec::from_slice(alloc, given)?;
+    Ok(Picked {
+        glyphs,
+        characters,
+        text,
+        lengths,
+        missing,
+    })
+}
+
+// ---- of a face
+
+/// The tables of a face's `cmap` by which a text is read.
+fn face_source(file: &[u8], index: u32) -> Option<TextSource<'_>> {
+    let cmap = table(file, index, Tag::new(b"cmap"))?;
+    find_source(cmap)
 }
 
 /// Why a table isn't found: the file is no font, or else this.
@@ -53,10 +242,7 @@ fn no_memory(_error: AllocError) -> Failure {
 /// The glyphs that are listed.
 fn pick_these(alloc: Global, given: &[u16]) -> Result<Picked, Failure> {
     let glyphs = Vec::from_slice(alloc, given).map_err(no_memory)?;
-    Ok(Picked {
-        characters: Vec::new(alloc),
-        glyphs,
-    })
+    bare(alloc, glyphs).map_err(no_memory)
 }
 
 /// Every glyph of the face.
@@ -68,23 +254,19 @@ fn pick_all(alloc: Global, font: &[u8], index: u32) -> Result<Picked, Failure> {
         }
     };
     let glyphs = first_glyphs(alloc, count).map_err(no_memory)?;
-    Ok(Picked {
-        characters: Vec::new(alloc),
-        glyphs,
-    })
+    bare(alloc, glyphs).map_err(no_memory)
 }
 
 /// The glyphs of a text's characters.
 fn pick_by_text(alloc: Global, font: &[u8], index: u32, text: &str) -> Result<Picked, Failure> {
-    let mapping = match find_mapping(font, index) {
-        Some(mapping) => mapping,
+    let source = match face_source(font, index) {
+        Some(source) => source,
         _ => {
             return Err(unless_no_font(font, Failure::NoMapping));
         }
     };
     let characters = characters_of(alloc, text).map_err(no_memory)?;
-    let glyphs = glyphs_of(alloc, &mapping, &characters).map_err(no_memory)?;
-    Ok(Picked { characters, glyphs })
+    of_text(alloc, &source, &characters).map_err(no_memory)
 }
 
 /// The glyphs of characters.
@@ -94,22 +276,17 @@ fn pick_by_characters(
     index: u32,
     given: &[char],
 ) -> Result<Picked, Failure> {
-    let mapping = match find_mapping(font, index) {
-        Some(mapping) => mapping,
+    let source = match face_source(font, index) {
+        Some(source) => source,
         _ => {
             return Err(unless_no_font(font, Failure::NoMapping));
         }
     };
-    let characters = Vec::from_slice(alloc, given).map_err(no_memory)?;
-    let glyphs = glyphs_of(alloc, &mapping, &characters).map_err(no_memory)?;
-    Ok(Picked { characters, glyphs })
+    of_characters(alloc, &source, given).map_err(no_memory)
 }
 
-/// The glyphs to keep of a font.
-///
-/// `NoMapping` where a text or characters are given and the face has no `cmap` for Unicode; `Error` where every glyph is
-/// requested and the face has no count of them, where the file is no font by its first bytes, or where memory ran out.
-pub fn pick(
+/// The glyphs of one request.
+fn pick_one(
     alloc: Global,
     font: &[u8],
     index: u32,
@@ -120,5 +297,58 @@ pub fn pick(
         RequestedGlyphs::Every => pick_all(alloc, font, index),
         RequestedGlyphs::ByText(text) => pick_by_text(alloc, font, index, text),
         RequestedGlyphs::ByCharacters(given) => pick_by_characters(alloc, font, index, given),
+    }
+}
+
+/// Adds glyphs.
+fn push_picked(picked: &mut Picked, more: &Picked) -> Result<(), Failure> {
+    match picked.append(more) {
+        Ok(()) => Ok(()),
+        Err(_) => Err(Failure::Error(Error::OutOfMemory)),
+    }
+}
+
+/// The glyphs of requests, one after another.
+fn pick_each(
+    alloc: Global,
+    font: &[u8],
+    index: u32,
+    asked: &[RequestedGlyphs<'_>],
+) -> Result<Picked, Failure> {
+    let mut picked = Picked::new(alloc);
+    let mut rest = asked;
+    while let [one, behind @ ..] = rest {
+        let more = pick_one(alloc, font, index, one)?;
+        push_picked(&mut picked, &more)?;
+        rest = behind;
+    }
+    Ok(picked)
+}
+
+/// The glyphs, unless the face lacks a character and none may be lacking.
+fn unless_missing(is_strict: bool, picked: Picked) -> Result<Picked, Failure> {
+    if is_strict && picked.missing.len() > 0 {
+        return Err(Failure::MissingCharacters);
+    }
+    Ok(picked)
+}
+
+/// The glyphs to keep of a font.
+///
+/// `NoMapping` where a text or characters are given and the face has no `cmap` of a kind that is read; `MissingCharacters` where
+/// it lacks one of them and none may be lacking; `Error` where every glyph is requested and the face has no count of them, where
+/// the file is no font by its first bytes, or where memory ran out.
+pub fn pick(
+    alloc: Global,
+    font: &[u8],
+    index: u32,
+    asked: &Requests<'_>,
+) -> Result<Picked, Failure> {
+    match pick_each(alloc, font, index, asked.pieces) {
+        Ok(picked) => match unless_missing(asked.is_strict, picked) {
+            Ok(picked) => Ok(picked),
+            Err(failure) => Err(failure),
+        },
+        Err(failure) => Err(failure),
     }
 }

@@ -15,18 +15,20 @@ pub enum Failure {
     Error(Error),
     /// The face has no table by which Unicode characters have glyphs.
     NoMapping,
+    /// The face has no glyph for one of the characters, and may lack none.
+    MissingCharacters,
     /// The face has no named instance of the requested name.
     NoInstance,
     /// The font's maker doesn't permit to embed it, and the user holds no rights.
     NotPermitted(Permission),
     /// The arguments after the program's name aren't as the usage says.
     Usage,
-    /// The file of glyphs isn't a list of them.
-    List,
+    /// The file of glyphs of this request isn't a list of them.
+    List(usize),
     /// The source can't be read. The text wants the file's name after it.
     Read,
-    /// The list of glyphs can't be read. The text wants the file's name after it.
-    ReadList,
+    /// The list of glyphs of this request can't be read. The text wants the file's name after it.
+    ReadList(usize),
     /// The output can't be written. The text wants the file's name after it.
     Write,
     /// The PDF can't be written. The text wants the file's name after it.
@@ -42,12 +44,13 @@ impl fmt::Display for Failure {
         match self {
             Failure::Error(error) => write!(f, "{error}"),
             Failure::NoMapping => f.write_str("no Unicode cmap in font"),
+            Failure::MissingCharacters => f.write_str("characters without a glyph"),
             Failure::NoInstance => f.write_str("no such instance in font"),
             Failure::NotPermitted(_) => f.write_str("embedding not permitted"),
-            Failure::Usage | Failure::List => {
+            Failure::Usage | Failure::List(_) => {
                 f.write_str("usage: subset_font IN OUT INDEX GID[,GID..]")
             }
-            Failure::Read | Failure::ReadList => f.write_str("cannot read"),
+            Failure::Read | Failure::ReadList(_) => f.write_str("cannot read"),
             Failure::Write | Failure::WritePdf => f.write_str("cannot write"),
             Failure::Output => f.write_str("cannot write standard output"),
             Failure::LongAnswer => f.write_str("the answer has more than 64 MiB"),
@@ -69,9 +72,9 @@ impl Failure {
         match self {
             Failure::Error(_) => 1,
             Failure::NoMapping | Failure::NoInstance | Failure::NotPermitted(_) => 1,
-            Failure::LongAnswer => 1,
-            Failure::Usage | Failure::List => 2,
-            Failure::Read | Failure::ReadList => 3,
+            Failure::MissingCharacters | Failure::LongAnswer => 1,
+            Failure::Usage | Failure::List(_) => 2,
+            Failure::Read | Failure::ReadList(_) => 3,
             Failure::Write | Failure::WritePdf | Failure::Output => 3,
         }
     }
@@ -109,11 +112,19 @@ pub fn list_file(glyphs: &Glyphs) -> Option<&str> {
     }
 }
 
+/// The same of the request of a place.
+pub fn file_at(glyphs: &[Glyphs], place: usize) -> Option<&str> {
+    match glyphs.get(place) {
+        Some(one) => list_file(one),
+        None => None,
+    }
+}
+
 /// The name of the file that a failure is of, if it is of one.
 pub fn file_by<'a>(failure: &Failure, job: &'a Job) -> Option<&'a str> {
     match failure {
         Failure::Read => Some(job.input.as_str()),
-        Failure::ReadList => list_file(&job.glyphs),
+        Failure::ReadList(place) => file_at(&job.glyphs, *place),
         Failure::Write => given(&job.output),
         Failure::WritePdf => pdf_file(job),
         _ => None,

@@ -9,10 +9,11 @@ use crate::proved::subset_task::refusals::failure::Failure;
 use crate::proved::subset_task::refusals::reason::{unread, Noted};
 use crate::proved::subset_task::streams::{open_source, MOST_INPUT};
 use crate::proved::subset_task::task::{
-    at_of, extras_of, form_of, instance_of, limits_of, pdf_of, Plan, RequestedGlyphs, Task,
+    at_of, extras_of, form_of, instance_of, limits_of, pdf_of, Plan, RequestedGlyphs, Requests,
+    Task,
 };
 use crate::proved::subsetter::{Error, Options};
-use crate::rattle::alloc::Global;
+use crate::rattle::alloc::{AllocError, Global};
 use crate::rattle::io::ErrorKind;
 use crate::rattle::rt::{Env, Files};
 use crate::rattle::{env, io};
@@ -34,9 +35,10 @@ pub fn read_arguments<R: Env + AllocGlobal>(rt: &R) -> Result<Vec<String>, Failu
     }
 }
 
-/// What a file requests. Its text is kept.
+/// What the file of a place requests. Its text is kept.
 fn read_list_file<R: Files + Input + AllocGlobal>(
     rt: &R,
+    place: usize,
     kind: FileKind,
     name: &str,
     text: &mut Vec<u8>,
@@ -46,34 +48,68 @@ fn read_list_file<R: Files + Input + AllocGlobal>(
         Ok(file) => Noted::new(file),
         Err(error) => {
             *reason = Some(error);
-            return Err(Failure::ReadList);
+            return Err(Failure::ReadList(place));
         }
     };
     match read_whole(rt.alloc(), &mut file, 0) {
         Ok(whole) => *text = whole,
         Err(_) => {
             *reason = unread(file.reason());
-            return Err(Failure::ReadList);
+            return Err(Failure::ReadList(place));
         }
     }
     match read_list(rt.alloc(), kind, text) {
         Ok(list) => Ok(list),
-        Err(ArgsError::Usage) => Err(Failure::List),
+        Err(ArgsError::Usage) => Err(Failure::List(place)),
         Err(ArgsError::OutOfMemory) => Err(Failure::Error(Error::OutOfMemory)),
     }
 }
 
 /// The list of glyphs, where a file has it. The file's text is kept.
-pub fn list_of<R: Files + Input + AllocGlobal>(
+fn list_of<R: Files + Input + AllocGlobal>(
     rt: &R,
+    place: usize,
     glyphs: &Glyphs,
     text: &mut Vec<u8>,
     reason: &mut Option<io::Error>,
 ) -> Result<Option<GlyphList>, Failure> {
     match glyphs {
-        Glyphs::InFile(kind, name) => Ok(Some(read_list_file(rt, *kind, name, text, reason)?)),
+        Glyphs::InFile(kind, name) => {
+            Ok(Some(read_list_file(rt, place, *kind, name, text, reason)?))
+        }
         _ => Ok(None),
     }
+}
+
+/// Adds a list.
+fn push_list(
+    lists: &mut Vec<Option<GlyphList>>,
+    list: Option<GlyphList>,
+) -> Result<(), AllocError> {
+    lists.push(list)?;
+    Ok(())
+}
+
+/// The lists of glyphs, one for each request that a file has. The text of the last file that was read is kept.
+pub fn lists_of<R: Files + Input + AllocGlobal>(
+    rt: &R,
+    glyphs: &[Glyphs],
+    text: &mut Vec<u8>,
+    reason: &mut Option<io::Error>,
+) -> Result<Vec<Option<GlyphList>>, Failure> {
+    let mut lists = Vec::new(rt.alloc());
+    for place in 0..glyphs.len() {
+        match list_of(rt, place, &glyphs[place], text, reason) {
+            Ok(list) => push_list(&mut lists, list).map_err(no_memory)?,
+            Err(failure) => return Err(failure),
+        }
+    }
+    Ok(lists)
+}
+
+/// What is answered where a request for memory was refused.
+fn no_memory(_error: AllocError) -> Failure {
+    Failure::Error(Error::OutOfMemory)
 }
 
 /// Which glyphs a file requests.
@@ -86,7 +122,7 @@ fn requested_by(list: &GlyphList) -> RequestedGlyphs<'_> {
     }
 }
 
-/// Which glyphs are kept.
+/// Which glyphs are kept by one request.
 fn requested_of<'a>(glyphs: &'a Glyphs, list: &'a Option<GlyphList>) -> RequestedGlyphs<'a> {
     match (glyphs, list) {
         (Glyphs::Listed(given), _) => RequestedGlyphs::These(given),
@@ -98,10 +134,45 @@ fn requested_of<'a>(glyphs: &'a Glyphs, list: &'a Option<GlyphList>) -> Requeste
     }
 }
 
-/// What a job requests to be made of the font.
-fn task_of<'a>(job: &'a Job, list: &'a Option<GlyphList>) -> Task<'a> {
+/// Adds a request.
+fn push_requested<'a>(
+    requested: &mut Vec<RequestedGlyphs<'a>>,
+    one: RequestedGlyphs<'a>,
+) -> Result<(), AllocError> {
+    requested.push(one)?;
+    Ok(())
+}
+
+/// Which glyphs are kept, one request after another.
+pub fn each_requested<'a>(
+    alloc: Global,
+    glyphs: &'a [Glyphs],
+    lists: &'a [Option<GlyphList>],
+) -> Result<Vec<RequestedGlyphs<'a>>, Failure> {
+    let mut requested = Vec::new(alloc);
+    let mut rest = glyphs;
+    let mut left = lists;
+    while let [one, behind @ ..] = rest {
+        let (list, others) = match left {
+            [list, others @ ..] => (list, others),
+            _ => {
+                return Ok(requested);
+            }
+        };
+        push_requested(&mut requested, requested_of(one, list)).map_err(no_memory)?;
+        rest = behind;
+        left = others;
+    }
+    Ok(requested)
+}
+
+/// What a job requests to be made of the font, by its requests of glyphs.
+fn task_of<'a>(job: &'a Job, pieces: &'a [RequestedGlyphs<'a>]) -> Task<'a> {
     Task {
-        requested: requested_of(&job.glyphs, list),
+        requested: Requests {
+            pieces,
+            is_strict: job.switches.strict,
+        },
         index: job.index,
         options: Options {
             limits: limits_of(job.limits),
@@ -114,9 +185,9 @@ fn task_of<'a>(job: &'a Job, list: &'a Option<GlyphList>) -> Task<'a> {
 }
 
 /// The same at the coordinates of a named instance, if one is requested.
-pub fn plan_of<'a>(job: &'a Job, list: &'a Option<GlyphList>) -> Plan<'a> {
+pub fn plan_of<'a>(job: &'a Job, pieces: &'a [RequestedGlyphs<'a>]) -> Plan<'a> {
     Plan {
-        task: task_of(job, list),
+        task: task_of(job, pieces),
         instance: instance_of(&job.position),
         verbose: job.switches.verbose,
         pdf: pdf_of(&job.pdf),

@@ -50,14 +50,44 @@ fn needed_table(asked: &RequestedGlyphs<'_>, widths: bool) -> Option<Tag> {
     }
 }
 
-/// What the tables show of a font that is refused by an error.
-fn reason_in(error: Error, font: &[u8], task: &Task<'_>) -> Option<Hint> {
+/// What the tables show of a font that is refused by an error, for the glyphs of one request.
+fn reason_for(
+    error: Error,
+    font: &[u8],
+    index: u32,
+    widths: bool,
+    asked: &RequestedGlyphs<'_>,
+) -> Option<Hint> {
     let request = Request {
-        index: task.index,
-        glyphs: listed(&task.requested),
-        needs: needed_table(&task.requested, task.widths),
+        index,
+        glyphs: listed(asked),
+        needs: needed_table(asked, widths),
     };
     shown(find_reason(error, font, request))
+}
+
+/// The same for the first request for which they show anything.
+fn first_reason(
+    error: Error,
+    font: &[u8],
+    index: u32,
+    widths: bool,
+    asked: &[RequestedGlyphs<'_>],
+) -> Option<Hint> {
+    let mut rest = asked;
+    while let [one, behind @ ..] = rest {
+        let hint = reason_for(error, font, index, widths, one);
+        if hint.is_some() {
+            return hint;
+        }
+        rest = behind;
+    }
+    None
+}
+
+/// What the tables show of a font that is refused by an error.
+fn reason_in(error: Error, font: &[u8], task: &Task<'_>) -> Option<Hint> {
+    first_reason(error, font, task.index, task.widths, task.requested.pieces)
 }
 
 /// Whether a face has outlines of `CFF2`.
