@@ -177,7 +177,7 @@ fn is_divisible_glyph(choice: &Choice<'_>, glyph: u16, is_still: bool) -> bool
     ensures { result ≡ ((not (glyph == 0) && not (not (get_or choice.now.inked.now glyph true) && is_still)) && is_part choice.now (record { glyph = glyph; x = pos 0; y = pos 0 })) }
 {
     glyph != 0
-        && !(!has_ink(choice.inked, glyph) && is_still)
+        && (has_ink(choice.inked, glyph) || !is_still)
         && part_at(choice, glyph, 0, 0).is_some()
 }
 

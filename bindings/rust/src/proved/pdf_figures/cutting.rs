@@ -147,7 +147,7 @@ fn push_cut<'a>(
 /// Whether a glyph of the font can be cut: it can be a part, and it isn't glyph 0, nor one without ink and advance.
 fn is_divisible_glyph(choice: &Choice<'_>, glyph: u16, is_still: bool) -> bool {
     glyph != 0
-        && !(!has_ink(choice.inked, glyph) && is_still)
+        && (has_ink(choice.inked, glyph) || !is_still)
         && part_at(choice, glyph, 0, 0).is_some()
 }
 
