@@ -965,7 +965,7 @@ static void try_kinds(void)
         check(subsetter_glyph_kinds(font, font_size, face, glyphs, count, kinds, count) == wanted, "status", name);
         for (size_t i = 0; wanted == 0 && i < count; i++)
             check(kinds[i] == (found = bits_of(&words)) && subsetter_is_unseen(kinds[i]) == (found > 65536), "kinds", name);
-        check(kinds[wanted == 0 ? count : 0] == 0xA5A5A5A5, "what is behind them", name);
+        check(kinds[wanted == 0 ? count : 0] == 0xA5A5A5A5, "what is after them", name);
         if (wanted != 0 || count == 0)
             continue;
         memset(kinds, FILLED, sizeof kinds);

@@ -8,13 +8,11 @@ use Rattle.glyph_kinds.specs.Strikes.{any_strike}
 
 -- how far a number of so many bytes is below the one at another place
 abbrev pub gap : List ℕ → ℕ → ℕ → ℕ → Option ℕ
-gap table at behind width = do
+gap table at next width = do
   from ← number table at width
-  to ← number table behind width
+  to ← number table next width
   Some (to - from)
 
--- formats 1 and 3: sbitOffsets at byte 8, of four bytes or of two, one more than the range has glyphs
--- formats 2 and 5: imageSize at byte 8
 -- format 4: numGlyphs at byte 8, pairs of glyphID and sbitOffset at byte 12, one more than that; they ascend
 unfoldable pub paired_size : List ℕ → ℕ → Option ℕ
 paired_size subtable g = do
@@ -24,7 +22,7 @@ paired_size subtable g = do
   size ← gap subtable (14 + 4 * k) (18 + 4 * k) 2
   if found == g then Some size else None
 
--- format 5: numGlyphs at byte 20, glyphIdArray at byte 24, which ascends
+-- format 5: imageSize at byte 8, numGlyphs at byte 20, glyphIdArray at byte 24, which ascends
 unfoldable pub listed_size : List ℕ → ℕ → Option ℕ
 listed_size subtable g = do
   size ← number subtable 8 4
@@ -33,7 +31,8 @@ listed_size subtable g = do
   found ← number subtable (24 + 2 * k) 2
   if found == g then Some size else None
 
--- how many bytes the image of a glyph has by an index subtable of a format, whose range has the glyph at a place
+-- how many bytes the image of a glyph has by an index subtable of a format, whose range has the glyph at a place:
+-- 1 and 3 have sbitOffsets at byte 8, of four bytes or of two, one more than the range has glyphs; 2 and 5 have imageSize at byte 8
 abbrev pub image_size : ℕ → List ℕ → ℕ → ℕ → Option ℕ
 image_size format subtable place g =
     if format == 1 then gap subtable (8 + 4 * place) (12 + 4 * place) 4
@@ -42,7 +41,7 @@ image_size format subtable place g =
     else (if format == 4 then paired_size subtable g
     else (if format == 5 then listed_size subtable g else None))))
 
--- "IndexSubHeader": indexFormat stands at byte 0, imageFormat at byte 2; an image of no bytes is none
+-- "IndexSubHeader": indexFormat is at byte 0, imageFormat at byte 2; an image of no bytes is none
 unfoldable pub image_in : List ℕ → ℕ → ℕ → Option ℕ
 image_in subtable place g = do
   format ← number subtable 0 2
@@ -50,7 +49,7 @@ image_in subtable place g = do
   size ← image_size format subtable place g
   if size == 0 then None else Some image
 
--- "IndexSubtableRecord": firstGlyphIndex, lastGlyphIndex, and where the subtable stands in the list; records of eight bytes, whose ranges ascend
+-- "IndexSubtableRecord": firstGlyphIndex, lastGlyphIndex, and where the subtable is in the list; records of eight bytes, whose ranges ascend
 unfoldable pub image_by : List ℕ → ℕ → ℕ → Option ℕ
 image_by list n g = do
   k ← last_up_to list 0 8 2 n g
@@ -60,7 +59,7 @@ image_by list n g = do
   subtable ← from_offset list offset
   if nat_le g last then image_in subtable (g - first) g else None
 
--- "BitmapSize record", of 48 bytes from byte 8 on: indexSubtableListOffset stands at byte 0, numberOfIndexSubtables at byte 8. The format of a glyph's image in a strike
+-- "BitmapSize record", of 48 bytes from byte 8 on: indexSubtableListOffset is at byte 0, numberOfIndexSubtables at byte 8. The format of a glyph's image in a strike
 unfoldable pub image_format : List ℕ → ℕ → ℕ → Option ℕ
 image_format table k g = do
   offset ← number table (8 + 48 * k) 4

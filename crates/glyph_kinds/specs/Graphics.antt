@@ -5,7 +5,7 @@ use Rattle.subsetter_base.specs.Bytes.{number, from_offset, between_offsets}
 use Rattle.subsetter_base.specs.Options.{◌>>=◌}
 use Rattle.glyph_kinds.specs.Strikes.{any_strike}
 
--- graphicType of a glyph's data in a strike, at byte 4 of it: strikeOffsets stand at byte 8, and glyphDataOffsets at byte 4 of the strike, one more than the font has glyphs
+-- graphicType of a glyph's data in a strike, at byte 4 of it: strikeOffsets are at byte 8, and glyphDataOffsets at byte 4 of the strike, one more than the font has glyphs
 unfoldable pub graphic_type : List ℕ → ℕ → ℕ → ℕ → Option ℕ
 graphic_type sbix count k g = do
   offset ← number sbix (8 + 4 * k) 4

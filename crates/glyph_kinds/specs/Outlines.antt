@@ -63,7 +63,7 @@ is_end [] = true
 is_end (b ∷ []) = b == 14
 is_end (b ∷ c ∷ bytes) = false
 
--- it ends at once, or behind a number, which is a width
+-- it ends at once, or after a number, which is a width
 abbrev pub is_bare : List ℕ → Bool
 is_bare charstring = is_end charstring || option_map_or (λ read. is_end read.1) (number_at charstring) false
 

@@ -11,6 +11,6 @@ any_from has (suc n) k = if has k then true else any_from has n (k + 1)
 abbrev pub most : ℕ → ℕ
 most n = if nat_lt n 1024 then n else 1024
 
--- how many strikes there are stands at byte 4
+-- how many strikes there are is at byte 4
 abbrev pub any_strike : (ℕ → Bool) → List ℕ → Bool
 any_strike has table = option_map_or (λ n. any_from has (most n) 0) (number table 4 4) false

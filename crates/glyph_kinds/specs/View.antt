@@ -1,4 +1,4 @@
--- What the code's values stand for.
+-- What the code's values mean.
 use Rattle.std.specs.Option.{option_copied, option_map}
 use Rattle.subsetter_cffdata.specs.Indexes.IndexView.{items}
 use Rattle.glyph_kinds.specs.Kinds.{Tables}

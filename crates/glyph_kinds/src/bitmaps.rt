@@ -13,7 +13,7 @@ use text_glyphs::{Records, last_up_to, number_in};
 const BITMAP_SIZES: usize = 8;
 /// How many bytes each has.
 const BITMAP_SIZE_SIZE: usize = 48;
-/// numberOfIndexSubtables of a record, behind indexSubtableListOffset and eight bytes in all; both have four.
+/// numberOfIndexSubtables of a record, which begins with indexSubtableListOffset; both have four bytes.
 const NUMBER_OF_INDEX_SUBTABLES: usize = 8;
 /// IndexSubtableRecords of a list: firstGlyphIndex, lastGlyphIndex and indexSubtableOffset.
 const INDEX_SUBTABLES: Records = Records {
@@ -25,7 +25,7 @@ const INDEX_SUBTABLES: Records = Records {
 const LAST_GLYPH_INDEX: usize = 2;
 
 const INDEX_SUBTABLE_OFFSET: usize = 4;
-/// imageFormat of an index subtable, behind indexFormat.
+/// imageFormat of an index subtable, after indexFormat.
 const IMAGE_FORMAT: usize = 2;
 /// sbitOffsets of the formats 1 and 3, imageSize of the formats 2 and 5, numGlyphs of format 4.
 const BODY: usize = 8;
@@ -47,12 +47,12 @@ const GLYPHS: Records = Records {
 };
 
 /// How far a number of at most four bytes is below the one at another place.
-fn gap(table: &[u8], at: usize, behind: usize, width: usize) -> Option<u32>
+fn gap(table: &[u8], at: usize, next: usize, width: usize) -> Option<u32>
     requires { width ≤ 4 }
-    ensures { result ≡ gap table.now at behind width }
+    ensures { result ≡ gap table.now at next width }
 {
     let from = number_in(table, at, width)?;
-    let to = number_in(table, behind, width)?;
+    let to = number_in(table, next, width)?;
     Some(to.saturating_sub(from))
 }
 

@@ -13,13 +13,13 @@ const NUM_BASE_GLYPH_RECORDS: usize = 2;
 const BASE_GLYPH_RECORDS_OFFSET: usize = 4;
 /// baseGlyphListOffset, four bytes.
 const BASE_GLYPH_LIST_OFFSET: usize = 14;
-/// The BaseGlyphPaintRecords of a BaseGlyphList, behind four bytes of their number.
+/// The BaseGlyphPaintRecords of a BaseGlyphList, after four bytes of their number.
 const BASE_GLYPH_PAINT_RECORDS: usize = 4;
 /// How many bytes a record of a base glyph has.
 const BASE_GLYPH_RECORD_SIZE: usize = 6;
 /// svgDocumentListOffset of `SVG `, four bytes.
 const SVG_DOCUMENT_LIST_OFFSET: usize = 2;
-/// The SVGDocumentRecords, behind two bytes of their number: startGlyphID, endGlyphID and ten bytes more.
+/// The SVGDocumentRecords, after two bytes of their number: startGlyphID, endGlyphID and ten bytes more.
 const SVG_DOCUMENTS: Records = Records {
     at: 2,
     size: 12,
@@ -28,7 +28,7 @@ const SVG_DOCUMENTS: Records = Records {
 
 const END_GLYPH_ID: usize = 2;
 
-/// The part of a table that the offset at a place leads to; 0 stands for none.
+/// The part of a table that the offset at a place leads to; 0 is none.
 fn part(table: &[u8], at: usize) -> Option<&[u8]>
     ensures { option_copied result ≡ part table.now at }
 {

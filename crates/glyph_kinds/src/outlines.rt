@@ -123,7 +123,7 @@ fn is_end(charstring: &[u8]) -> bool
     }
 }
 
-/// Whether a charstring ends at once, or behind a number.
+/// Whether a charstring ends at once, or after a number.
 fn is_bare(charstring: &[u8]) -> bool
     ensures { result ≡ is_bare charstring.now }
 {

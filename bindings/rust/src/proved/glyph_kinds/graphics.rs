@@ -9,7 +9,7 @@ use crate::proved::text_glyphs::number_in;
 const STRIKE_OFFSETS: usize = 8;
 /// glyphDataOffsets of a strike, four bytes each.
 const GLYPH_DATA_OFFSETS: usize = 4;
-/// graphicType of a glyph's data, behind originOffsetX and originOffsetY.
+/// graphicType of a glyph's data, after originOffsetX and originOffsetY.
 const GRAPHIC_TYPE: usize = 4;
 
 /// `png `.

@@ -101,7 +101,7 @@ fn is_end(charstring: &[u8]) -> bool {
     }
 }
 
-/// Whether a charstring ends at once, or behind a number.
+/// Whether a charstring ends at once, or after a number.
 fn is_bare(charstring: &[u8]) -> bool {
     if is_end(charstring) {
         return true;
