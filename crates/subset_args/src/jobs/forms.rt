@@ -98,10 +98,7 @@ fn numbers(list: &str) -> Result<Option<&str>, Mistake<'_>>
 }
 
 /// The list of glyphs behind INDEX, which options may have in its place.
-fn listed_behind<'a>(
-    are_given: bool,
-    words: &'a [String],
-) -> Result<Option<&'a str>, Mistake<'a>>
+fn listed_behind<'a>(are_given: bool, words: &'a [String]) -> Result<Option<&'a str>, Mistake<'a>>
     ensures { read_view (λ listed. option_copied listed) result ≡ listed_behind are_given (words_view words.now) }
 {
     match (are_given, words) {

@@ -109,10 +109,7 @@ fn numbers_listed<'a>(alloc: Global, list: &'a str) -> Result<Vec<Glyphs>, Unrea
 }
 
 /// Those that options request, one after another.
-fn each_requested<'a>(
-    alloc: Global,
-    sources: &[Source<'a>],
-) -> Result<Vec<Glyphs>, Unread<'a>>
+fn each_requested<'a>(alloc: Global, sources: &[Source<'a>]) -> Result<Vec<Glyphs>, Unread<'a>>
     ensures { Gives (λ v. map requested_view v.items) result (each_requested (map source_view sources.now)) }
 {
     let mut glyphs = Vec::new(alloc);

@@ -18,14 +18,7 @@ pub enum Sources<'a> {
     Three(Source<'a>, Source<'a>, Source<'a>),
     Four(Source<'a>, Source<'a>, Source<'a>, Source<'a>),
     Five(Source<'a>, Source<'a>, Source<'a>, Source<'a>, Source<'a>),
-    Six(
-        Source<'a>,
-        Source<'a>,
-        Source<'a>,
-        Source<'a>,
-        Source<'a>,
-        Source<'a>,
-    ),
+    Six(Source<'a>, Source<'a>, Source<'a>, Source<'a>, Source<'a>, Source<'a>),
 }
 
 /// A number for each of the options that request glyphs.
