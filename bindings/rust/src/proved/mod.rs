@@ -41,6 +41,8 @@ pub mod glyph_names;
 #[cfg(feature = "program")]
 pub mod late_file;
 #[cfg(feature = "variable-fonts")]
+pub mod own_choice;
+#[cfg(feature = "variable-fonts")]
 pub mod own_glyphs;
 #[cfg(feature = "variable-fonts")]
 pub mod pdf_boxes;
@@ -59,6 +61,8 @@ pub mod pdf_names;
 pub mod pdf_objects;
 #[cfg(feature = "variable-fonts")]
 pub mod pdf_operators;
+#[cfg(feature = "variable-fonts")]
+pub mod pdf_own_runs;
 #[cfg(feature = "variable-fonts")]
 pub mod pdf_runs;
 #[cfg(feature = "variable-fonts")]

@@ -1,9 +1,10 @@
 -- What is said of runs of text, of a text and of its font that are handed over, in other words.
 use Rattle.std.proofs.Common.{◌≡◌, ℕ, Bool, List, map, sym, ap, subst, ◌∙◌, ◌⊎◌, inl, inr, Result, Ok, Err, ℤ}
 use Rattle.std.specs.Prelude.{IfOk, IfErr}
+use Rattle.subsetter_base.specs.Bytes.{◌>>=◌}
 use Rattle.subsetter_base.specs.Gives.{Fails, Gives}
 use Rattle.subsetter_base.specs.declared.error.Error.{Error}
-use Rattle.subsetter_base.specs.declared.error.Error.TheVariants.{OutOfMemory}
+use Rattle.subsetter_base.specs.declared.error.Error.TheVariants.{CFFError, MalformedFont, OutOfMemory, OverflowError, SubsetError, Unimplemented, UnknownKind}
 use Rattle.subsetter_base.specs.declared.tag.Tag.{Tag}
 use Rattle.pdf_source.specs.declared.choice.FontOptions.{FontOptions}
 use Rattle.pdf_runs.specs.declared.codes.Pair.{Pair}
@@ -26,14 +27,17 @@ use Rattle.pdf_text_font.specs.declared.font.TextFont.{TextFont}
 use Rattle.text_metrics.specs.Metrics.{Metrics}
 use Rattle.own_choice.specs.Choosing.{Chosen}
 use Rattle.subsetter_text_c.specs.declared.items.TextItem.{TextItem}
+use Rattle.subsetter_text_c.specs.declared.own.TextOwn.{TextOwn}
+use Rattle.subsetter_text_c.specs.declared.own.TextPart.{TextPart}
+use Rattle.subsetter_text_c.specs.declared.pairs.TextPair.{TextPair}
 use Rattle.subsetter_text_c.specs.declared.shown.ShownRun.{ShownRun}
 use Rattle.subsetter_text_c.specs.declared.units.Units.{Units}
 use Rattle.subsetter_text_c.specs.Items.{labelled_in}
 use Rattle.subsetter_text_c.specs.Own.{inks_in}
 use Rattle.subsetter_text_c.specs.Pairs.{pairs_in}
-use Rattle.subsetter_text_c.specs.Shown.{AreUnshown, IsOneShown, IsTextShown, IsTextUnshown, are_one, lists_shown}
+use Rattle.subsetter_text_c.specs.Shown.{AreUnshown, IsOneShown, IsTextShown, IsTextUnshown, Lists, are_one, lists_shown}
 use Rattle.subsetter_c.specs.Documents.Runs.{AreUnits, IsChoiceOf, IsFontOf, IsRunHanded, IsRunShownIn, IsRunUnshownIn, IsTextShownIn, IsTextUnshownIn, lists_of, refused, run_direction, run_order, shown}
-use Rattle.subsetter_c.specs.Documents.TextFonts.{HasNoTextFont, IsTextFontHandedBy, IsTextFontOf, IsTextHanded, IsTextOf, IsTextRead, at_fault, count_of, kept, kept_seen, no_font, no_room, no_text, text, unkept, whole_font}
+use Rattle.subsetter_c.specs.Documents.TextFonts.{HasNoTextFont, IsTextFontHandedBy, IsTextFontOf, IsTextHanded, IsTextOf, IsTextRead, count_of, kept, kept_seen, no_font, no_text, text, unkept, whole_font, without_own}
 use Rattle.subsetter_c.specs.Settings.{settings_of}
 use Rattle.subsetter_c.specs.declared.documents.pdf_files.ObjectsMade.{ObjectsMade}
 use Rattle.subsetter_c.specs.declared.documents.runs.PairsLeft.{PairsLeft}
@@ -43,6 +47,12 @@ use Rattle.subsetter_c.specs.declared.documents.whole.FontMade.{FontMade}
 use Rattle.subsetter_c.specs.declared.settings.Coordinate.{Coordinate}
 
 -- ---- runs
+
+abbrev lists_as : List TextPair → List TextOwn → List TextPart → Lists
+lists_as ps os qs = record { pairs = ps; own = os; parts = qs }
+
+pub lists_are : (t : TextMade) (s : ShownRun) → t.pairs.now ≡ s.pairs.items → t.own.now ≡ s.own.items → t.parts.now ≡ s.parts.items → lists_of t ≡ lists_shown s
+lists_are t s p q r = ap (λ (l : List TextPair). lists_as l t.own.now t.parts.now) p ∙ ap (λ (l : List TextOwn). lists_as s.pairs.items l t.parts.now) q ∙ ap (λ (l : List TextPart). lists_as s.pairs.items s.own.items l) r
 
 -- an answer is handed over: then what is known of it
 pub run_handed : (Is : ShownRun → Type 0) (Why : RunError → Type 0) (answer : Result ShownRun RunError) (before after : TextMade) (made : ObjectsMade) (left : PairsLeft) (status : ℕ) → IfOk answer Is → IfErr answer Why → IsRunHanded (λ s. answer ≡ Ok s) (λ e. answer ≡ Err e) before after made left status → IsRunHanded Is Why before after made left status
@@ -87,11 +97,24 @@ pub kept_as : (m : Metrics) (u : ℕ) (ms : List GlyphMetrics) (is : List Bool) 
 kept_as m u ms is p q r = ap (λ (n : ℕ). metrics_as n ms is) p ∙ ap (λ (l : List GlyphMetrics). metrics_as m.units l is) q ∙ ap (λ (l : List Bool). metrics_as m.units m.metrics l) r
 
 abbrev pub chosen_as : Metrics → List ℕ → List Bool → ℕ → Chosen
-chosen_as m as ps n = record { lines = m; advances = as; can_be_part = ps; most_parts = n }
+chosen_as m ws ps n = record { lines = m; advances = ws; can_be_part = ps; most_parts = n }
 
-pub all_as : (c : Chosen) (m : Metrics) (as : List ℕ) (ps : List Bool) (n : ℕ) → m ≡ c.lines → as ≡ c.advances → ps ≡ c.can_be_part → n ≡ c.most_parts → chosen_as m as ps n ≡ c
-all_as c m as ps n p q r s =
-    ap (λ (x : Metrics). chosen_as x as ps n) p ∙ ap (λ (x : List ℕ). chosen_as c.lines x ps n) q ∙ ap (λ (x : List Bool). chosen_as c.lines c.advances x n) r ∙ ap (λ (x : ℕ). chosen_as c.lines c.advances c.can_be_part x) s
+pub all_as : (c : Chosen) (m : Metrics) (ws : List ℕ) (ps : List Bool) (n : ℕ) → m ≡ c.lines → ws ≡ c.advances → ps ≡ c.can_be_part → n ≡ c.most_parts → chosen_as m ws ps n ≡ c
+all_as c m ws ps n p q r s =
+    ap (λ (x : Metrics). chosen_as x ws ps n) p ∙ ap (λ (x : List ℕ). chosen_as c.lines x ps n) q ∙ ap (λ (x : List Bool). chosen_as c.lines c.advances x n) r ∙ ap (λ (x : ℕ). chosen_as c.lines c.advances c.can_be_part x) s
+
+-- where there are no metrics, there is nothing to be kept
+plain_of : Result Metrics Error → Result Chosen Error
+plain_of r = r >>= (λ m. Ok (without_own m))
+
+pub fails_plain : (e : Error) (r : Result Metrics Error) → Fails e r → Fails e (r >>= (λ m. Ok (without_own m)))
+fails_plain OutOfMemory r f = tt
+fails_plain UnknownKind r f = ap plain_of f
+fails_plain MalformedFont r f = ap plain_of f
+fails_plain Unimplemented r f = ap plain_of f
+fails_plain SubsetError r f = ap plain_of f
+fails_plain OverflowError r f = ap plain_of f
+fails_plain CFFError r f = ap plain_of f
 
 -- what is kept of metrics that a reading gives
 pub gives_kept : (reading : Result Chosen Error) (m : Chosen) (r : Result TextKept Error) → reading ≡ Ok m → IfOk r (λ k. kept_seen k ≡ m) → IfErr r (λ e. e ≡ OutOfMemory) → Gives kept_seen r reading
@@ -117,5 +140,5 @@ module _ (t : TextMade) (o : FontOptions) (given : List (Tag × ℤ)) (ps : List
 
   pub no_text_font_of : (r : Result TextFont FontError) → IfErr r (λ e. (e ≡ Subset OutOfMemory) ⊎ HasTextFault (font_of t.font.now t.index o) given o count own (by_code ps) e) → IfErr r (HasNoTextFont t o)
   no_text_font_of (Ok f) h = tt
-  no_text_font_of (Err e) (inl none) = no_room none
-  no_text_font_of (Err e) (inr fault) = at_fault (record { own = own; own_are = own_are; why = there_too (λ s n l. HasTextFault (font_of t.font.now t.index o) s o n own (by_code l) e) fault })
+  no_text_font_of (Err e) (inl none) = inl none
+  no_text_font_of (Err e) (inr fault) = inr (inr (inr (record { own = own; own_are = own_are; why = there_too (λ s n l. HasTextFault (font_of t.font.now t.index o) s o n own (by_code l) e) fault })))

@@ -1,5 +1,5 @@
 -- How a text before its first run, and the font of one, are handed to C.
-use Rattle.std.specs.Prelude.{◌≡◌, ◌<◌, ℕ, ◌==◌, ◌&&◌, Bool, true, false, if◌then◌else◌, List, [], length, Result, Ok, ℤ}
+use Rattle.std.specs.Prelude.{◌≡◌, ◌⊎◌, ◌<◌, ℕ, ◌==◌, ◌&&◌, Bool, true, false, if◌then◌else◌, List, [], length, Result, Ok, ℤ}
 use Rattle.subsetter_base.specs.Bytes.{◌>>=◌}
 use Rattle.subsetter_base.specs.Gives.{Fails}
 use Rattle.subsetter_base.specs.declared.error.Error.{Error}
@@ -145,13 +145,9 @@ pub record IsTextAtFault (t : TextMade) (options : FontOptions) (e : FontError) 
   pub own_are : inks_of own ≡ inks_in t.own.now t.parts.now
   pub why : HasTextFault (font_of t.font.now t.index options) (settings_of t.coordinates.now) options (count_of t) own (by_code (pairs_in t.pairs.now)) e
 
-pub data HasNoTextFont (t : TextMade) (options : FontOptions) (e : FontError) : Type 0 where
-  no_room : e ≡ Subset OutOfMemory → HasNoTextFont t options e
-  -- there are more codes than a font can have
-  too_many : e ≡ Subset OverflowError → 65535 < length (pairs_in t.pairs.now) → HasNoTextFont t options e
-  -- the own glyphs aren't such
-  no_own : e ≡ TextTooLong → are_own t.own.now t.parts.now ≡ false → HasNoTextFont t options e
-  at_fault : IsTextAtFault t options e → HasNoTextFont t options e
+-- memory ran out, there are more codes than a font can have, the own glyphs aren't such, or the font or the codes have a fault
+abbrev pub HasNoTextFont : TextMade → FontOptions → FontError → Type 0
+HasNoTextFont t options e = (e ≡ Subset OutOfMemory) ⊎ (((e ≡ Subset OverflowError) × (65535 < length (pairs_in t.pairs.now))) ⊎ (((e ≡ TextTooLong) × (are_own t.own.now t.parts.now ≡ false)) ⊎ IsTextAtFault t options e))
 
 -- a font of which `Is` holds, or an error of which `Why` holds, is handed over: it has no entries
 pub data IsTextFontHandedBy (Is : TextFont → Type 0) (Why : FontError → Type 0) (made : FontMade) (status : ℕ) : Type 0 where

@@ -14,7 +14,8 @@ use pdf_operators::{Font, GlyphMetrics, Order};
 use pdf_runs::Direction;
 use std::alloc::Global;
 use subsetter_text_c::{
-    Kept, RunError, Shaped, ShownRun, TextItem, TextOwn, TextPair, TextPart, Units, show_items, show_shaped,
+    Kept, RunError, Shaped, ShownRun, TextItem, TextOwn, TextPair, TextPart, Units, show_items,
+    show_shaped,
 };
 
 /// A text, whose lists the caller gives back by `subsetter_free_text`, but for the font, which is the caller's.

@@ -115,6 +115,7 @@ fn kept_with(
 }
 
 /// What a text of a font keeps, whose runs make no own glyphs.
+#[tactic(auto, using(crate::proofs::DocumentsLaws::Runs::fails_plain))]
 fn kept_plain(
     alloc: Global,
     font: &[u8],

@@ -16,3 +16,21 @@ pub struct OwnInk {
     pub parts: Vec<Placed>,
     pub advance: u16,
 }
+
+/// What is drawn.
+pub enum FigureInk {
+    /// A glyph of the font.
+    Glyph(u16),
+    Own(OwnInk),
+}
+
+/// What stands for a glyph or a cluster in a run.
+pub struct Figure<'a> {
+    pub ink: FigureInk,
+    /// The text of the cluster that begins here.
+    pub text: Option<&'a [char]>,
+    pub x_advance: i32,
+    pub y_advance: i32,
+    pub x_offset: i32,
+    pub y_offset: i32,
+}

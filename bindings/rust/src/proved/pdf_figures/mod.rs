@@ -7,6 +7,15 @@
 //! glyph with several characters, each that is no mark gets an equal part of the advance: the leftmost has the ink, the others
 //! are blanks. Own glyphs have the numbers behind those of the font, so that the run they are in is one of a font with more glyphs.
 
+mod asides;
+mod choice;
+mod cluster;
+mod cutting;
 mod ink;
+mod numbers;
+mod parts;
+mod whole;
 
+pub use choice::Choice;
 pub use ink::{OwnInk, Placed};
+pub use numbers::{figured_items, OwnGlyphs};
