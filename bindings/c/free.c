@@ -1,5 +1,5 @@
 /* Gives memory back that the library has handed over. It took it by malloc, as the kit's C files do for it, so that free
- * takes it back. A run may give a text other pairs: then those that it had are given back here. */
+ * takes it back. A run may give a text other lists: then those that it had are given back here. */
 #include "subsetter.h"
 
 #include <stdlib.h>
@@ -90,14 +90,29 @@ void subsetter_free_text(subsetter_text *text)
     give_back(text->metrics, text->metric_count);
     give_back(text->inked, text->inked_count);
     give_back(text->pairs, text->pair_count);
+    give_back(text->advances, text->advance_count);
+    give_back(text->partable, text->partable_count);
+    give_back(text->own, text->own_count);
+    give_back(text->parts, text->part_count);
     *text = nothing;
 }
 
-/* Pairs that a text has no more. */
+/* Lists that a text has no more. */
 struct left {
     const subsetter_pair *pairs;
-    size_t count;
+    size_t pair_count;
+    const subsetter_own_glyph *own;
+    size_t own_count;
+    const subsetter_part *parts;
+    size_t part_count;
 };
+
+static void give_left_back(const struct left *left)
+{
+    give_back(left->pairs, left->pair_count);
+    give_back(left->own, left->own_count);
+    give_back(left->parts, left->part_count);
+}
 
 /* The proved calls (crates/subsetter_c/src/documents/runs.rt). Of the three lists of units the one of the width is the text. */
 uint32_t text_show_run(subsetter_text *text, const subsetter_item *items, size_t item_count,
@@ -114,9 +129,9 @@ uint32_t subsetter_show_run(subsetter_text *text, const subsetter_item *items, s
                             uint32_t direction, uint32_t order, uint32_t size,
                             subsetter_pdf_objects *made)
 {
-    struct left left = {NULL, 0};
+    struct left left = {NULL, 0, NULL, 0, NULL, 0};
     uint32_t status = text_show_run(text, items, item_count, characters, character_count, direction, order, size, made, &left);
-    give_back(left.pairs, left.count);
+    give_left_back(&left);
     return status;
 }
 
@@ -125,11 +140,11 @@ uint32_t subsetter_show_shaped(subsetter_text *text, const subsetter_shaped *gly
                                uint32_t direction, uint32_t order, uint32_t size,
                                subsetter_pdf_objects *made)
 {
-    struct left left = {NULL, 0};
+    struct left left = {NULL, 0, NULL, 0, NULL, 0};
     size_t bytes = unit_width == 8 ? unit_count : 0, words = unit_width == 16 ? unit_count : 0;
     size_t numbers = unit_width == 32 ? unit_count : 0;
     uint32_t status = text_show_shaped(text, glyphs, glyph_count, bytes ? units : NULL, bytes, words ? units : NULL, words,
                                        numbers ? units : NULL, numbers, unit_width, direction, order, size, made, &left);
-    give_back(left.pairs, left.count);
+    give_left_back(&left);
     return status;
 }

@@ -379,6 +379,15 @@ enum {
 /* Three letters of a tag in a number. */
 #define SUBSETTER_LETTERS(a, b, c) (((uint32_t)(uint8_t)(a) << 16) | ((uint32_t)(uint8_t)(b) << 8) | (uint32_t)(uint8_t)(c))
 
+/* Whether runs of text make own glyphs (`own_glyphs`), which the font of the text gets after its own: of glyphs of the font, each
+ * at a place, with an advance. Where they are made, more readers copy and find the text. */
+enum {
+    /* Where text is horizontal and the outlines are in `glyf`. */
+    SUBSETTER_OWN_GLYPHS_MADE = 0,
+    /* None: the font of the text has glyphs of the font alone, and blanks. */
+    SUBSETTER_OWN_GLYPHS_NONE = 1
+};
+
 /* All choices of a font for a PDF. It begins with the fields of `subsetter_options`, and what is said there of `size`, of later
  * versions and of 0 counts here too. A value that isn't among those above is status 10.
  *
@@ -403,9 +412,11 @@ typedef struct subsetter_pdf_options {
     /* The tag in front of the font's name, six capitals, as SUBSETTER_LETTERS('A', 'B', 'C') and the like; 0, 0: it is computed
      * of the font program, so that equal programs have equal tags. */
     uint32_t tag[2];
+    /* It counts for `subsetter_new_text` alone. */
+    uint32_t own_glyphs;
 } subsetter_pdf_options;
 
-#define SUBSETTER_DEFAULT_PDF_OPTIONS { sizeof(subsetter_pdf_options), 0, 0, 0, 0, 0, 0, 0, 0, 0, 0, { 0, 0 } }
+#define SUBSETTER_DEFAULT_PDF_OPTIONS { sizeof(subsetter_pdf_options), 0, 0, 0, 0, 0, 0, 0, 0, 0, 0, { 0, 0 }, 0 }
 
 static inline const uint32_t *subsetter_pdf_option_words(const subsetter_pdf_options *options)
 {
@@ -756,11 +767,26 @@ typedef struct subsetter_metrics {
 typedef struct subsetter_pair {
     /* 0: `glyph`; 1: a blank, which has no ink and no advance. Later versions may have further kinds. */
     uint32_t kind;
-    /* A glyph of the font; of a blank 0. */
+    /* A glyph of the font, or `metric_count` and more: an own glyph of the text; of a blank 0. */
     uint32_t glyph;
     /* A character; 0xFFFFFFFF: the code says nothing. */
     uint32_t character;
 } subsetter_pair;
+
+/* An own glyph of a text. */
+typedef struct subsetter_own_glyph {
+    /* In units of the font. */
+    uint32_t advance;
+    /* How many parts there are up to the end of its own, which begin where those of the one before it end. */
+    uint32_t part_end;
+} subsetter_own_glyph;
+
+/* A part of an own glyph: a glyph of the font, and how far it is from the origin of the own glyph, in units of the font. */
+typedef struct subsetter_part {
+    uint32_t glyph;
+    int32_t x;
+    int32_t y;
+} subsetter_part;
 
 /* A text: what its runs need of the font, and which codes they have. The caller only reads the fields, hands it to one call at a
  * time, and gives it back by `subsetter_free_text`. It borrows the font, which has to stay, unchanged, as long as calls take the
@@ -769,7 +795,7 @@ typedef struct subsetter_text {
     /* sizeof (subsetter_text), which the inline call writes; for another the calls answer 10. Later versions put further fields
      * after these, and go on to take this size. */
     uint32_t size;
-    /* unitsPerEm. 0: there is no text, and the calls answer 10. */
+    /* unitsPerEm. 0: there is no text, and the calls answer 10; so they do where `most_parts` hasn't 16 bits. */
     uint32_t units_per_em;
     /* The font, which is the caller's. */
     const uint8_t *font;
@@ -790,10 +816,27 @@ typedef struct subsetter_text {
     uint32_t index;
     /* 1: text runs from top to bottom. */
     uint32_t is_vertical;
+    /* The advance of each glyph, in units of the font. Without own glyphs there are none. */
+    const uint16_t *advances;
+    size_t advance_count;
+    /* Of each glyph 1 where it can be a part of an own glyph; past the end it can't. */
+    const uint8_t *partable;
+    size_t partable_count;
+    /* The own glyphs that the runs so far have made, in the order in which they came. */
+    const subsetter_own_glyph *own;
+    size_t own_count;
+    /* The parts of all own glyphs, one after the other. */
+    const subsetter_part *parts;
+    size_t part_count;
+    /* How many parts an own glyph can have; 0: none are made. */
+    uint32_t most_parts;
+    /* 0. */
+    uint32_t reserved;
 } subsetter_text;
 
 /* A text of a font, at coordinates (none: the font's default), before its first run. The options are those for the font; here
- * `tokens` and `depth` count, as limits, and `direction`: with SUBSETTER_VERTICAL the text is vertical.
+ * `tokens` and `depth` count, as limits, `direction`: with SUBSETTER_VERTICAL the text is vertical, and `own_glyphs`: a horizontal
+ * text makes own glyphs unless it is SUBSETTER_OWN_GLYPHS_NONE; a vertical one makes none.
  *   0: `*made` is the text.
  *   1 to 7, 10: all of `*made` is 0 (but for `made->size`), and nothing is to be freed. 2 also where `maxp` is missing.
  * `made` is written by each call and must not be null; what it held before isn't freed.
@@ -834,11 +877,13 @@ typedef struct subsetter_item {
 /* The operators that show a run, for a content stream: between BT and ET, after Tf and Td or Tm, where Tc, Tw and Ts are 0 and Tz is
  * 100. The pen goes on by the run's advance, and Ts is 0 then. `characters` are 32-bit characters, of which the items have ranges;
  * `size` is that of the font, in thousandths of a unit of text space (12000 for 12 points); it counts for Ts alone.
- *   0: `made->bytes` are the operators, the count of offsets is 0, and the text has the codes of the run. Codes of earlier runs stay.
+ *   0: `made->bytes` are the operators, the count of offsets is 0, and the text has the codes and the own glyphs of the run. Those
+ *   of earlier runs stay.
  *   7, 10 (a direction that isn't the text's, another order, or no text), 12 (a number is no character, a range isn't in order, a
- *   glyph isn't the font's, the first one continues a cluster, an advance isn't along the line, a place doesn't fit 32 bits, or an
- *   ActualText would have more than 32,767 bytes), 15: the size and the count of `*made` are 0, nothing is to be freed, and the text
- *   is as it was.
+ *   glyph isn't the font's, the first one continues a cluster, an advance isn't along the line, a place doesn't fit 32 bits, an
+ *   ActualText would have more than 32,767 bytes; or the text's own glyphs aren't such: an advance, a glyph or a place hasn't 16
+ *   bits, or `part_end` falls or is past the parts), 15 (there would be too many codes or glyphs): the size and the count of
+ *   `*made` are 0, nothing is to be freed, and the text is as it was.
  */
 uint32_t subsetter_show_run(subsetter_text *text, const subsetter_item *items, size_t item_count,
                             const uint32_t *characters, size_t character_count,
@@ -887,6 +932,7 @@ static inline void subsetter_hb_shaped(const hb_glyph_info_t *infos, const hb_gl
  * are the CIDs, and it has no entries. Of the options `codes`, `program` and `direction` have no effect.
  *   0: `*made` is the font, which is given back by `subsetter_free_font`.
  *   1 to 7, 10 (also where there is no text), 11: as for `subsetter_make_font_by_words`.
+ *   12: the own glyphs of the text aren't such, as for `subsetter_show_run`; all of `*made` is 0 (but for `made->size`).
  */
 uint32_t subsetter_make_text_font_by_words(const subsetter_text *text, const uint32_t *options, size_t option_count,
                                            subsetter_font *made);

@@ -55,10 +55,10 @@ _Static_assert(sizeof(void *) == WORD, "pointers are as long as sizes");
     FIELD(STRUCT, size, 0, uint32_t *) FIELD(STRUCT, tokens, 4, uint32_t *) FIELD(STRUCT, depth, 8, uint32_t *)     \
     FIELD(STRUCT, drop, 12, uint32_t *) FIELD(STRUCT, bytes, 16, uint32_t *)
 OPTIONS(subsetter_options) SIZE(subsetter_options, 20)
-OPTIONS(subsetter_pdf_options) SIZE(subsetter_pdf_options, 52)
+OPTIONS(subsetter_pdf_options) SIZE(subsetter_pdf_options, 56)
 #define PDF_OPTION(NAME, AT) FIELD(subsetter_pdf_options, NAME, 4 * (AT), uint32_t *)
 PDF_OPTION(program, 5) PDF_OPTION(codes, 6) PDF_OPTION(direction, 7) PDF_OPTION(bounds, 8) PDF_OPTION(cid_set, 9) PDF_OPTION(rights, 10)
-FIELD(subsetter_pdf_options, tag, 44, uint32_t (*)[2])
+FIELD(subsetter_pdf_options, tag, 44, uint32_t (*)[2]) FIELD(subsetter_pdf_options, own_glyphs, 52, uint32_t *)
 
 FIELD(subsetter_coordinate, tag, 0, uint32_t *) FIELD(subsetter_coordinate, value, 4, int32_t *) SIZE(subsetter_coordinate, 8)
 FIELD(subsetter_column, advance, 0, int32_t *) FIELD(subsetter_column, x, 4, int32_t *) FIELD(subsetter_column, y, 8, int32_t *)
@@ -108,8 +108,13 @@ LIST(subsetter_pdf_parts, 0, parts, subsetter_pdf_part, part_count) SIZE(subsett
 FIELD(subsetter_text, size, 0, uint32_t *) FIELD(subsetter_text, units_per_em, 4, uint32_t *)
 TEXT_LIST(0, font, uint8_t, font_size) TEXT_LIST(1, coordinates, subsetter_coordinate, coordinate_count)
 TEXT_LIST(2, metrics, subsetter_metrics, metric_count) TEXT_LIST(3, inked, uint8_t, inked_count) TEXT_LIST(4, pairs, subsetter_pair, pair_count)
-FIELD(subsetter_text, index, 8 + 10 * WORD, uint32_t *) FIELD(subsetter_text, is_vertical, 12 + 10 * WORD, uint32_t *) SIZE(subsetter_text, 16 + 10 * WORD)
-_Static_assert(WORD != 8 || sizeof(subsetter_text) == 96, "the size that the proved library knows");
+FIELD(subsetter_text, index, 8 + 10 * WORD, uint32_t *) FIELD(subsetter_text, is_vertical, 12 + 10 * WORD, uint32_t *)
+#define LATER_LIST(AT, NAME, ITEM, COUNT)                                                                         \
+    FIELD(subsetter_text, NAME, 16 + 2 * (AT) * WORD, const ITEM **) FIELD(subsetter_text, COUNT, 16 + (2 * (AT) + 1) * WORD, size_t *)
+LATER_LIST(5, advances, uint16_t, advance_count) LATER_LIST(6, partable, uint8_t, partable_count)
+LATER_LIST(7, own, subsetter_own_glyph, own_count) LATER_LIST(8, parts, subsetter_part, part_count)
+FIELD(subsetter_text, most_parts, 16 + 18 * WORD, uint32_t *) FIELD(subsetter_text, reserved, 20 + 18 * WORD, uint32_t *) SIZE(subsetter_text, 24 + 18 * WORD)
+_Static_assert(WORD != 8 || sizeof(subsetter_text) == 168, "the size that the proved library knows");
 #define NUMBERS(STRUCT, AT, NAME, ...) FIELD(STRUCT, NAME, 4 * (AT), __VA_ARGS__)
 #define PLACES(STRUCT, AT)                                                                                        \
     NUMBERS(STRUCT, AT, x_advance, int32_t *) NUMBERS(STRUCT, AT + 1, y_advance, int32_t *)                         \
@@ -119,6 +124,8 @@ NUMBERS(subsetter_item, 3, end, uint32_t *) PLACES(subsetter_item, 4)
 NUMBERS(subsetter_shaped, 0, glyph, uint32_t *) NUMBERS(subsetter_shaped, 1, cluster, uint32_t *) PLACES(subsetter_shaped, 2)
 NUMBERS(subsetter_pair, 0, kind, uint32_t *) NUMBERS(subsetter_pair, 1, glyph, uint32_t *) NUMBERS(subsetter_pair, 2, character, uint32_t *)
 SIZE(subsetter_pair, 12)
+NUMBERS(subsetter_own_glyph, 0, advance, uint32_t *) NUMBERS(subsetter_own_glyph, 1, part_end, uint32_t *) SIZE(subsetter_own_glyph, 8)
+NUMBERS(subsetter_part, 0, glyph, uint32_t *) NUMBERS(subsetter_part, 1, x, int32_t *) NUMBERS(subsetter_part, 2, y, int32_t *) SIZE(subsetter_part, 12)
 NUMBERS(subsetter_metrics, 0, displacement, int32_t *) NUMBERS(subsetter_metrics, 1, position, int32_t *) SIZE(subsetter_metrics, 8)
 
 /* ---- calls */

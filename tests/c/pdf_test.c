@@ -585,9 +585,9 @@ static void damage(const struct row *row, int times)
 
 /* ---- what rows don't say: options */
 
-enum { TOKENS = 1, DEPTH, DROP, BYTES, WORDS = 11, ALL_WORDS = 13 };
+enum { TOKENS = 1, DEPTH, DROP, BYTES, WORDS = 11, OWN_GLYPHS = 13, ALL_WORDS = 14 };
 /* The greatest number of each word that isn't a tag; of the tokens and of the bytes each is known. */
-static const uint32_t MOST[WORDS] = {52, UINT32_MAX, 255, 7, UINT32_MAX, 1, 2, 1, 1, 1, 1};
+static const uint32_t MOST[WORDS] = {56, UINT32_MAX, 255, 7, UINT32_MAX, 1, 2, 1, 1, 1, 1};
 
 static uint32_t status_with(const struct row *row, size_t word, uint32_t number)
 {
@@ -606,6 +606,9 @@ static void try_words(const struct row *row)
     }
     for (int i = 1; i < HIGHS; i++)
         check(status_with(row, BYTES, HIGH[i] + 1) == 0, "a large bound", name);
+    check(status_with(row, OWN_GLYPHS, SUBSETTER_OWN_GLYPHS_NONE) == 0, "no own glyphs", name);
+    for (int i = 0; i < HIGHS; i++)
+        check(status_with(row, OWN_GLYPHS, (i == 0 ? 0 : HIGH[i]) + 2) == 10, "greater than known", name);
     /* The first word is the size of all. */
     for (uint32_t count = 1; count < 80; count++)
         for (int i = -1; i < HIGHS; i++) {
@@ -626,7 +629,7 @@ static void try_options(const struct row *row)
     check(status_of(row, NULL) == 0, "none", name);
     /* Of a shorter struct the rest is 0, and a size that isn't known is refused. */
     options.cid_set = 1;
-    for (uint32_t size = 0; size <= 52; size++) {
+    for (uint32_t size = 0; size <= 56; size++) {
         options.size = size;
         uint32_t status = make(row, &options, &font);
         check(status == (size % 4 == 0 && size >= 4 ? 0 : 10), "a size", name);
@@ -699,7 +702,7 @@ static void try_texts(const struct row *row)
     uint32_t text[600] = {'A', 'B', 'C'};
     const size_t ends[] = {1, 2}, longest[] = {256, 512}, longer[] = {257, 512};
     const uint8_t *no_font = (const uint8_t *)"no";
-    const subsetter_pdf_options unknown = {52, 0, 0, 0, 0, 9, 0, 0, 0, 0, 0, {0, 0}};
+    const subsetter_pdf_options unknown = {56, 0, 0, 0, 0, 9, 0, 0, 0, 0, 0, {0, 0}, 0};
     subsetter_pdf_font made, font;
     check(make(row, NULL, &made) == 0, "a font", name);
     for (size_t i = 0; i < sizeof TEXTS / sizeof *TEXTS; i++)
@@ -1057,7 +1060,7 @@ struct shown {
 
 /* A ligature, a pair drawn nearer by 100 of 2048 units (from 1841 on, not 1890); from right to left, by HarfBuzz's numbers; a mark 1024 back and
  * 205 up, a tenth of the em, which is 1.2 at 12 points; and no run. W is 667 for glyphs 1 and 2 (1366), 556 for 5 (1139) and 333 for 7. */
-static void show(const uint8_t *bytes, size_t size, struct shown *it)
+static void show(const uint8_t *bytes, size_t size, uint32_t own_glyphs, struct shown *it)
 {
     static const uint32_t characters[] = {'A', 'f', 'i', 'A', 'B'}, accented[] = {'A', 0x301};
     static const subsetter_item line[] = {
@@ -1065,11 +1068,13 @@ static void show(const uint8_t *bytes, size_t size, struct shown *it)
     static const subsetter_item marked[] = {{1, 0, 0, 2, 1366, 0, 0, 0}, {7, 1, 0, 0, 0, 0, -1024, 205}};
     static const hb_glyph_info_t infos[] = {{5, 0, 1, 0, 0}, {1, 0, 0, 0, 0}};
     static const hb_glyph_position_t positions[] = {{1139, 0, 0, 0, 0}, {1366, 0, 0, 0, 0}};
+    subsetter_pdf_options options = defaults();
+    options.own_glyphs = own_glyphs;
     subsetter_shaped shaped[2];
     subsetter_hb_shaped(infos, positions, 2, shaped);
     memset(it, FILLED, sizeof *it);
 #define LEFT SUBSETTER_LEFT_TO_RIGHT, SUBSETTER_ORDER_VISUAL, 12000
-    it->statuses[0] = subsetter_new_text(bytes, size, 0, NO_PLACE, NULL, &it->text);
+    it->statuses[0] = subsetter_new_text(bytes, size, 0, NO_PLACE, &options, &it->text);
     it->statuses[1] = subsetter_show_run(&it->text, line, 4, characters, 5, LEFT, &it->lines[0]);
     it->statuses[2] = subsetter_show_shaped(&it->text, shaped, 2, "Aif", 3, 8, SUBSETTER_RIGHT_TO_LEFT, SUBSETTER_ORDER_VISUAL, 0, &it->lines[1]);
     it->statuses[3] = subsetter_show_run(&it->text, marked, 2, accented, 2, LEFT, &it->lines[2]);
@@ -1117,22 +1122,66 @@ static void try_units(const uint8_t *bytes, size_t size)
     }
 }
 
-/* Runs and their font, where each request for memory is refused in turn: what is answered is whole, or nothing with status 7, and the codes
- * stay. Then units, and what is unknown. */
-static void try_runs(void)
+/* An accent over a letter is drawn by one own glyph, and no span is there. Own glyphs that aren't such are refused, and so is another number
+ * of parts. */
+static void try_own_glyphs(const uint8_t *bytes, size_t size)
 {
-    static const char *const lines[] = {
-        "[<0001000200030001>49<0004>]TJ\n", "[<000200030001>]TJ\n",
-        "/Span << /ActualText <FEFF00410301> >> BDC\n[<0001>]TJ\n1.200 Ts\n[500<0005>]TJ\nEMC\n[-167]TJ\n0 Ts\n", ""};
-    static const uint32_t widths[] = {500, 667, 556, 0, 667, 333};
-    size_t size;
-    uint8_t *bytes = file_of("made.ttf", &size);
+    static const uint32_t accented[] = {'A', 0x301};
+    static const subsetter_item marked[] = {{1, 0, 0, 2, 1366, 0, 0, 0}, {7, 1, 0, 0, 0, 0, -1024, 205}};
+    static const struct {
+        subsetter_own_glyph own[2];
+        subsetter_part part;
+    } wrong[] = {{{{65536, 1}, {0, 1}}, {1, 0, 0}},  {{{9, 2}, {9, 2}}, {1, 0, 0}},   {{{9, 1}, {9, 0}}, {1, 0, 0}},
+                 {{{9, 1}, {9, 1}}, {65536, 0, 0}}, {{{9, 1}, {9, 1}}, {1, 32768, 0}}, {{{9, 1}, {9, 1}}, {1, 0, -32769}}};
+    subsetter_text text;
+    subsetter_pdf_objects line;
+    subsetter_font font;
+    check(subsetter_new_text(bytes, size, 0, NO_PLACE, NULL, &text) == 0 && text.most_parts > 1 && text.own_count == 0, "a text", "own glyphs");
+    check(text.advance_count == text.metric_count && text.partable_count == text.metric_count && text.advances[1] == 1366 && text.partable[1] == 1, "glyphs", "own glyphs");
+    for (int again = 0; again < 2; again++) {
+        check(subsetter_show_run(&text, marked, 2, accented, 2, LEFT, &line) == 0 && is_line(&line, "[<00010002>]TJ\n"), "operators", "own glyphs");
+        subsetter_free_pdf_objects(&line);
+    }
+    check(text.own_count == 1 && text.own[0].advance == 1366 && text.own[0].part_end == 2 && text.part_count == 2, "an own glyph", "own glyphs");
+    check(memcmp(text.parts, (subsetter_part[]){{1, 0, 0}, {7, 342, 205}}, 24) == 0, "its parts", "own glyphs");
+    check(text.pair_count == 2 && text.pairs[0].kind == 0 && text.pairs[0].glyph == text.metric_count && text.pairs[0].character == 'A', "a pair", "own glyphs");
+    check(subsetter_make_text_font(&text, NULL, &font) == 0 && font.pdf.width_count == 3 && font.pdf.widths[1] == 667, "a font", "own glyphs");
+    /* (.notdef, the two parts, the own glyph and the blank) */
+    check(is_same(font.cid_to_gid_map, font.cid_to_gid_map_size, (uint8_t[]){0, 0, 0, 3, 0, 4}, 6), "CIDToGIDMap", "own glyphs");
+    subsetter_free_font(&font);
+    subsetter_text other = text;
+    for (size_t i = 0; i < sizeof wrong / sizeof *wrong; i++) {
+        other.own = wrong[i].own;
+        other.parts = &wrong[i].part;
+        other.own_count = 2;
+        other.part_count = 1;
+        check(subsetter_show_run(&other, marked, 2, accented, 2, LEFT, &line) == 12 && are_no_objects(&line) && other.own == wrong[i].own, "no own glyphs", "own glyphs");
+        check(subsetter_make_text_font(&other, NULL, &font) == 12 && is_no_whole(&font), "no own glyphs", "own glyphs");
+    }
+    other.most_parts = 65536;
+    check(subsetter_show_run(&other, marked, 2, accented, 2, LEFT, &line) == 10 && subsetter_make_text_font(&other, NULL, &font) == 10, "too many parts", "own glyphs");
+    subsetter_free_text(&text);
+    check(text.own_count == 0 && text.part_count == 0 && text.most_parts == 0, "a text that was given back", "own glyphs");
+}
+
+/* Runs and their font, with own glyphs and without, where each request for memory is refused in turn: what is answered is whole, or nothing with
+ * status 7, and the codes stay. */
+static void try_runs_with(const uint8_t *bytes, size_t size, uint32_t own)
+{
+    /* (with own glyphs the ligature is two of half its advance, of which one is blank) */
+    static const char *const lines[][4] = {
+        {"[<0001000200030001>49<0004>]TJ\n", "[<000200030001>]TJ\n", "[<00050006>]TJ\n", ""},
+        {"[<0001000200030001>49<0004>]TJ\n", "[<000200030001>]TJ\n",
+            "/Span << /ActualText <FEFF00410301> >> BDC\n[<0001>]TJ\n1.200 Ts\n[500<0005>]TJ\nEMC\n[-167]TJ\n0 Ts\n", ""}};
+    static const uint32_t widths[][7] = {{500, 667, 278, 278, 667, 667, 0}, {500, 667, 556, 0, 667, 333}};
+    static const uint8_t maps[][14] = {{0, 0, 0, 1, 0, 5, 0, 6, 0, 2, 0, 7, 0, 8}, {0, 0, 0, 1, 0, 2, 0, 5, 0, 3, 0, 4}};
+    const size_t codes = own == SUBSETTER_OWN_GLYPHS_NONE ? 6 : 7;
     struct shown it;
     for (unsigned long request = 0;; request++) {
         long before = held;
         requests = 0;
         refused = request;
-        show(bytes, size, &it);
+        show(bytes, size, own, &it);
         int was_refused = request != 0 && requests >= request, is_whole = 1;
         refused = 0;
         check(it.statuses[0] == 0 || (was_refused && it.statuses[0] == 7), "a text", "runs");
@@ -1141,23 +1190,32 @@ static void try_runs(void)
             uint32_t wanted = it.statuses[0] != 0 ? 10 : i == 3 ? 12 : 0, found = it.statuses[i + 1];
             check(found == wanted || (was_refused && found == 7), "a run", "runs");
             is_whole = is_whole && found == wanted && it.statuses[0] == 0;
-            check(found != 0 ? are_no_objects(&it.lines[i]) : !is_whole || is_line(&it.lines[i], lines[i]), "operators", "runs");
+            check(found != 0 ? are_no_objects(&it.lines[i]) : !is_whole || is_line(&it.lines[i], lines[own][i]), "operators", "runs");
         }
-        check(!is_whole || (it.text.pair_count == 5 && it.text.pairs[2].kind == 1 && it.text.pairs[2].character == 'i'), "pairs", "runs");
+        check(!is_whole || (it.text.pair_count == codes - 1 && it.text.pairs[2].kind == own && it.text.pairs[2].character == 'i'), "pairs", "runs");
+        check(!is_whole || it.text.own_count == (own == SUBSETTER_OWN_GLYPHS_NONE ? 0 : 3), "own glyphs", "runs");
         check(it.statuses[5] == 0 || it.statuses[5] == (it.statuses[0] != 0 ? 10 : 7) ? is_whole || was_refused : 0, "a font", "runs");
         if (it.statuses[5] != 0)
             check(is_no_whole(&it.font), "no font", "runs");
         else if (is_whole) {
-            const uint8_t *map = it.font.cid_to_gid_map;
-            check(is_same(it.font.pdf.widths, it.font.pdf.width_count * 4, widths, sizeof widths), "widths", "runs");
-            check(it.font.cid_to_gid_map_size == 12 && memcmp(map, (uint8_t[]){0, 0, 0, 1, 0, 2}, 6) == 0 && map[7] > 4 && map[9] == 3 && map[11] == 4,
-                "CIDToGIDMap", "runs");
+            check(is_same(it.font.pdf.widths, it.font.pdf.width_count * 4, widths[own], codes * 4), "widths", "runs");
+            check(is_same(it.font.cid_to_gid_map, it.font.cid_to_gid_map_size, maps[own], codes * 2), "CIDToGIDMap", "runs");
         }
         free_shown(&it);
         check(held == before && it.text.pair_count == 0, "memory that isn't given back", "runs");
         if (!CAN_REFUSE || (request != 0 && !was_refused))
             break;
     }
+}
+
+/* Runs, units, and what is unknown. */
+static void try_runs(void)
+{
+    size_t size;
+    uint8_t *bytes = file_of("made.ttf", &size);
+    try_runs_with(bytes, size, SUBSETTER_OWN_GLYPHS_MADE);
+    try_runs_with(bytes, size, SUBSETTER_OWN_GLYPHS_NONE);
+    try_own_glyphs(bytes, size);
     try_units(bytes, size);
     subsetter_text text;
     subsetter_pdf_objects line;

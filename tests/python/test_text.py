@@ -25,7 +25,7 @@ def arrays(rows):
 
 def test_lines_and_their_font():
     """(examples/shaped.py writes such lines into a PDF, and tests/test_documents.py reads it back.)"""
-    with subsetter.PdfText(DEJAVU) as text:
+    with subsetter.PdfText(DEJAVU, own_glyphs=False) as text:
         lines = [text.shaped(line, *arrays(rows), direction) for (line, rows), direction in ((LATIN, "ltr"), (ARABIC, "rtl"))]
         font, codes = text.font(cid_set=True, hinting=False), text.codes
     codes_shown = [int(it, 16) for string in re.findall(b"<([0-9A-F]+)>", lines[1]) for it in re.findall(b"....", string)]
@@ -35,6 +35,20 @@ def test_lines_and_their_font():
     assert len(font.cid_to_gid_map) == 2 + 2 * len(codes) == 2 * font.glyph_count and "cid_to_gid_map" in {it.role for it in font.parts(range(1, 1 + font.part_count))}
     assert b"".join(b"%d 0 obj\n%s\nendobj\n" % (it.number, it.value) for it in font.parts(range(5, 5 + font.part_count))) == font.objects(5).bytes
     assert pickle.loads(pickle.dumps(font)).objects(5) == font.objects(5)
+
+
+def test_own_glyphs():
+    """The ligature is three glyphs of a third of its advance, of which two are blank and equal, and the letter with its mark is one."""
+    (line, rows), maxp = LATIN, int.from_bytes(DEJAVU[DEJAVU.index(b"maxp") + 8:][:4], "big")
+    with subsetter.PdfText(DEJAVU) as text:
+        shown, codes = text.shaped(line, *arrays(rows)), text.codes
+        arabic = text.shaped(*ARABIC[:1], *arrays(ARABIC[1]), "rtl")
+        font = text.font(hinting=False)
+    count = int.from_bytes(DEJAVU[maxp + 4:][:2], "big")
+    assert b"ActualText" not in shown + arabic and b"Ts" not in shown + arabic
+    assert codes[:4] == [(82, "o"), (count, "f"), (count + 1, "f"), (count + 1, "i")]
+    assert codes[6:] == [(3, " "), (count + 2, "q"), (None, "\u0304"), (91, "x")]
+    assert font.widths[1:5] == [612, 322, 322, 322] and font.widths[8:10] == [635, 0] and len(font.cid_to_gid_map) == 2 * font.glyph_count
 
 
 def test_items_are_what_is_shaped():

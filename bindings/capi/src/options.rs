@@ -43,7 +43,7 @@ pub fn choices(words: &[u32]) -> Option<Choices> {
 }
 
 /// How many words `subsetter_pdf_options` has.
-const PDF_WORDS: usize = 13;
+const PDF_WORDS: usize = 14;
 
 /// The choices of the words of `subsetter_pdf_options`: those of `subsetter_options`, and further ones. None where the library
 /// doesn't know them.
@@ -51,8 +51,16 @@ pub fn font_choices(words: &[u32]) -> Option<FontChoices> {
     if words.len() > PDF_WORDS || word(words, 0) as usize != 4 * words.len() {
         return None;
     }
+    if word(words, 13) > 1 {
+        return None;
+    }
     let own = [1, 2, 3, 4].map(|at| word(words, at));
     let [tokens, depth, drop, bytes] = own;
     let further = [5, 6, 7, 8, 9, 10, 11, 12].map(|at| word(words, at));
     FontChoices::new(&choices(&[20, tokens, depth, drop, bytes])?, further)
+}
+
+/// Whether the words of `subsetter_pdf_options` leave own glyphs to be made.
+pub fn makes_own(words: &[u32]) -> bool {
+    word(words, 13) == 0
 }

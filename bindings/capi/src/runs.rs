@@ -4,11 +4,12 @@ use crate::buffers::list;
 use crate::calls::guarded;
 use crate::fonts_for_pdf::{hand, status_of_refusal, ObjectsMade};
 use crate::making::List;
-use crate::options::font_choices;
+use crate::options::{font_choices, makes_own};
 use crate::status::{status_of, INVALID_TEXT, OVERFULL, UNKNOWN_OPTION};
 use crate::whole_fonts::{copied, hand_font, FontMade};
 use fonts::capi::pdf::{show_items, show_shaped, text_font, text_lists, Entries};
-use fonts::capi::pdf::{GlyphMetrics, RunError, Shaped, TextItem, TextPair, TextView, Units};
+use fonts::capi::pdf::{GlyphMetrics, RunError, Shaped, ShownLists, TextItem, TextOwn, TextPair, TextPart};
+use fonts::capi::pdf::{TextView, Units};
 use fonts::capi::Coordinate;
 use fonts::Error;
 use std::ffi::c_void;
@@ -28,6 +29,12 @@ pub struct TextMade {
     pairs: List<TextPair>,
     index: u32,
     is_vertical: u32,
+    advances: List<u16>,
+    partable: List<bool>,
+    own: List<TextOwn>,
+    parts: List<TextPart>,
+    most_parts: u32,
+    reserved: u32,
 }
 
 /// The one size that is known.
@@ -46,13 +53,20 @@ impl TextMade {
             pairs: List::NONE,
             index: 0,
             is_vertical: 0,
+            advances: List::NONE,
+            partable: List::NONE,
+            own: List::NONE,
+            parts: List::NONE,
+            most_parts: 0,
+            reserved: 0,
         }
     }
 
     /// The text of a font, by the words of its options.
     fn by_words(font: &[u8], index: u32, at: &[Coordinate], words: &[u32]) -> Result<Self, u32> {
         let choices = font_choices(words).ok_or(UNKNOWN_OPTION)?;
-        let found = text_lists(font, index, at, &choices).map_err(status_of)?;
+        let makes = makes_own(words);
+        let found = text_lists(font, index, at, &choices, makes).map_err(status_of)?;
         let coordinates = copied(at)?;
         Ok(Self {
             size: SIZE,
@@ -64,6 +78,12 @@ impl TextMade {
             pairs: List::NONE,
             index,
             is_vertical: u32::from(found.is_vertical),
+            advances: List::of(found.advances),
+            partable: List::of(found.partable),
+            own: List::NONE,
+            parts: List::NONE,
+            most_parts: u32::from(found.most_parts),
+            reserved: 0,
         })
     }
 
@@ -75,12 +95,18 @@ impl TextMade {
     unsafe fn view<'a>(&self) -> Option<TextView<'a>> {
         let units = u16::try_from(self.units_per_em).ok();
         let units_per_em = units.filter(|it| *it != 0 && self.size == SIZE)?;
+        let most_parts = u16::try_from(self.most_parts).ok()?;
         unsafe {
             Some(TextView {
                 units_per_em,
                 metrics: self.metrics.items(),
                 inked: self.inked.items(),
                 pairs: self.pairs.items(),
+                advances: self.advances.items(),
+                partable: self.partable.items(),
+                own: self.own.items(),
+                parts: self.parts.items(),
+                most_parts,
             })
         }
     }
@@ -105,7 +131,7 @@ fn status_of_run(error: RunError) -> u32 {
     }
 }
 
-/// Hands a run over, and gives the text its pairs: the status.
+/// Hands a run over, and gives the text its pairs and own glyphs: the status.
 ///
 /// # Safety
 ///
@@ -115,20 +141,25 @@ unsafe fn hand_run(
     made: *mut ObjectsMade,
     direction: u32,
     order: u32,
-    show: impl FnOnce(TextView<'_>) -> Result<(Vec<u8>, Vec<TextPair>), u32>,
+    show: impl FnOnce(TextView<'_>) -> Result<ShownLists, u32>,
 ) -> u32 {
     let it = unsafe { *text };
     let view = unsafe { it.view() }.filter(|_| it.has(direction, order));
-    let mut pairs = it.pairs;
+    let mut lists = (it.pairs, it.own, it.parts);
     let answer = guarded(|| {
-        let (operators, new) = show(view.ok_or(UNKNOWN_OPTION)?)?;
-        pairs = List::of(new);
-        Ok(ObjectsMade::bytes(operators))
+        let new = show(view.ok_or(UNKNOWN_OPTION)?)?;
+        lists = (List::of(new.pairs), List::of(new.own), List::of(new.parts));
+        Ok(ObjectsMade::bytes(new.operators))
     });
     let is_done = answer.is_ok();
     let status = unsafe { hand(answer, ObjectsMade::NOTHING, made) };
     if is_done {
-        unsafe { replace(&mut (*text).pairs, pairs).give_back() };
+        let (pairs, own, parts) = lists;
+        unsafe {
+            replace(&mut (*text).pairs, pairs).give_back();
+            replace(&mut (*text).own, own).give_back();
+            replace(&mut (*text).parts, parts).give_back();
+        }
     }
     status
 }
@@ -177,6 +208,10 @@ pub unsafe extern "C" fn subsetter_free_text(text: *mut TextMade) {
         it.metrics.give_back();
         it.inked.give_back();
         it.pairs.give_back();
+        it.advances.give_back();
+        it.partable.give_back();
+        it.own.give_back();
+        it.parts.give_back();
     }
 }
 
@@ -258,7 +293,7 @@ pub unsafe extern "C" fn subsetter_make_text_font_by_words(
     let call = || {
         let view = view.ok_or(UNKNOWN_OPTION)?;
         let choices = font_choices(words).ok_or(UNKNOWN_OPTION)?;
-        let parts = text_font(font, it.index, at, view.pairs, it.is_vertical != 0, &choices);
+        let parts = text_font(font, it.index, at, view, it.is_vertical != 0, &choices);
         let (lists, numbers) = parts.map_err(status_of_refusal)?;
         FontMade::of(lists, numbers, Entries::NONE)
     };

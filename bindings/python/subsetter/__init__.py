@@ -133,7 +133,7 @@ class MissingCharacters(Error, ValueError):
 
 
 class Overfull(OverflowError):
-    """The font of a `PdfText` would have more than 65,535 codes: the run is for another one."""
+    """The font of a `PdfText` would have more than 65,535 codes or glyphs: the run is for another one."""
 
 
 class Embedded(NamedTuple):
@@ -330,6 +330,11 @@ class _Text(ctypes.Structure):
         ("inked", ctypes.c_void_p), ("inked_count", ctypes.c_size_t),
         ("pairs", ctypes.c_void_p), ("pair_count", ctypes.c_size_t),
         ("index", ctypes.c_uint32), ("is_vertical", ctypes.c_uint32),
+        ("advances", ctypes.c_void_p), ("advance_count", ctypes.c_size_t),
+        ("partable", ctypes.c_void_p), ("partable_count", ctypes.c_size_t),
+        ("own", ctypes.c_void_p), ("own_count", ctypes.c_size_t),
+        ("parts", ctypes.c_void_p), ("part_count", ctypes.c_size_t),
+        ("most_parts", ctypes.c_uint32), ("reserved", ctypes.c_uint32),
     ]
 
 
@@ -1402,6 +1407,8 @@ class PdfText:
 
     - `order`: how a run from right to left is written: "visual", as it is seen, which more readers copy rightly; or "logical", as it is
       read, for a tagged PDF.
+    - `own_glyphs`: whether runs make glyphs of their own, which the font gets after the kept ones: of glyphs of it, each at a place,
+      with an advance. More readers copy and find the text then. They are made in horizontal text, where outlines are in `glyf`.
     - `units_per_em`: how many units of the font an em has.
 
     Raises what `advances` does; and `NotImplementedError` where the library is of an older version.
@@ -1418,6 +1425,7 @@ class PdfText:
         vertical: bool = False,
         rights: Rights = "from_font",
         order: Literal["visual", "logical"] = "visual",
+        own_glyphs: bool = True,
         tokens: Optional[SupportsIndex] = None,
         depth: Optional[SupportsIndex] = None,
         most_bytes: Optional[SupportsIndex] = None,
@@ -1427,6 +1435,8 @@ class PdfText:
         self._limits, self._vertical = (tokens, depth, most_bytes), vertical
         self._rights, self._order = _rights(rights), _choice("order", order, ("visual", "logical"))
         words = self._words(True, False, "font", False, None)
+        if not _flag("own_glyphs", own_glyphs):
+            words = array("I", [words[0] + 4, *words[1:], 1])
         self._library, self._lock = _library_with("subsetter_new_text_by_words"), threading.Lock()
         self._text = _Text(size=ctypes.sizeof(_Text))
         with ExitStack() as held:
@@ -1464,7 +1474,8 @@ class PdfText:
 
     @property
     def codes(self) -> List[Tuple[Optional[int], Optional[str]]]:
-        """What each code from 1 on draws and says, of the runs so far: a glyph, or None for a blank, and a character, or None."""
+        """What each code from 1 on draws and says, of the runs so far: a glyph, or None for a blank, and a character, or None.
+        Own glyphs have the numbers after those of the font's."""
         with self._opened():
             words = array("I", ctypes.string_at(self._text.pairs, 12 * self._text.pair_count))
         return [

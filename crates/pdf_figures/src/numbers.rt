@@ -25,6 +25,10 @@ pub struct OwnGlyphs {
 }
 
 impl OwnGlyphs {
+    ghost use Rattle.std.specs.Prelude.{◌≡◌, [], IfOk, IfErr};
+    ghost use Rattle.subsetter_base.specs.declared.error.Error.TheVariants.{OutOfMemory};
+    ghost use Rattle.pdf_figures.specs.View.{inks_of};
+
     /// None.
     pub fn new(alloc: Global) -> Self
         ensures { inks_of result.list.items ≡ [] }
@@ -33,6 +37,22 @@ impl OwnGlyphs {
             list: Vec::new(alloc),
             places: HashMap::new(alloc),
         }
+    }
+
+    /// These, in order.
+    ///
+    /// # Errors
+    ///
+    /// `OutOfMemory` alone.
+    pub fn of(alloc: Global, list: Vec<OwnInk>) -> Result<Self, Error>
+        ensures ok { IfOk result (λ glyphs. glyphs.list.items ≡ list.items) }
+        ensures err { IfErr result (λ e. e ≡ OutOfMemory) }
+    {
+        let mut places = HashMap::new(alloc);
+        for place in 0..list.len().min(65_535) {
+            places.insert(hash_of(&list[place]), place as u16)?;
+        }
+        Ok(Self { list, places })
     }
 }
 

@@ -1,3 +1,4 @@
 pub mod PairLaws
 pub mod UnitSteps
 pub mod ShownSteps
+pub mod OwnLaws

@@ -2,3 +2,4 @@ pub mod Pairs
 pub mod Items
 pub mod Units
 pub mod Shown
+pub mod Own

@@ -6,7 +6,8 @@ mod texts;
 
 pub use advance::{advances, kinds_of};
 pub use runs::{show_items, show_shaped, text_font, text_lists};
-pub use runs::{GlyphMetrics, RunError, Shaped, TextItem, TextPair, TextView, Units};
+pub use runs::{GlyphMetrics, RunError, Shaped, ShownLists, TextItem, TextOwn, TextPair, TextPart};
+pub use runs::{TextView, Units};
 pub use texts::{codes_of, TextEntries};
 
 use super::{settings, Coordinate};

@@ -74,13 +74,14 @@ pub record AreFurtherKnown (words : List ℕ) : Type 0 where
   pub cid_set : word words 9 < 2
   pub rights : word words 10 < 2
   pub tag : IsTagKnown (word words 11) (word words 12)
+  pub own_glyphs : word words 13 < 2
 
 -- the library knows all
 pub record AreFontWordsKnown (words : List ℕ) : Type 0 where
   -- the first is their size in bytes
   pub size : word words 0 ≡ 4 * length words
-  -- there are thirteen at most
-  pub count : length words ≤ 13
+  -- there are fourteen at most
+  pub count : length words ≤ 14
   pub depth : word words 2 ≤ 255
   -- the fourth has no other bits than 1, 2 and 4
   pub bits : word words 3 < 8

@@ -7,7 +7,7 @@ use pdf_operators::GlyphMetrics;
 use pdf_text::Column;
 use subsetter_pdf_c::PdfPart;
 pub use subsetter_pdf_c::kept_bytes;
-use subsetter_text_c::TextPair;
+use subsetter_text_c::{TextOwn, TextPair, TextPart};
 
 /// Numbers of 16 bits.
 pub fn kept_shorts(numbers: Vec<u16>) -> &'static [u16]
@@ -97,4 +97,24 @@ pub fn kept_pairs(pairs: Vec<TextPair>) -> &'static [TextPair]
         return &[];
     }
     pairs.leak()
+}
+
+/// Own glyphs.
+pub fn kept_own(own: Vec<TextOwn>) -> &'static [TextOwn]
+    ensures { result.now ≡ own.items }
+{
+    if own.is_empty() {
+        return &[];
+    }
+    own.leak()
+}
+
+/// Parts of own glyphs.
+pub fn kept_places(parts: Vec<TextPart>) -> &'static [TextPart]
+    ensures { result.now ≡ parts.items }
+{
+    if parts.is_empty() {
+        return &[];
+    }
+    parts.leak()
 }

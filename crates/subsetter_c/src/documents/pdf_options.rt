@@ -101,6 +101,7 @@ fn tag_of(front: u32, back: u32) -> Option<Option<SubsetTag>>
 fn with_words(options: Options, words: &[u32]) -> Option<FontOptions>
     ensures { MatchOption result (¬ (AreFurtherKnown words.now)) (λ chosen. AreFurtherKnown words.now × IsFurtherChosen options words.now chosen) }
 {
+    flag_of(word(words, 13))?;
     Some(FontOptions {
         limits: options.limits,
         hinting: options.extras.hinting,
@@ -137,7 +138,7 @@ pub fn font_options_of(words: &[u32]) -> Option<FontOptions>
     ensures { MatchOption result (¬ (AreFontWordsKnown words.now)) (λ options. AreFontWordsKnown words.now × AreFontOptionsChosen words.now options) }
 {
     let count = words.len();
-    if count > 13 || word(words, 0) as usize != 4 * count {
+    if count > 14 || word(words, 0) as usize != 4 * count {
         return None;
     }
     let own = own_words(words);

@@ -3,17 +3,19 @@
 ghost use Rattle.std.specs.Prelude.{◌≡◌, ◌&&◌, [], Ok, Err, MatchOption, true, false};
 ghost use Rattle.subsetter_c.specs.Answers.Status.{unknown_option};
 ghost use Rattle.subsetter_c.specs.Documents.PdfObjects.{IsNothing};
-ghost use Rattle.subsetter_c.specs.Documents.Runs.{AreUnits, IsFontOf, IsNoRunMade, IsRunHanded, IsRunShownIn, IsRunUnshownIn, IsTextShownIn, IsTextUnshownIn, is_direction, is_known, is_text, is_width, run_direction, run_order, run_status};
+ghost use Rattle.subsetter_c.specs.Documents.Runs.{AreUnits, IsChoiceOf, IsFontOf, IsNoneLeft, IsNoRunMade, IsRunHanded, IsRunShownIn, IsRunUnshownIn, IsTextShownIn, IsTextUnshownIn, is_direction, is_known, is_text, is_width, run_direction, run_order, run_status};
 
-use crate::answers::kept::{kept_bytes, kept_pairs};
+use crate::answers::kept::{kept_bytes, kept_own, kept_pairs, kept_places};
 use crate::answers::status::{DONE, INVALID_TEXT, OUT_OF_MEMORY, OVERFULL, UNKNOWN_OPTION};
 use crate::documents::pdf_files::{ObjectsMade, nothing};
 use crate::settings::Coordinate;
+use pdf_figures::Choice;
 use pdf_operators::{Font, GlyphMetrics, Order};
 use pdf_runs::Direction;
 use std::alloc::Global;
 use subsetter_text_c::{
-    RunError, Shaped, ShownRun, TextItem, TextPair, Units, show_items, show_shaped,
+    Kept, RunError, Shaped, ShownRun, TextItem, TextOwn, TextPair, TextPart, Units, show_items,
+    show_shaped,
 };
 
 /// A text, whose lists the caller gives back by `subsetter_free_text`, but for the font, which is the caller's.
@@ -35,16 +37,30 @@ pub struct TextMade {
     pub index: u32,
     /// Not 0: text runs from top to bottom.
     pub is_vertical: u32,
+    /// Of each glyph, in units of the font.
+    pub advances: &'static [u16],
+    /// Of each glyph whether it can be a part of an own glyph.
+    pub partable: &'static [bool],
+    /// The own glyphs, whose numbers are after those of the font's glyphs.
+    pub own: &'static [TextOwn],
+    /// Their parts, one after the other.
+    pub parts: &'static [TextPart],
+    /// How many parts an own glyph can have; 0: runs make none.
+    pub most_parts: u32,
+    /// 0.
+    pub reserved: u32,
 }
 
 /// The one size that is known, where a pointer has 8 bytes.
-pub const TEXT_SIZE: u32 = 96;
+pub const TEXT_SIZE: u32 = 168;
 
-/// Pairs that a text has no more, which are to be given back.
+/// Lists that a text has no more, which are to be given back.
 #[derive(Drop)]
 #[repr(C)]
 pub struct PairsLeft {
     pub pairs: &'static [TextPair],
+    pub own: &'static [TextOwn],
+    pub parts: &'static [TextPart],
 }
 
 // ---- what is requested
@@ -53,7 +69,8 @@ pub struct PairsLeft {
 pub fn is_text(text: &TextMade) -> bool
     ensures { result ≡ is_text text.now }
 {
-    text.size == TEXT_SIZE && (text.units_per_em > 0 && text.units_per_em < 65_536)
+    text.size == TEXT_SIZE
+        && (text.units_per_em > 0 && (text.units_per_em < 65_536 && text.most_parts < 65_536))
 }
 
 /// Whether a direction is one of a text, which is vertical or not.
@@ -83,6 +100,32 @@ fn font_of(text: &TextMade) -> Font<'static>
         units: text.units_per_em as u16,
         metrics: text.metrics,
         inked: text.inked,
+    }
+}
+
+/// Which own glyphs a run can make.
+fn choice_of(text: &TextMade) -> Choice<'static>
+    requires { is_text text.now ≡ true }
+    ensures { IsChoiceOf text.now result }
+{
+    Choice {
+        units: text.units_per_em as u16,
+        advances: text.advances,
+        inked: text.inked,
+        can_be_part: text.partable,
+        most_parts: text.most_parts as u16,
+        is_still: false,
+    }
+}
+
+/// No lists.
+fn none_left() -> PairsLeft
+    ensures { IsNoneLeft result }
+{
+    PairsLeft {
+        pairs: &[],
+        own: &[],
+        parts: &[],
     }
 }
 
@@ -136,11 +179,11 @@ fn run_status(error: RunError) -> u32
 /// Hands nothing over, as an option is unknown: the status.
 fn refuse(made: &mut ObjectsMade, left: &mut PairsLeft) -> u32
     ensures nothing { IsNothing made.new }
-    ensures left { left.new.pairs.now ≡ [] }
+    ensures left { IsNoneLeft left.new }
     ensures status { result ≡ unknown_option }
 {
     *made = nothing();
-    *left = PairsLeft { pairs: &[] };
+    *left = none_left();
     UNKNOWN_OPTION
 }
 
@@ -155,9 +198,20 @@ fn hand_run(
 {
     match answer {
         Ok(shown) => {
-            let ShownRun { operators, pairs } = shown;
-            *left = PairsLeft { pairs: text.pairs };
+            let ShownRun {
+                operators,
+                pairs,
+                own,
+                parts,
+            } = shown;
+            *left = PairsLeft {
+                pairs: text.pairs,
+                own: text.own,
+                parts: text.parts,
+            };
             text.pairs = kept_pairs(pairs);
+            text.own = kept_own(own);
+            text.parts = kept_places(parts);
             *made = ObjectsMade {
                 bytes: kept_bytes(operators),
                 offsets: &[],
@@ -166,7 +220,7 @@ fn hand_run(
         }
         Err(error) => {
             *made = nothing();
-            *left = PairsLeft { pairs: &[] };
+            *left = none_left();
             run_status(error)
         }
     }
@@ -177,8 +231,9 @@ fn hand_run(
 /// The operators of a run of items in memory of the library, and the text with the codes of the run: `subsetter_show_run`, which
 /// gives `left` back.
 ///
-/// Status 0: `made` is the operators, without offsets, and `left` the pairs that the text had. Another status: both are empty, and
-/// the text is as it was. Status 10: there is no text, the direction is none of it, or the order is another; status 7, 12 or 15: an error.
+/// Status 0: `made` is the operators, without offsets, and `left` the lists that the text has no more. Another status: both are empty, and
+/// the text is as it was. Status 10: there is no text, the direction is none of it, or the order is another; status 7, 12 (also
+/// where own glyphs aren't such) or 15: an error.
 #[unsafe(no_mangle)]
 pub extern "C" fn text_show_run(
     alloc: Global,
@@ -197,10 +252,15 @@ pub extern "C" fn text_show_run(
     if !is_known(text, direction, order) {
         return refuse(made, left);
     }
-    let (font, pairs) = (font_of(text), text.pairs);
+    let (font, choice) = (font_of(text), choice_of(text));
+    let kept = Kept {
+        pairs: text.pairs,
+        own: text.own,
+        parts: text.parts,
+    };
     let (direction, order) = (direction_of(direction), order_of(order));
     let answer = show_items(
-        alloc, font, pairs, items, characters, direction, order, size,
+        alloc, font, &choice, kept, items, characters, direction, order, size,
     );
     hand_run(answer, text, made, left)
 }
@@ -233,8 +293,15 @@ pub extern "C" fn text_show_shaped(
         Some(units) => units,
         None => return refuse(made, left),
     };
-    let (font, pairs) = (font_of(text), text.pairs);
+    let (font, choice) = (font_of(text), choice_of(text));
+    let kept = Kept {
+        pairs: text.pairs,
+        own: text.own,
+        parts: text.parts,
+    };
     let (direction, order) = (direction_of(direction), order_of(order));
-    let answer = show_shaped(alloc, font, pairs, glyphs, units, direction, order, size);
+    let answer = show_shaped(
+        alloc, font, &choice, kept, glyphs, units, direction, order, size,
+    );
     hand_run(answer, text, made, left)
 }

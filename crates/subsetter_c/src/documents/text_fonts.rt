@@ -6,28 +6,31 @@ ghost use Rattle.subsetter_base.specs.declared.error.Error.TheVariants.{OutOfMem
 ghost use Rattle.subsetter_sfnt.specs.Extras.{all_extras};
 ghost use Rattle.subsetter_sfnt.specs.FontAt.{font_at};
 ghost use Rattle.pdf_font.specs.declared.error.FontError.TheVariants.{Subset};
+ghost use Rattle.own_choice.specs.Choosing.{chosen_seen, own_choice};
 ghost use Rattle.text_metrics.specs.Metrics.{metrics_seen};
 ghost use Rattle.subsetter_c.specs.Answers.Status.{unknown_option};
 ghost use Rattle.subsetter_c.specs.Documents.PdfFonts.{bytes_of};
 ghost use Rattle.subsetter_c.specs.Documents.PdfOptions.{AreFontWordsKnown, direction_chosen};
 ghost use Rattle.subsetter_c.specs.Documents.Runs.{is_text, text_size};
-ghost use Rattle.subsetter_c.specs.Documents.TextFonts.{HasNoTextFont, IsNoText, IsTextFontHandedBy, IsTextFontMade, IsTextFontOf, IsTextHanded, IsTextMade, directed, kept_seen, metrics_by, vertical_number};
+ghost use Rattle.subsetter_c.specs.Documents.TextFonts.{HasNoTextFont, IsNoText, IsTextFontHandedBy, IsTextFontMade, IsTextFontOf, IsTextHanded, IsTextMade, chosen_by, count_of, directed, is_horizontal, kept_seen, makes_own, metrics_by, plain_by, vertical_number, without_own};
 ghost use Rattle.subsetter_c.specs.Documents.Whole.{IsNoWholeMade, own_size};
 ghost use Rattle.subsetter_c.specs.Settings.{settings_of};
 
-use crate::answers::kept::{kept_bytes, kept_coordinates, kept_flags, kept_metrics};
+use crate::answers::kept::{kept_bytes, kept_coordinates, kept_flags, kept_metrics, kept_shorts};
 use crate::answers::status::{DONE, UNKNOWN_OPTION, status_of};
 use crate::documents::pdf_fonts::refusal_status;
 use crate::documents::pdf_options::font_options_of;
 use crate::documents::runs::{TEXT_SIZE, TextMade, is_text};
 use crate::documents::text_kept::TextKept;
 use crate::documents::whole::{FontMade, SIZE, further_of, no_whole, whole_laid_out};
+use crate::options::word;
 use crate::settings::{Coordinate, settings_of};
+use own_choice::{OwnChoice, own_choice};
 use pdf_font::{Direction, FontError, FontOptions};
 use pdf_text_font::{TextFont, text_font};
 use std::alloc::Global;
 use subsetter::{Error, Tag};
-use subsetter_text_c::{RunError, pairs_of};
+use subsetter_text_c::{RunError, own_of, pairs_of};
 use text_metrics::{TextMetrics, column_metrics, text_metrics};
 
 // ---- a text
@@ -58,27 +61,13 @@ fn metrics_for(
     }
 }
 
-/// What runs of text need of a font at coordinates, in the direction of the options.
-fn metrics_at(
-    alloc: Global,
-    font: &[u8],
-    index: u32,
-    coordinates: &[Coordinate],
-    options: &FontOptions,
-) -> Result<TextMetrics, Error>
-    ensures { Gives metrics_seen result (metrics_by options.now.direction options.now.limits (font_at font.now index all_extras) (settings_of coordinates.now)) }
-{
-    let settings = settings_of(alloc, coordinates)?;
-    metrics_for(alloc, font, index, &settings, options)
-}
-
-/// What is kept of metrics and coordinates.
+/// What is kept of metrics and coordinates, where runs make no own glyphs.
 fn kept_of(
     alloc: Global,
     found: &TextMetrics,
     coordinates: &[Coordinate],
 ) -> Result<TextKept, Error>
-    ensures seen { IfOk result (λ k. kept_seen k ≡ metrics_seen found.now) }
+    ensures seen { IfOk result (λ k. kept_seen k ≡ without_own (metrics_seen found.now)) }
     ensures coordinates { IfOk result (λ k. k.coordinates.items ≡ coordinates.now) }
     ensures err { IfErr result (λ e. e ≡ OutOfMemory) }
 {
@@ -91,7 +80,108 @@ fn kept_of(
         coordinates,
         metrics,
         inked,
+        advances: Vec::new(alloc),
+        partable: Vec::new(alloc),
+        most_parts: 0,
     })
+}
+
+/// What is kept where they do.
+fn kept_with(
+    alloc: Global,
+    found: &OwnChoice,
+    coordinates: &[Coordinate],
+) -> Result<TextKept, Error>
+    ensures seen { IfOk result (λ k. kept_seen k ≡ chosen_seen found.now) }
+    ensures coordinates { IfOk result (λ k. k.coordinates.items ≡ coordinates.now) }
+    ensures err { IfErr result (λ e. e ≡ OutOfMemory) }
+{
+    let seen = found.font();
+    let choice = found.choice();
+    let coordinates = Vec::from_slice(alloc, coordinates)?;
+    let metrics = Vec::from_slice(alloc, seen.metrics)?;
+    let inked = Vec::from_slice(alloc, seen.inked)?;
+    let advances = Vec::from_slice(alloc, choice.advances)?;
+    let partable = Vec::from_slice(alloc, choice.can_be_part)?;
+    Ok(TextKept {
+        units: seen.units,
+        coordinates,
+        metrics,
+        inked,
+        advances,
+        partable,
+        most_parts: choice.most_parts,
+    })
+}
+
+/// What a text of a font keeps, whose runs make no own glyphs.
+#[tactic(auto, using(crate::proofs::DocumentsLaws::Runs::fails_plain))]
+fn kept_plain(
+    alloc: Global,
+    font: &[u8],
+    index: u32,
+    settings: &[(Tag, i32)],
+    coordinates: &[Coordinate],
+    options: &FontOptions,
+) -> Result<TextKept, Error>
+    ensures seen { Gives kept_seen result (plain_by options.now.direction options.now.limits (font_at font.now index all_extras) settings.now) }
+    ensures coordinates { IfOk result (λ k. k.coordinates.items ≡ coordinates.now) }
+{
+    let found = metrics_for(alloc, font, index, settings, options)?;
+    kept_of(alloc, &found, coordinates)
+}
+
+/// What a text of a font keeps, whose runs make own glyphs.
+fn kept_choice(
+    alloc: Global,
+    font: &[u8],
+    index: u32,
+    settings: &[(Tag, i32)],
+    coordinates: &[Coordinate],
+    options: &FontOptions,
+) -> Result<TextKept, Error>
+    ensures seen { Gives kept_seen result (own_choice (font_at font.now index all_extras) settings.now options.now.limits.tokens) }
+    ensures coordinates { IfOk result (λ k. k.coordinates.items ≡ coordinates.now) }
+{
+    let found = own_choice(alloc, font, index, settings, &options.limits)?;
+    kept_with(alloc, &found, coordinates)
+}
+
+/// What a text of a font keeps, whose runs make own glyphs or not.
+fn kept_at(
+    alloc: Global,
+    font: &[u8],
+    index: u32,
+    settings: &[(Tag, i32)],
+    coordinates: &[Coordinate],
+    options: &FontOptions,
+    makes: bool,
+) -> Result<TextKept, Error>
+    ensures seen { Gives kept_seen result (chosen_by makes options.now.direction options.now.limits (font_at font.now index all_extras) settings.now) }
+    ensures coordinates { IfOk result (λ k. k.coordinates.items ≡ coordinates.now) }
+{
+    if makes {
+        kept_choice(alloc, font, index, settings, coordinates, options)
+    } else {
+        kept_plain(alloc, font, index, settings, coordinates, options)
+    }
+}
+
+/// Whether text isn't vertical.
+fn is_horizontal(direction: Direction) -> bool
+    ensures { result ≡ is_horizontal direction }
+{
+    match direction {
+        Direction::Horizontal => true,
+        Direction::Vertical => false,
+    }
+}
+
+/// Whether the words of the options leave own glyphs to be made.
+fn makes_own(words: &[u32]) -> bool
+    ensures { result ≡ makes_own words.now }
+{
+    word(words, 13) == 0
 }
 
 /// What a text of a font keeps.
@@ -101,12 +191,13 @@ fn kept_for(
     index: u32,
     coordinates: &[Coordinate],
     options: &FontOptions,
+    makes: bool,
 ) -> Result<TextKept, Error>
-    ensures seen { Gives kept_seen result (metrics_by options.now.direction options.now.limits (font_at font.now index all_extras) (settings_of coordinates.now)) }
+    ensures seen { Gives kept_seen result (chosen_by makes options.now.direction options.now.limits (font_at font.now index all_extras) (settings_of coordinates.now)) }
     ensures coordinates { IfOk result (λ k. k.coordinates.items ≡ coordinates.now) }
 {
-    let found = metrics_at(alloc, font, index, coordinates, options)?;
-    kept_of(alloc, &found, coordinates)
+    let settings = settings_of(alloc, coordinates)?;
+    kept_at(alloc, font, index, &settings, coordinates, options, makes)
 }
 
 /// No text.
@@ -123,6 +214,12 @@ fn no_text() -> TextMade
         pairs: &[],
         index: 0,
         is_vertical: 0,
+        advances: &[],
+        partable: &[],
+        own: &[],
+        parts: &[],
+        most_parts: 0,
+        reserved: 0,
     }
 }
 
@@ -143,6 +240,9 @@ fn hand_text(
                 coordinates,
                 metrics,
                 inked,
+                advances,
+                partable,
+                most_parts,
             } = kept;
             *made = TextMade {
                 size: TEXT_SIZE,
@@ -154,6 +254,12 @@ fn hand_text(
                 pairs: &[],
                 index,
                 is_vertical: vertical_number(direction),
+                advances: kept_shorts(advances),
+                partable: kept_flags(partable),
+                own: &[],
+                parts: &[],
+                most_parts: u32::from(most_parts),
+                reserved: 0,
             };
             DONE
         }
@@ -164,8 +270,8 @@ fn hand_text(
     }
 }
 
-/// A text of a font at coordinates, before its first run; the words are those of `subsetter_pdf_options`, of which the tokens and the
-/// direction count.
+/// A text of a font at coordinates, before its first run; the words are those of `subsetter_pdf_options`, of which the tokens, the
+/// direction and the own glyphs count.
 ///
 /// Status 0: `made` is the text, which borrows the font. Another status: its lists are empty, and its numbers are 0, but for the
 /// size. Status 10: an option is unknown, or the size of `made` is; with such a size it is unchanged. Status 1 to 7: an error.
@@ -186,9 +292,10 @@ pub extern "C" fn subsetter_new_text_by_words(
         return UNKNOWN_OPTION;
     }
     match font_options_of(options) {
-        Some(options) => {
-            let answer = kept_for(alloc, font, index, coordinates, &options);
-            hand_text(answer, font, index, options.direction, made)
+        Some(chosen) => {
+            let makes = makes_own(options) && is_horizontal(chosen.direction);
+            let answer = kept_for(alloc, font, index, coordinates, &chosen, makes);
+            hand_text(answer, font, index, chosen.direction, made)
         }
         None => {
             *made = no_text();
@@ -220,6 +327,17 @@ fn directed(text: &TextMade, options: FontOptions) -> FontOptions
     }
 }
 
+/// How many glyphs are the font's; without own ones glyphs have 16 bits.
+fn count_of(text: &TextMade) -> usize
+    ensures { result ≡ count_of text.now }
+{
+    if text.own.len() == 0 {
+        65536
+    } else {
+        text.metrics.len()
+    }
+}
+
 /// What a PDF has of the font of a text.
 fn font_for(alloc: Global, text: &TextMade, options: &FontOptions) -> Result<TextFont, FontError>
     ensures ok { IfOk result (IsTextFontOf text.now options.now) }
@@ -234,14 +352,19 @@ fn font_for(alloc: Global, text: &TextMade, options: &FontOptions) -> Result<Tex
         Err(RunError::OutOfMemory) => return Err(FontError::Subset(Error::OutOfMemory)),
         Err(_) => return Err(FontError::Subset(Error::OverflowError)),
     };
+    let own = match own_of(alloc, text.own, text.parts) {
+        Ok(own) => own,
+        Err(RunError::InvalidText) => return Err(FontError::TextTooLong),
+        Err(_) => return Err(FontError::Subset(Error::OutOfMemory)),
+    };
     text_font(
         alloc,
         text.font,
         text.index,
         &settings,
         &pairs,
-        65536,
-        &[],
+        count_of(text),
+        &own,
         options,
     )
 }
@@ -287,7 +410,7 @@ fn hand_font(alloc: Global, answer: Result<TextFont, FontError>, made: &mut Font
 ///
 /// Status 0: `made` is the font, of no entries. Another status: its lists are empty, and its numbers are 0, but for the size.
 /// Status 10: there is no text, an option is unknown, or the size of `made` is; with such a size it is unchanged. Status 11: the
-/// font isn't permitted. Status 1 to 7: an error.
+/// font isn't permitted. Status 12: own glyphs of the text aren't such. Status 1 to 7: an error.
 #[unsafe(no_mangle)]
 pub extern "C" fn subsetter_make_text_font_by_words(
     alloc: Global,

@@ -12,5 +12,8 @@ pub struct TextKept {
     pub coordinates: Vec<Coordinate>,
     pub metrics: Vec<GlyphMetrics>,
     pub inked: Vec<bool>,
+    pub advances: Vec<u16>,
+    pub partable: Vec<bool>,
+    pub most_parts: u16,
     ghost divides: { 0 < units },
 }

@@ -4,6 +4,8 @@ use super::{parted, FontChoices, FontLists, FontNumbers, Refusal};
 use crate::capi::{settings, Choices, Coordinate};
 use crate::library::refused;
 use crate::pdf::FontError;
+use crate::proved::own_choice::own_choice;
+use crate::proved::pdf_figures::Choice;
 use crate::proved::pdf_font::Direction;
 use crate::proved::pdf_operators::{Font, Order};
 use crate::proved::pdf_runs::Direction as RunDirection;
@@ -15,7 +17,8 @@ use crate::Error;
 use ::alloc::vec::Vec;
 
 pub use crate::proved::pdf_operators::GlyphMetrics;
-pub use crate::proved::subsetter_text_c::{RunError, Shaped, TextItem, TextPair, Units};
+pub use crate::proved::subsetter_text_c::{RunError, Shaped, TextItem, TextOwn, TextPair, TextPart};
+pub use crate::proved::subsetter_text_c::Units;
 
 /// What a text keeps of its font.
 pub struct TextLists {
@@ -27,6 +30,19 @@ pub struct TextLists {
     pub inked: Vec<bool>,
     /// Whether its runs go from top to bottom.
     pub is_vertical: bool,
+    /// The advance of each glyph, where own glyphs are made.
+    pub advances: Vec<u16>,
+    /// Of each glyph whether it can be a part of an own one.
+    pub partable: Vec<bool>,
+    /// How many parts an own glyph can have.
+    pub most_parts: u16,
+}
+
+/// A copy of a list.
+fn copy_of<T: Copy>(items: &[T]) -> Result<Vec<T>, Error> {
+    let mut copy = super::with_room(items.len())?;
+    copy.extend_from_slice(items);
+    Ok(copy)
 }
 
 /// Coordinates as the proved calls take them.
@@ -49,9 +65,23 @@ pub fn text_lists(
     index: u32,
     coordinates: &[Coordinate],
     choices: &FontChoices,
+    makes_own: bool,
 ) -> Result<TextLists, Error> {
     let at = at(data, index, coordinates)?;
     let is_vertical = choices.0.direction == Direction::Vertical;
+    if makes_own && !is_vertical {
+        let found = own_choice(Global, data, index, &at, &choices.0.limits).map_err(refused)?;
+        let (font, choice) = (found.font(), found.choice());
+        return Ok(TextLists {
+            units_per_em: font.units,
+            metrics: copy_of(font.metrics)?,
+            inked: copy_of(font.inked)?,
+            is_vertical,
+            advances: copy_of(choice.advances)?,
+            partable: copy_of(choice.can_be_part)?,
+            most_parts: choice.most_parts,
+        });
+    }
     let found = if is_vertical {
         column_metrics(Global, data, index, &at, &choices.0.limits)
     } else {
@@ -59,17 +89,14 @@ pub fn text_lists(
     };
     let found = found.map_err(refused)?;
     let font = found.font();
-    let (mut metrics, mut inked) = (
-        super::with_room(font.metrics.len())?,
-        super::with_room(font.inked.len())?,
-    );
-    metrics.extend_from_slice(font.metrics);
-    inked.extend_from_slice(font.inked);
     Ok(TextLists {
         units_per_em: font.units,
-        metrics,
-        inked,
+        metrics: copy_of(font.metrics)?,
+        inked: copy_of(font.inked)?,
         is_vertical,
+        advances: Vec::new(),
+        partable: Vec::new(),
+        most_parts: 0,
     })
 }
 
@@ -84,6 +111,16 @@ pub struct TextView<'a> {
     pub inked: &'a [bool],
     /// What each code from 1 on draws and says.
     pub pairs: &'a [TextPair],
+    /// The advance of each glyph.
+    pub advances: &'a [u16],
+    /// Of each glyph whether it can be a part of an own one.
+    pub partable: &'a [bool],
+    /// The own glyphs.
+    pub own: &'a [TextOwn],
+    /// Their parts, one after the other.
+    pub parts: &'a [TextPart],
+    /// How many parts an own glyph can have.
+    pub most_parts: u16,
 }
 
 impl<'a> TextView<'a> {
@@ -92,6 +129,25 @@ impl<'a> TextView<'a> {
             units: self.units_per_em,
             metrics: self.metrics,
             inked: self.inked,
+        }
+    }
+
+    fn choice(&self) -> Choice<'a> {
+        Choice {
+            units: self.units_per_em,
+            advances: self.advances,
+            inked: self.inked,
+            can_be_part: self.partable,
+            most_parts: self.most_parts,
+            is_still: false,
+        }
+    }
+
+    fn kept(&self) -> proved::Kept<'a> {
+        proved::Kept {
+            pairs: self.pairs,
+            own: self.own,
+            parts: self.parts,
         }
     }
 }
@@ -111,11 +167,25 @@ fn chosen(direction: u32, order: u32) -> (RunDirection, Order) {
     (direction, order)
 }
 
-/// The operators of a run, and the pairs then.
-type Shown = (Vec<u8>, Vec<TextPair>);
+/// The operators of a run, and the lists of the text then.
+pub struct ShownLists {
+    /// The operators.
+    pub operators: Vec<u8>,
+    /// What each code from 1 on draws and says.
+    pub pairs: Vec<TextPair>,
+    /// The own glyphs.
+    pub own: Vec<TextOwn>,
+    /// Their parts.
+    pub parts: Vec<TextPart>,
+}
 
-fn taken(shown: proved::ShownRun) -> Shown {
-    (shown.operators.into_inner(), shown.pairs.into_inner())
+fn taken(shown: proved::ShownRun) -> ShownLists {
+    ShownLists {
+        operators: shown.operators.into_inner(),
+        pairs: shown.pairs.into_inner(),
+        own: shown.own.into_inner(),
+        parts: shown.parts.into_inner(),
+    }
 }
 
 /// Shows a run of items, whose texts are ranges of the characters.
@@ -130,10 +200,13 @@ pub fn show_items(
     direction: u32,
     order: u32,
     size: u32,
-) -> Result<Shown, RunError> {
+) -> Result<ShownLists, RunError> {
     let (way, order) = chosen(direction, order);
-    let (font, pairs) = (text.font(), text.pairs);
-    proved::show_items(Global, font, pairs, items, characters, way, order, size).map(taken)
+    let (font, choice, kept) = (text.font(), text.choice(), text.kept());
+    proved::show_items(
+        Global, font, &choice, kept, items, characters, way, order, size,
+    )
+    .map(taken)
 }
 
 /// Shows a run of glyphs with cluster numbers, which count the units.
@@ -148,10 +221,13 @@ pub fn show_shaped(
     direction: u32,
     order: u32,
     size: u32,
-) -> Result<Shown, RunError> {
+) -> Result<ShownLists, RunError> {
     let (way, order) = chosen(direction, order);
-    let (font, pairs) = (text.font(), text.pairs);
-    proved::show_shaped(Global, font, pairs, glyphs, units, way, order, size).map(taken)
+    let (font, choice, kept) = (text.font(), text.choice(), text.kept());
+    proved::show_shaped(
+        Global, font, &choice, kept, glyphs, units, way, order, size,
+    )
+    .map(taken)
 }
 
 /// All that a PDF has of the font of a text.
@@ -163,22 +239,31 @@ pub fn text_font(
     data: &[u8],
     index: u32,
     coordinates: &[Coordinate],
-    pairs: &[TextPair],
+    text: TextView<'_>,
     is_vertical: bool,
     choices: &FontChoices,
 ) -> Result<(FontLists, FontNumbers), Refusal> {
     let at = at(data, index, coordinates)?;
-    let pairs = proved::pairs_of(Global, pairs).map_err(|error| match error {
+    let pairs = proved::pairs_of(Global, text.pairs).map_err(|error| match error {
         RunError::OutOfMemory => Error::OutOfMemory,
         _ => Error::OverflowError,
     })?;
+    let own = proved::own_of(Global, text.own, text.parts).map_err(|error| match error {
+        RunError::InvalidText => Refusal::Text,
+        _ => Refusal::from(Error::OutOfMemory),
+    })?;
+    let count = if text.own.is_empty() {
+        65_536
+    } else {
+        text.metrics.len()
+    };
     let mut options = choices.0;
     options.direction = if is_vertical {
         Direction::Vertical
     } else {
         Direction::Horizontal
     };
-    let made = proved_font(Global, data, index, &at, &pairs, 65_536, &[], &options);
+    let made = proved_font(Global, data, index, &at, &pairs, count, &own, &options);
     let made = made.map_err(|error| Refusal::Font(FontError::of(error)))?;
     let (mut lists, numbers) = parted(made.font)?;
     lists.cid_to_gid_map = made

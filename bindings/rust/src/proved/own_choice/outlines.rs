@@ -18,6 +18,7 @@ const HEADER_SIZE: usize = 10;
 pub struct Outlines<'a> {
     pub glyf: &'a [u8],
     pub loca: &'a [u8],
+    #[allow(dead_code)] // (the definitions read it)
     pub head: &'a [u8],
 }
 

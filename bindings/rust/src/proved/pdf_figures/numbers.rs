@@ -26,6 +26,19 @@ impl OwnGlyphs {
             places: HashMap::new(alloc),
         }
     }
+
+    /// These, in order.
+    ///
+    /// # Errors
+    ///
+    /// `OutOfMemory` alone.
+    pub fn of(alloc: Global, list: Vec<OwnInk>) -> Result<Self, Error> {
+        let mut places = HashMap::new(alloc);
+        for place in 0..list.len().min(65_535) {
+            places.insert(hash_of(&list[place]), place as u16)?;
+        }
+        Ok(Self { list, places })
+    }
 }
 
 /// A number that differs for most own glyphs.

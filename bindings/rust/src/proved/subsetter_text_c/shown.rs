@@ -3,51 +3,79 @@
 
 use crate::rattle::prelude::Vec;
 
-use crate::proved::pdf_operators::{show_run, Font, Order};
+use crate::proved::pdf_figures::Choice;
+use crate::proved::pdf_operators::{Font, Order};
+use crate::proved::pdf_own_runs::show_own_run;
 use crate::proved::pdf_runs::{items_of, Direction, Item, RunError, Shaped, Unit};
 use crate::proved::subsetter_text_c::items::{items_in, TextItem};
+use crate::proved::subsetter_text_c::own::{glyphs_of, owns_of, parts_of, TextOwn, TextPart};
 use crate::proved::subsetter_text_c::pairs::{entries_of, pairs_of, TextPair};
 use crate::proved::subsetter_text_c::units::{
     characters_of, characters_of_numbers, unit_of, Units,
 };
 use crate::rattle::alloc::Global;
 
-/// A run that is shown.
+/// What a text has of the runs before.
+#[derive(Clone, Copy)]
+pub struct Kept<'a> {
+    /// What each code from 1 on draws and says.
+    pub pairs: &'a [TextPair],
+    /// The own glyphs, whose numbers are after those of the font's glyphs.
+    pub own: &'a [TextOwn],
+    /// Their parts, one after the other.
+    pub parts: &'a [TextPart],
+}
+
+/// A run that is shown, and what the text has then.
 pub struct ShownRun {
     /// The operators.
     pub operators: Vec<u8>,
-    /// What each code from 1 on draws and says then.
     pub pairs: Vec<TextPair>,
+    pub own: Vec<TextOwn>,
+    pub parts: Vec<TextPart>,
 }
 
-/// Shows a run, where the codes from 1 on draw and say this.
+/// Shows a run of a text that has this.
 fn show<'a>(
     alloc: Global,
     font: Font<'_>,
-    pairs: &[TextPair],
+    choice: &Choice<'_>,
+    kept: Kept<'_>,
     items: &'a [Item<'a>],
     direction: Direction,
     order: Order,
     size: u32,
 ) -> Result<ShownRun, RunError> {
-    let mut pairs = pairs_of(alloc, pairs)?;
-    let operators = show_run(alloc, font, direction, order, size, &mut pairs, items)?;
+    let mut pairs = pairs_of(alloc, kept.pairs)?;
+    let mut own = glyphs_of(alloc, kept.own, kept.parts)?;
+    let operators = show_own_run(
+        alloc, font, choice, direction, order, size, &mut pairs, &mut own, items,
+    )?;
     let pairs = entries_of(alloc, &pairs)?;
-    Ok(ShownRun { operators, pairs })
+    let parts = parts_of(alloc, &own.list)?;
+    let own = owns_of(alloc, &own.list)?;
+    Ok(ShownRun {
+        operators,
+        pairs,
+        own,
+        parts,
+    })
 }
 
-/// Shows a run of items, whose texts are ranges of characters, where the codes from 1 on draw and say this. The size is in
-/// thousandths of a unit of text space.
+/// Shows a run of items, whose texts are ranges of characters, of a text that has this. The size is in thousandths of a unit
+/// of text space.
 ///
 /// # Errors
 ///
-/// - `InvalidText`: a number is no character, the items aren't of the characters, or what `show_run` says.
-/// - `Overfull`: there would be more than 65,535 codes.
+/// - `InvalidText`: a number is no character, the items aren't of the characters, own glyphs aren't what `own_of` reads, or what
+///   `show_own_run` says.
+/// - `Overfull`: there would be more than 65,535 codes, or glyphs of the font with own ones.
 /// - `OutOfMemory`: a request for memory was refused.
 pub fn show_items(
     alloc: Global,
     font: Font<'_>,
-    pairs: &[TextPair],
+    choice: &Choice<'_>,
+    kept: Kept<'_>,
     items: &[TextItem],
     text: &[u32],
     direction: Direction,
@@ -56,14 +84,15 @@ pub fn show_items(
 ) -> Result<ShownRun, RunError> {
     let characters = characters_of_numbers(alloc, text)?;
     let items = items_in(alloc, &characters, items)?;
-    show(alloc, font, pairs, &items, direction, order, size)
+    show(alloc, font, choice, kept, &items, direction, order, size)
 }
 
 /// Shows a run of glyphs with cluster numbers.
 fn show_glyphs(
     alloc: Global,
     font: Font<'_>,
-    pairs: &[TextPair],
+    choice: &Choice<'_>,
+    kept: Kept<'_>,
     glyphs: &[Shaped],
     unit: Unit,
     characters: &[char],
@@ -72,21 +101,22 @@ fn show_glyphs(
     size: u32,
 ) -> Result<ShownRun, RunError> {
     let items = items_of(alloc, direction, unit, characters, glyphs)?;
-    show(alloc, font, pairs, &items, direction, order, size)
+    show(alloc, font, choice, kept, &items, direction, order, size)
 }
 
-/// Shows a run of glyphs with cluster numbers, which count the units of a text, where the codes from 1 on draw and say this. The
-/// size is in thousandths of a unit of text space.
+/// Shows a run of glyphs with cluster numbers, which count the units of a text. The size is in thousandths of a unit of text space.
 ///
 /// # Errors
 ///
-/// - `InvalidText`: the units are no text, the glyphs aren't of it, or what `show_run` says.
-/// - `Overfull`: there would be more than 65,535 codes.
+/// - `InvalidText`: the units are no text, the glyphs aren't of it, own glyphs aren't what `own_of` reads, or what `show_own_run`
+///   says.
+/// - `Overfull`: there would be more than 65,535 codes, or glyphs of the font with own ones.
 /// - `OutOfMemory`: a request for memory was refused.
 pub fn show_shaped(
     alloc: Global,
     font: Font<'_>,
-    pairs: &[TextPair],
+    choice: &Choice<'_>,
+    kept: Kept<'_>,
     glyphs: &[Shaped],
     units: Units<'_>,
     direction: Direction,
@@ -97,7 +127,8 @@ pub fn show_shaped(
     show_glyphs(
         alloc,
         font,
-        pairs,
+        choice,
+        kept,
         glyphs,
         unit_of(units),
         &characters,

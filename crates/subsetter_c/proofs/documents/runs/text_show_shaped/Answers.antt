@@ -13,6 +13,6 @@ returns-clause-made c = λ known.
     let d = c.args.direction in
     let o = c.args.order in
     run_handed (IsTextShownIn t w a b e gs d o c.args.size) (IsTextUnshownIn t w a b e gs d o) c.show_shaped-answer.result t c.hand_run.new.text c.hand_run.new.made c.hand_run.new.left c.hand_run.result
-    (text_shown t d o c.font_of-font.result c.direction_of-direction.result c.order_of-order.result c.font_of-font.ensures c.direction_of-direction.ensures c.order_of-order.ensures w a b e c.in-Some.units c.in-Some.ensures.1 gs c.args.size c.show_shaped-answer.result c.show_shaped-answer.ensures.ok)
-    (text_unshown t d o c.font_of-font.result c.direction_of-direction.result c.order_of-order.result c.font_of-font.ensures c.direction_of-direction.ensures c.order_of-order.ensures w a b e c.in-Some.units c.in-Some.ensures.1 gs c.show_shaped-answer.result c.show_shaped-answer.ensures.err)
+    (text_shown t d o c.font_of-font.result c.choice_of-choice.result c.direction_of-direction.result c.order_of-order.result c.font_of-font.ensures c.choice_of-choice.ensures c.direction_of-direction.ensures c.order_of-order.ensures w a b e c.in-Some.units c.in-Some.ensures.1 gs c.args.size c.show_shaped-answer.result c.show_shaped-answer.ensures.ok)
+    (text_unshown t d o c.font_of-font.result c.choice_of-choice.result c.direction_of-direction.result c.order_of-order.result c.font_of-font.ensures c.choice_of-choice.ensures c.direction_of-direction.ensures c.order_of-order.ensures w a b e c.in-Some.units c.in-Some.ensures.1 gs c.show_shaped-answer.result c.show_shaped-answer.ensures.err)
     c.hand_run.ensures
