@@ -371,6 +371,11 @@ export interface TextChoices {
      * Without it as it is seen.
      */
     readonly order?: "visual" | "logical";
+    /**
+     * False: the font gets no own glyphs. Else, in horizontal text of a font with outlines in `glyf`, glyphs are drawn together by own
+     * ones: a letter with its marks, and the parts of a ligature. More readers copy and find the text then.
+     */
+    readonly ownGlyphs?: boolean;
 }
 
 /** Text of a font in a PDF: runs of shaped glyphs, which readers copy and find, and then the font that they want. */

@@ -347,6 +347,16 @@ function pdfChoicesOf(options) {
 
 const indexOf = ({ index = 0 }) => whole(index, 0, WORD_AT_MOST, "index");
 
+/** The lists of a text, and their words, by the places of the lists. */
+function listsOfText({ unitsPerEm, metrics, inked, advances, partable, mostParts }, { pairs, own, parts }) {
+    const sizes = [8, 1, 2, 1, 12, 8, 12], lists = [metrics, inked, advances, partable, pairs, own, parts];
+    const counted = (...places) => {
+        const words = lists.flatMap((list, i) => [places[i], list.length / sizes[i]]);
+        return [unitsPerEm, ...words.slice(0, 8), mostParts, ...words.slice(8)];
+    };
+    return { lists, counted };
+}
+
 /**
  * An instance of the module. Its memory holds the module's own data, then the fonts, and after them what one call needs:
  * its arguments, and the heap, which begins anew with each call.
@@ -542,11 +552,12 @@ class Library {
         return explained(() => this.#pdfFont("subsetter_pdf_font", font, index, lists, counted, glyphs, entries, choices), () => faultOf(entries));
     }
 
-    /** The same of the codes of a text. */
-    textFont(font, index, pairs, choices) {
-        const glyphs = [...new Set(numbersOf(4, pairs.buffer, 0, pairs.length / 4).filter((_, i) => i % 3 === 1))];
-        const counted = (at) => [at, pairs.length / 12], none = { glyphs: [], text: [], ends: [] };
-        return this.#pdfFont("subsetter_text_font", font, index, [pairs], counted, glyphs, none, choices);
+    /** The same of the codes of a text, with what it needs of the font. */
+    textFont(font, index, needs, kept, choices) {
+        const count = needs.metrics.length / 8, none = { glyphs: [], text: [], ends: [] };
+        const drawn = numbersOf(4, kept.pairs.buffer, 0, kept.pairs.length / 4).filter((it, i) => i % 3 === 1 && it < count);
+        const { lists, counted } = listsOfText(needs, kept);
+        return this.#pdfFont("subsetter_text_font", font, index, lists, counted, [...new Set(drawn)], none, choices);
     }
 
     #pdfFont(name, font, index, lists, counted, glyphs, entries, { tokens, depth, bytes, drop, coordinates = [], further }) {
@@ -570,25 +581,32 @@ class Library {
     }
 
     /** What runs of text need of a font that is held here. */
-    newText(font, index, { tokens, depth, bytes, drop, coordinates = [], further }) {
-        const given = (at) => [font.at, font.size, index, at, coordinates.length / 2, tokens, depth, bytes, drop, ...further, 0, 0, 0, 0, 0];
+    newText(font, index, { tokens, depth, bytes, drop, coordinates = [], further }, makesOwn) {
+        const given = (at) => [font.at, font.size, index, at, coordinates.length / 2, tokens, depth, bytes, drop, ...further, makesOwn, ...Array(10).fill(0)];
         const { status, buffer, words } = this.#call("subsetter_new_text", [listOf(4, coordinates)], given);
         this.#check(status, "subsetter_advances", font, index, [], { tokens });
-        const [unitsPerEm, metricsAt, metricCount, inkedAt, inkedCount] = words.slice(-5);
+        const [unitsPerEm, metricsAt, metrics, inkedAt, inked, advancesAt, advances, partableAt, partable, mostParts] = words.slice(-10);
         const list = (at, size) => new Uint8Array(buffer.slice(at, at + size));
-        return { unitsPerEm, metrics: list(metricsAt, 8 * metricCount), inked: list(inkedAt, inkedCount) };
+        return {
+            unitsPerEm, metrics: list(metricsAt, 8 * metrics), inked: list(inkedAt, inked),
+            advances: list(advancesAt, 2 * advances), partable: list(partableAt, partable), mostParts,
+        };
     }
 
-    /** What shows a run, by `name`: the operators, and the codes of the text then. A glyph and a unit of its text have so many bytes. */
-    show(name, [glyphSize, unitSize], { unitsPerEm, metrics, inked }, pairs, glyphs, text, ...choices) {
-        const given = (metricsAt, inkedAt, pairsAt, glyphsAt, textAt) => [
-            unitsPerEm, metricsAt, metrics.length / 8, inkedAt, inked.length, pairsAt, pairs.length / 12,
-            glyphsAt, glyphs.length / glyphSize, textAt, text.length / unitSize, ...choices, 0, 0,
+    /** What shows a run, by `name`: the operators, and what the text keeps then. A glyph and a unit of its text have so many bytes. */
+    show(name, [glyphSize, unitSize], needs, kept, glyphs, text, ...choices) {
+        const { lists, counted } = listsOfText(needs, kept);
+        const given = (...places) => [
+            ...counted(...places), places.at(-2), glyphs.length / glyphSize, places.at(-1), text.length / unitSize, ...choices, 0, 0,
         ];
-        const { status, buffer, words } = this.#call(name, [metrics, inked, pairs, glyphs, text], given);
+        const { status, buffer, words } = this.#call(name, [...lists, glyphs, text], given);
         this.#check(status);
         const list = (at, size) => new Uint8Array(buffer.slice(at, at + size));
-        return { operators: list(...words.slice(-2)), pairs: list(words[5], 12 * words[6]) };
+        const [pairsAt, pairs, ownAt, own, partsAt, parts] = words.slice(10);
+        return {
+            operators: list(...words.slice(-2)),
+            kept: { pairs: list(pairsAt, 12 * pairs), own: list(ownAt, 8 * own), parts: list(partsAt, 12 * parts) },
+        };
     }
 
     /** The codes of entries, without a font. */
@@ -882,21 +900,21 @@ class PdfText {
     #needs;
     #isVertical;
     #order;
-    /** What each code from 1 on draws and says, as the module has it. */
-    #pairs = new Uint8Array(0);
+    /** What each code from 1 on draws and says, and the own glyphs among it, as the module has them. */
+    #kept = { pairs: new Uint8Array(0), own: new Uint8Array(0), parts: new Uint8Array(0) };
 
     constructor(library, data, options) {
-        const bytes = bytesOf(data), given = named(options, ["index", "limits", "coordinates", "vertical", "rights", "order"], "options");
-        const { limits, coordinates, vertical = false, rights } = given;
+        const bytes = bytesOf(data), given = named(options, ["index", "limits", "coordinates", "vertical", "rights", "order", "ownGlyphs"], "options");
+        const { limits, coordinates, vertical = false, rights, ownGlyphs = true } = given;
         this.#index = indexOf(given);
         this.#choices = { limits, coordinates, vertical, rights };
         this.#order = oneOf(given.order, ["visual", "logical"], "order");
         this.#isVertical = kept(vertical, "vertical");
-        const choices = pdfChoicesOf(this.#choices);
+        const choices = pdfChoicesOf(this.#choices), makesOwn = kept(ownGlyphs, "ownGlyphs") ? 1 : 0;
         this.#library = library;
         this.#place = library.hold(bytes);
         try {
-            this.#needs = library.newText(this.#place, this.#index, choices);
+            this.#needs = library.newText(this.#place, this.#index, choices, makesOwn);
         } catch (error) {
             this.close();
             throw error;
@@ -939,10 +957,10 @@ class PdfText {
             throw new RangeError(`size must be from 0 to ${WORD_AT_MOST / 1000}, and not ${points}`);
         }
         this.#held();
-        const lists = [this.#needs, this.#pairs, listOf(4, glyphs), listOf(sizes[1], text)];
+        const lists = [this.#needs, this.#kept, listOf(4, glyphs), listOf(sizes[1], text)];
         const show = () => this.#library.show(name, sizes, ...lists, number, this.#order, Math.round(1000 * points));
         const shown = explained(show, () => fault(DIRECTIONS[number]));
-        this.#pairs = shown.pairs;
+        this.#kept = shown.kept;
         return shown.operators;
     }
 
@@ -1005,7 +1023,7 @@ class PdfText {
     font(options) {
         const chosen = named(options, ["small", "hinting", "bounds", "cidSet", "tag"], "options");
         const choices = pdfChoicesOf({ ...chosen, ...this.#choices });
-        return this.#library.textFont(this.#held(), this.#index, this.#pairs, choices);
+        return this.#library.textFont(this.#held(), this.#index, this.#needs, this.#kept, choices);
     }
 
     close() {

@@ -148,6 +148,9 @@ test("runs of shaped text", () => {
     assert.deepEqual(readBack(font, lines[0]), ["office q\u0304x", "office q\u0304x"]);
     assert.deepEqual(readBack(font, lines[1]), [said, [...said].reverse().join("")]);
     assert.ok(font.cidToGidMap.length === 2 * font.glyphCount && font.parts([9, 8, 7, 6, 5, 4]).some(({ role }) => role === "cid_to_gid_map"));
+    // Own glyphs draw the ligature, and the letter with its mark: each code says what is where it is.
+    const plain = latin1(new subsetter.PdfText(DEJAVU, { ownGlyphs: false }).shaped("office q\u0304x", latin));
+    assert.deepEqual([lines[0], lines[1], plain].map((it) => it.includes("ActualText")), [false, false, true]);
     const items = [{ glyph: 82, text: "o" }, { glyph: 5044, text: "ffi" }, { glyph: 70, text: "c" }, { glyph: 72, text: "e", xAdvance: 1260 }];
     assert.deepEqual(text.run(items), text.shaped("office", latin.slice(0, 4)));
     assert.deepEqual([text.unitsPerEm, text.advances([82, 3])], [2048, [612, 318]]);

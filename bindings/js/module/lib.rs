@@ -13,7 +13,7 @@ mod heap;
 mod status;
 
 use fonts::capi::pdf::{self, Column, Entries, FontChoices, FontLists, FontNumbers, FontParts, Refusal};
-use fonts::capi::pdf::{GlyphMetrics, RunError, Shaped, TextItem, TextPair, TextView, Units};
+use fonts::capi::pdf::{GlyphMetrics, RunError, Shaped, ShownLists, TextItem, TextOwn, TextPair, TextPart, TextView, Units};
 use fonts::capi::{self, Choices, Coordinate};
 use fonts::pdf::{FontError, PartsError};
 use fonts::{Embedded, Error};
@@ -471,6 +471,17 @@ pub struct TextNeeds {
     units_per_em: u32,
     metrics: List<GlyphMetrics>,
     inked: List<bool>,
+    advances: List<u16>,
+    partable: List<bool>,
+    most_parts: u32,
+}
+
+/// What codes draw and say, and the own glyphs among it.
+#[repr(C)]
+pub struct TextKept {
+    pairs: List<TextPair>,
+    own: List<TextOwn>,
+    parts: List<TextPart>,
 }
 
 /// A call that makes a text of a font.
@@ -480,14 +491,15 @@ pub struct TextCall {
     index: u32,
     coordinates: List<Coordinate>,
     chosen: Chosen,
+    makes_own: u32,
     needs: TextNeeds,
 }
 
-/// A call that shows a run of a text, and gives it other pairs.
+/// A call that shows a run of a text, and gives it other lists.
 #[repr(C)]
 pub struct ShowCall<G, U> {
     needs: TextNeeds,
-    pairs: List<TextPair>,
+    kept: TextKept,
     glyphs: List<G>,
     text: List<U>,
     direction: u32,
@@ -502,36 +514,42 @@ pub struct TextFontCall {
     font: List<u8>,
     index: u32,
     coordinates: List<Coordinate>,
-    pairs: List<TextPair>,
+    needs: TextNeeds,
+    kept: TextKept,
     chosen: Chosen,
     made: FontMade,
 }
 
-impl<G, U> ShowCall<G, U> {
-    /// # Safety
-    ///
-    /// As of `List::items`, for each.
-    unsafe fn view(&self) -> TextView<'_> {
-        unsafe {
-            TextView {
-                units_per_em: self.needs.units_per_em as u16,
-                metrics: self.needs.metrics.items(),
-                inked: self.needs.inked.items(),
-                pairs: self.pairs.items(),
-            }
+/// # Safety
+///
+/// As of `List::items`, for each.
+unsafe fn view_of<'a>(needs: &'a TextNeeds, kept: &'a TextKept) -> TextView<'a> {
+    unsafe {
+        TextView {
+            units_per_em: needs.units_per_em as u16,
+            metrics: needs.metrics.items(),
+            inked: needs.inked.items(),
+            pairs: kept.pairs.items(),
+            advances: needs.advances.items(),
+            partable: needs.partable.items(),
+            own: kept.own.items(),
+            parts: kept.parts.items(),
+            most_parts: needs.most_parts as u16,
         }
     }
+}
 
+impl<G, U> ShowCall<G, U> {
     /// Takes a run over.
-    fn take(&mut self, shown: Result<(Vec<u8>, Vec<TextPair>), RunError>) -> u32 {
+    fn take(&mut self, shown: Result<ShownLists, RunError>) -> u32 {
         let shown = shown.map_err(|error| match error {
             RunError::InvalidText => INVALID_TEXT,
             RunError::Overfull => OVERFULL,
             RunError::OutOfMemory => status_of(Error::OutOfMemory),
         });
-        status(shown.map(|(bytes, pairs)| {
-            self.bytes = List::of(bytes);
-            self.pairs = List::of(pairs);
+        status(shown.map(|lists| {
+            self.bytes = List::of(lists.operators);
+            self.kept = TextKept { pairs: List::of(lists.pairs), own: List::of(lists.own), parts: List::of(lists.parts) };
         }))
     }
 }
@@ -542,12 +560,17 @@ impl<G, U> ShowCall<G, U> {
 #[no_mangle]
 pub unsafe extern "C" fn subsetter_new_text(call: &mut TextCall) -> u32 {
     let (font, at) = unsafe { (call.font.items(), call.coordinates.items()) };
-    let made = call.chosen.choices().and_then(|choices| pdf::text_lists(font, call.index, at, &choices).map_err(status_of));
+    let made = call.chosen.choices().and_then(|choices| {
+        pdf::text_lists(font, call.index, at, &choices, call.makes_own != 0).map_err(status_of)
+    });
     status(made.map(|made| {
         call.needs = TextNeeds {
             units_per_em: u32::from(made.units_per_em),
             metrics: List::of(made.metrics),
             inked: List::of(made.inked),
+            advances: List::of(made.advances),
+            partable: List::of(made.partable),
+            most_parts: u32::from(made.most_parts),
         };
     }))
 }
@@ -557,7 +580,7 @@ pub unsafe extern "C" fn subsetter_new_text(call: &mut TextCall) -> u32 {
 /// As of `List::items`.
 #[no_mangle]
 pub unsafe extern "C" fn subsetter_show_run(call: &mut ShowCall<TextItem, u32>) -> u32 {
-    let (view, items, text) = unsafe { (call.view(), call.glyphs.items(), call.text.items()) };
+    let (view, items, text) = unsafe { (view_of(&call.needs, &call.kept), call.glyphs.items(), call.text.items()) };
     let shown = pdf::show_items(view, items, text, call.direction, call.order, call.size);
     call.take(shown)
 }
@@ -567,7 +590,7 @@ pub unsafe extern "C" fn subsetter_show_run(call: &mut ShowCall<TextItem, u32>) 
 /// As of `List::items`.
 #[no_mangle]
 pub unsafe extern "C" fn subsetter_show_shaped(call: &mut ShowCall<Shaped, u16>) -> u32 {
-    let (view, glyphs, text) = unsafe { (call.view(), call.glyphs.items(), Units::Utf16(call.text.items())) };
+    let (view, glyphs, text) = unsafe { (view_of(&call.needs, &call.kept), call.glyphs.items(), Units::Utf16(call.text.items())) };
     let shown = pdf::show_shaped(view, glyphs, text, call.direction, call.order, call.size);
     call.take(shown)
 }
@@ -577,9 +600,9 @@ pub unsafe extern "C" fn subsetter_show_shaped(call: &mut ShowCall<Shaped, u16>)
 /// As of `List::items`.
 #[no_mangle]
 pub unsafe extern "C" fn subsetter_text_font(call: &mut TextFontCall) -> u32 {
-    let (font, at, pairs) = unsafe { (call.font.items(), call.coordinates.items(), call.pairs.items()) };
+    let (font, at, view) = unsafe { (call.font.items(), call.coordinates.items(), view_of(&call.needs, &call.kept)) };
     let made = call.chosen.choices().and_then(|choices| {
-        FontMade::of(pdf::text_font(font, call.index, at, pairs, call.chosen.is_vertical(), &choices))
+        FontMade::of(pdf::text_font(font, call.index, at, view, call.chosen.is_vertical(), &choices))
     });
     status(made.map(|made| call.made = made))
 }
