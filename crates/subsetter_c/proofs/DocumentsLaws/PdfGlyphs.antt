@@ -12,7 +12,7 @@ use Rattle.subsetter_variable.proofs.Stands.{find_is}
 use Rattle.subsetter_variable.proofs.Static.{unread_at}
 use Rattle.text_glyphs.specs.Choice.{character_glyph}
 use Rattle.text_glyphs.specs.Faces.{face_source}
-use Rattle.text_glyphs.specs.Reading.{Source, source_of}
+use Rattle.text_glyphs.specs.Reading.{source_of}
 use Rattle.text_glyphs.specs.View.{source_view}
 use Rattle.text_glyphs.specs.declared.source.TextSource.{TextSource}
 use Rattle.pdf_font.specs.Opened.{IsOpened}

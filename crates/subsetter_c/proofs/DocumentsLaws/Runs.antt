@@ -48,11 +48,11 @@ use Rattle.subsetter_c.specs.declared.settings.Coordinate.{Coordinate}
 
 -- ---- runs
 
-abbrev lists_as : List TextPair → List TextOwn → List TextPart → Lists
+abbrev pub lists_as : List TextPair → List TextOwn → List TextPart → Lists
 lists_as ps os qs = record { pairs = ps; own = os; parts = qs }
 
-pub lists_are : (t : TextMade) (s : ShownRun) → t.pairs.now ≡ s.pairs.items → t.own.now ≡ s.own.items → t.parts.now ≡ s.parts.items → lists_of t ≡ lists_shown s
-lists_are t s p q r = ap (λ (l : List TextPair). lists_as l t.own.now t.parts.now) p ∙ ap (λ (l : List TextOwn). lists_as s.pairs.items l t.parts.now) q ∙ ap (λ (l : List TextPart). lists_as s.pairs.items s.own.items l) r
+pub lists_are : (ps : List TextPair) (os : List TextOwn) (qs : List TextPart) (s : ShownRun) → ps ≡ s.pairs.items → os ≡ s.own.items → qs ≡ s.parts.items → lists_as ps os qs ≡ lists_shown s
+lists_are ps os qs s p q r = ap (λ (l : List TextPair). lists_as l os qs) p ∙ ap (λ (l : List TextOwn). lists_as s.pairs.items l qs) q ∙ ap (λ (l : List TextPart). lists_as s.pairs.items s.own.items l) r
 
 -- an answer is handed over: then what is known of it
 pub run_handed : (Is : ShownRun → Type 0) (Why : RunError → Type 0) (answer : Result ShownRun RunError) (before after : TextMade) (made : ObjectsMade) (left : PairsLeft) (status : ℕ) → IfOk answer Is → IfErr answer Why → IsRunHanded (λ s. answer ≡ Ok s) (λ e. answer ≡ Err e) before after made left status → IsRunHanded Is Why before after made left status
@@ -104,7 +104,7 @@ all_as c m ws ps n p q r s =
     ap (λ (x : Metrics). chosen_as x ws ps n) p ∙ ap (λ (x : List ℕ). chosen_as c.lines x ps n) q ∙ ap (λ (x : List Bool). chosen_as c.lines c.advances x n) r ∙ ap (λ (x : ℕ). chosen_as c.lines c.advances c.can_be_part x) s
 
 -- where there are no metrics, there is nothing to be kept
-plain_of : Result Metrics Error → Result Chosen Error
+abbrev plain_of : Result Metrics Error → Result Chosen Error
 plain_of r = r >>= (λ m. Ok (without_own m))
 
 pub fails_plain : (e : Error) (r : Result Metrics Error) → Fails e r → Fails e (r >>= (λ m. Ok (without_own m)))

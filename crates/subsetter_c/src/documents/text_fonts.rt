@@ -1,6 +1,6 @@
 //! A text before its first run, and the font of one, handed to C.
 
-ghost use Rattle.std.specs.Prelude.{◌≡◌, ◌≢◌, ◌⊎◌, Ok, Err, IfOk, IfErr, true, false};
+ghost use Rattle.std.specs.Prelude.{◌≡◌, ◌≢◌, ◌⊎◌, ◌&&◌, Ok, Err, IfOk, IfErr, true, false};
 ghost use Rattle.subsetter_base.specs.Gives.{Gives};
 ghost use Rattle.subsetter_base.specs.declared.error.Error.TheVariants.{OutOfMemory};
 ghost use Rattle.subsetter_sfnt.specs.Extras.{all_extras};
@@ -200,6 +200,29 @@ fn kept_for(
     kept_at(alloc, font, index, &settings, coordinates, options, makes)
 }
 
+/// Whether runs of a text make own glyphs.
+fn are_made(words: &[u32], direction: Direction) -> bool
+    ensures { result ≡ (makes_own words.now && is_horizontal direction) }
+{
+    makes_own(words) && is_horizontal(direction)
+}
+
+/// What a text of a font keeps, whose runs make own glyphs where the words of the options leave them to be made.
+fn kept_by(
+    alloc: Global,
+    font: &[u8],
+    index: u32,
+    coordinates: &[Coordinate],
+    options: &FontOptions,
+    words: &[u32],
+) -> Result<TextKept, Error>
+    ensures seen { Gives kept_seen result (chosen_by (makes_own words.now && is_horizontal options.now.direction) options.now.direction options.now.limits (font_at font.now index all_extras) (settings_of coordinates.now)) }
+    ensures coordinates { IfOk result (λ k. k.coordinates.items ≡ coordinates.now) }
+{
+    let makes = are_made(words, options.direction);
+    kept_for(alloc, font, index, coordinates, options, makes)
+}
+
 /// No text.
 fn no_text() -> TextMade
     ensures { IsNoText result }
@@ -293,8 +316,7 @@ pub extern "C" fn subsetter_new_text_by_words(
     }
     match font_options_of(options) {
         Some(chosen) => {
-            let makes = makes_own(options) && is_horizontal(chosen.direction);
-            let answer = kept_for(alloc, font, index, coordinates, &chosen, makes);
+            let answer = kept_by(alloc, font, index, coordinates, &chosen, options);
             hand_text(answer, font, index, chosen.direction, made)
         }
         None => {

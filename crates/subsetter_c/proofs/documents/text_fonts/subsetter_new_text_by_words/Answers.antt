@@ -15,8 +15,8 @@ returns-in-Some-clause-made c = λ own known.
     record {
       options = o;
       chosen = c.in-Some.ensures.1;
-      handed = text_read c.kept_for-answer.result (chosen_by (makes_own c.args.options.now && is_horizontal o.direction) o.direction o.limits (font_at c.args.font.now c.args.index all_extras) (settings_of c.args.coordinates.now)) c.args.font.now c.args.index c.args.coordinates.now o.direction c.hand_text.new.made c.hand_text.result
-          c.kept_for-answer.ensures.seen c.kept_for-answer.ensures.coordinates c.hand_text.ensures;
+      handed = text_read c.kept_by-answer.result (chosen_by (makes_own c.args.options.now && is_horizontal o.direction) o.direction o.limits (font_at c.args.font.now c.args.index all_extras) (settings_of c.args.coordinates.now)) c.args.font.now c.args.index c.args.coordinates.now o.direction c.hand_text.new.made c.hand_text.result
+          c.kept_by-answer.ensures.seen c.kept_by-answer.ensures.coordinates c.hand_text.ensures;
     }
 
 pub returns-in-None-clause-made : goal.returns-in-None-clause-made
