@@ -33,7 +33,8 @@ ALLOWED = {
     ("pdf_own_runs", "items_with_own"): (1, "of `figured_items` without OverflowError"),
     ("subset_args", "enum ArgsError"): (1, "the case itself"),
     ("subset_args", "glyphs_of"): (1, "`push` takes memory and has no other error"),
-    ("subset_task", "no_memory"): (2, "its argument is an allocator's refusal"),
+    ("subset_task", "no_memory"): (4, "its argument is an allocator's refusal"),
+    ("subset_task", "push_picked"): (1, "takes memory and has no other error"),
     ("subset_font", "text_of"): (1, "`json_numbers` writes into a vector, which has no other error"),
     ("subset_task", "after_name"): (1, "`collect` takes memory and has no other error"),
     ("subset_task", "read_arguments"): (2, "the system's own error for memory"),
@@ -77,11 +78,13 @@ ALLOWED = {
     ("subsetter_boxes", "unless_memory"): (2, "passes on that of its argument"),
     ("glyph_names", "read_charset"): (2, "passes on that of `Table::parse`"),
     ("subsetter_text_c", "add_pairs"): (1, "of `codes_of` without OverflowError"),
+    ("subsetter_text_c", "glyphs_of"): (1, "`OwnGlyphs::of` has no other error"),
+    ("subsetter_text_c", "owns_of"): (1, "ends of parts past 32 bits, which memory doesn't hold"),
     ("subsetter_text_c", "pairs_of"): (1, "`no_pairs` has no other error"),
     ("subsetter_text_c", "characters_of_numbers"): (1, "`characters_of` has no other error"),
     ("subsetter_c", "run_status"): (1, "its status"),
     ("text_metrics", "columns_there"): (2, "`tops_of` and `columns_at` of glyphs below 65,535 have no other error"),
-    ("subsetter_c", "font_for"): (2, "passes on that of `pairs_of`"),
+    ("subsetter_c", "font_for"): (3, "passes on those of `pairs_of` and `own_of`"),
 }
 WORDS = re.compile(r"\bOutOfMemory\b|\bNoMemory\b|\b(?:AllocError|AllocFailed)\b(?!\s*[>,}]|<\w)")
 # `Unwritten` of subset_lines is that a writer failed: a write or a request that failed is right before it.
