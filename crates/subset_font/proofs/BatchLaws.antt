@@ -2,12 +2,13 @@
 use Rattle.std.proofs.Common.{◌≡◌, ◌⊎◌, inl, inr, ℕ, List, [], Option, Some, Result, Ok, Err, refl, sym, subst}
 use Rattle.std.specs.Prelude.{IfOk, IfErr, Vec}
 use Rattle.std.specs.Global.{Global}
+use Rattle.subset_args.specs.declared.jobs.command.Glyphs.{Glyphs}
 use Rattle.subset_args.specs.declared.jobs.command.Job.{Job}
 use Rattle.subset_args.specs.declared.listing.lists.GlyphList.{GlyphList}
 use Rattle.subsetter_base.specs.declared.error.Error.TheVariants.{OutOfMemory}
 use Rattle.subset_task.specs.Batch.Answers.{IsFailedBy, IsFailedWith, IsWithinMost}
 use Rattle.subset_font.specs.Batch.Making.{IsDone, IsUndone, named_text, message_of, IsAnswer, IsAnswerTo}
-use Rattle.subset_task.specs.Chosen.{KeptGlyphs, kept_by_each, IsPlanOf}
+use Rattle.subset_task.specs.Chosen.{KeptGlyphs, kept_by_each, IsPlanOf, IsUnlisted}
 use Rattle.subset_task.specs.Files.{name_by}
 use Rattle.subset_font.specs.Making.Carried.{IsBeforeWriting, IsFailureOf, WritesAll}
 use Rattle.subset_task.specs.Refusals.Failure.{status_of}
@@ -32,6 +33,10 @@ undone bytes job lists plan failure p (inr unwritten) = inr (inr unwritten)
 pub undone_of : (bytes : List ℕ) (job : Job) (lists : List (Option GlyphList)) (kept : List KeptGlyphs) (plan : Plan) (result : Result (Vec ℕ Global) Failure) → kept ≡ kept_by_each job.glyphs.items lists → IsPlanOf job kept plan → IfErr result (λ e. IsFailureOf plan (Some bytes) e ⊎ ((e ≡ LongAnswer) ⊎ ((e ≡ WritePdf) ⊎ (e ≡ Write)))) → IfErr result (IsUndone bytes job)
 undone_of bytes job lists kept plan (Ok object) k p why = tt
 undone_of bytes job lists kept plan (Err failure) k p why = undone bytes job lists plan failure (subst (λ (ks : List KeptGlyphs). IsPlanOf job ks plan) k p) why
+
+-- a file has no list
+pub unlisted_of : (bytes : List ℕ) (job : Job) (glyphs : List Glyphs) (failure : Failure) → glyphs ≡ job.glyphs.items → IsUnlisted glyphs failure → IsUndone bytes job failure
+unlisted_of bytes job glyphs failure is why = inl (subst (λ (them : List Glyphs). IsUnlisted them failure) is why)
 
 -- memory ran out
 pub no_memory : (plan : Plan) (bytes : List ℕ) (failure : Failure) → failure ≡ Error OutOfMemory → IsFailureOf plan (Some bytes) failure
