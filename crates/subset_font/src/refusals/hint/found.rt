@@ -1,6 +1,6 @@
 //! What is known of a refusal by its error.
 
-ghost use Rattle.std.specs.Prelude.{◌≡◌};
+ghost use Rattle.std.specs.Prelude.{◌≡◌, codes};
 ghost use Rattle.std.specs.Option.{option_map};
 ghost use Rattle.subsetter_sfnt.specs.Extras.{all_extras};
 ghost use Rattle.font_reasons.specs.Explained.{no_cmap};
@@ -134,11 +134,18 @@ fn hint_of_error(error: Error, font: &[u8], task: &Task<'_>) -> Option<Hint>
     }
 }
 
+/// The tag of `cmap`.
+fn cmap_tag() -> Tag
+    ensures { result ≡ record { 0 = codes "cmap" } }
+{
+    Tag::new(b"cmap")
+}
+
 /// Whether a face has no `cmap`.
 fn no_cmap(font: &[u8], index: u32) -> Option<Reason>
     ensures { result ≡ no_cmap (record { bytes = font.now; index = index; extras = all_extras }) }
 {
-    no_table(font, index, Tag::new(b"cmap"))
+    no_table(font, index, cmap_tag())
 }
 
 /// What is known of a face without a mapping of Unicode characters.

@@ -114,9 +114,14 @@ fn hint_of_error(error: Error, font: &[u8], task: &Task<'_>) -> Option<Hint> {
     }
 }
 
+/// The tag of `cmap`.
+fn cmap_tag() -> Tag {
+    Tag::new(b"cmap")
+}
+
 /// Whether a face has no `cmap`.
 fn no_cmap(font: &[u8], index: u32) -> Option<Reason> {
-    no_table(font, index, Tag::new(b"cmap"))
+    no_table(font, index, cmap_tag())
 }
 
 /// What is known of a face without a mapping of Unicode characters.
