@@ -65,6 +65,8 @@ class Base:
         """What is done to a call, in the words of strace."""
         call = self.got.steps[at].call
         what = {"signal": f"signal={signal.Signals(number).name if how == 'signal' else ''}", "nothing": "retval=0"}.get(how, f"error={errno.errorcode.get(number)}")
+        # (Linux answers a refused brk by an end of the heap that is too low, and by no error)
+        what = "retval=0" if call == "brk" and how != "signal" else what
         return f"{call}:{what}:when={[it.call for it in self.got.steps[:at + 1]].count(call)}{'+' * (how == 'errors')}"
 
 
