@@ -1,10 +1,10 @@
-"""Two builds of the same sources: the C library over the generated crate, with overflow checks, and LIBRARY (the proved one): builds --faces N --copies N
+"""Two builds of the same sources: the C library over the generated crate, with overflow checks, and LIBRARY (the proved one): builds --faces N --copies N --wasm N
 
     faces    N faces of the machine's fonts, spread over all, with lists of 0 to 2,000 glyphs, options, CIDs and widths, coordinates, and faces that
              aren't there: the same answer, and no panic. Of one list also what no proof says: all glyphs of a subset give it back, and each option
              leaves out what it names and keeps every other table
     damage   N damaged copies of fonts of all kinds (lib/kinds.py), each by one call, and of a variable one by one at coordinates
-    wasm     80 glyphs of each of the faces by the module that `make -C bindings/js` builds, or WASM; not in the short form
+    wasm     80 glyphs of N of the faces by the module that `make -C bindings/js` builds, or WASM; not in the short form
 
 Other processors have the rows and numbers of tests/platforms. LIBRARY is else what `make -C bindings/c` proves and builds.
 """
@@ -71,6 +71,7 @@ def compare_laws(report, label, call, data, glyphs, index, font):
 
 def compare_face(paths, path, index):
     report, data = reports.Report(fonts.label(path, index)), fonts.content(path)
+    report.counts["faces"] = 1
     count, at = fonts.count_in(data, index), places(data, index)
     lists = [[], [k * count // 4 for k in (1, 2, 3)], [k * count // 81 for k in range(1, 81)], list(range(min(count, 2000)))[::-1], [max(count, 1) - 1, count, 65535]]
     for k, glyphs in enumerate(lists):
@@ -100,15 +101,6 @@ def compare_piece(paths, found, numbers, seed):
     return report
 
 
-def wasm():
-    """The WebAssembly module: WASM, or as `make -C bindings/js` builds it."""
-    if "WASM" in os.environ:
-        return build.named("WASM")
-    folder = os.path.join(build.ROOT, "bindings", "js")
-    subprocess.run(["make", "-s", "-C", folder], check=True)
-    return os.path.join(folder, "out", "subsetter.wasm")
-
-
 def by_wasm(module, faces, report, room):
     """Compares the WebAssembly module's answers with the library's."""
     calls = build.Calls()
@@ -127,9 +119,9 @@ def by_wasm(module, faces, report, room):
 
 
 def main():
-    words = reports.words(faces=(1000, 60), copies=(100000, 6000))
+    words = reports.words(faces=(1000, 60), copies=(100000, 6000), wasm=(200, 0))
     os.environ.setdefault("LIBRARY", build.PROVED)
-    paths, report, module = (build.checked_library(), build.library()), reports.Report("builds"), None if words.short else wasm()
+    paths, report, module = (build.checked_library(), build.library()), reports.Report("builds"), build.wasm() if words.wasm else None
     fonts.install(kinds.PACKAGES)
     faces = fonts.part_of([it for it in fonts.faces() if words.only in it[0]], words.faces)
     found = reports.beside(words, compare_face, [(paths, *it) for it in faces], 0.6)
@@ -138,7 +130,7 @@ def main():
     found += reports.beside(words, compare_piece, pieces, 0.8)
     if module:
         with tempfile.TemporaryDirectory(prefix="builds-") as room:
-            by_wasm(module, faces, report, room)
+            by_wasm(module, faces[:words.wasm], report, room)
     counts = reports.total([*found, report])
     reports.end([*found, report], counts["calls"] + counts["wasm"],
-                f"{counts['calls']} calls of {len(faces)} faces and {counts['copies']} damaged copies, {counts['fonts']} fonts; {counts['wasm']} faces by WebAssembly")
+                f"{counts['calls']} calls of {counts['faces']} faces and {counts['copies']} damaged copies, {counts['fonts']} fonts; {counts['wasm']} faces by WebAssembly")

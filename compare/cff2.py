@@ -32,9 +32,9 @@ import report as reports
 DAMAGED_AT_MOST = 2 ** 20
 
 
-def one_face(words, path, index):
+def one_place(words, path, index, number):
     with tempfile.TemporaryDirectory(prefix="cff2-") as room:
-        return cff2_whole.compare_face(words, path, index, room)
+        return cff2_whole.compare_face(words, path, index, number, room)
 
 
 def main():
@@ -42,7 +42,7 @@ def main():
     fonts.install(harfbuzz.PACKAGES)
     words.program = build.program()
     faces = cff2_fonts.faces(words.folders, words.only, with_large=not words.short)
-    found = reports.beside(words, one_face, [(words, *it) for it in faces], 0.5)
+    found = reports.beside(words, one_place, [(words, *it, number) for number in range(words.places + 1) for it in faces if not number or fonts.axes(fonts.content(it[0]), it[1])], 0.5)
     small = cff2_fonts.faces(words.folders, words.only, DAMAGED_AT_MOST)
     pieces = [(words, *face, number) for number in range(-(-words.copies // (cff2_damaged.PIECE * len(small)))) for face in small]
     found += reports.beside(words, cff2_damaged.piece, pieces)

@@ -220,4 +220,4 @@ def main():
     found = reports.beside(words, task, [it for it in tasks if it[1] == "disk"]) + reports.beside(words, task, [it for it in tasks if it[1] != "disk"])
     counts = reports.total(found)
     ends = {end: sum(number for name, number in counts.items() if name == end or name.startswith(end + " ")) for end in ("whole", "cannot read", "cannot write", "out of memory", "stopped", "ended by a signal")}
-    reports.end(found, counts["runs"], f"runs of {len(ways)} ways with a fault of the system, which end as docs/CLI.md has it: {', '.join(f'{end} {number}' for end, number in ends.items())}")
+    reports.end(found, counts["runs"], f"runs of {len(found)} of {len(tasks)} ways and kinds of faults of the system, which end as docs/CLI.md has it: {', '.join(f'{end} {number}' for end, number in ends.items())}")

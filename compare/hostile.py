@@ -139,6 +139,11 @@ def wide(size):
     return static(size, hhea=(head := u32s(0x10000) + u16s(800, 65336) + bytes(26) + u16s(size)), vhea=head, hmtx=metrics, vmtx=metrics)
 
 
+def shown(_):
+    """A font for runs that are long."""
+    return fonts.content(os.path.join(build.ROOT, "bindings", "rust", "tests", "data", "made.ttf"))
+
+
 # ---- the families: name, maker, size, and the call with its glyphs
 
 AT = "wght=650"
@@ -152,6 +157,7 @@ CALLS = [
     ("one name of all glyphs", lambda n: named(n, 0), 16000, "subset 0-{last} -"), ("names of the font", records, 2500, "subset 0 -"),
     ("groups of cmap", groups, 40000, "glyphs 0-{size} -"), ("segments of cmap", segments, 8000, "glyphs 1-{size} -"),
     ("widths and ToUnicode", wide, 16000, "pdf 1-{last} -"), ("heights", wide, 16000, "columns 1-{last} -"), ("a chain of composites", lambda n: made.truetype([made.composite([k + 1]) for k in range(n - 1)] + [b""]), 16000, "subset 0 -"),
+    ("glyphs of a run", shown, 32768, "run 1-{size} -"), ("glyphs of a cluster", shown, 10000, "cluster 1-{size} -"), ("characters of a glyph", shown, 500000, "characters 1-{size} -"),
     ("tree of subroutines", tree, 20, "subset 0-{last} -"), ("numbers of five bytes", lambda n: tree(n, 12, b"\xff\1\2\3\4" * 8 + b"\5\x0b"), 20, "subset 0-{last} -"),
     ("masks of stems", lambda n: tree(n, 12, b"\x8b\x8b\x01\x13\xaa\x0b"), 20, "subset 0-{last} -"), ("one outline of composites", crowd, 2000, "subset 0 -"),
 ]

@@ -131,4 +131,4 @@ def main():
     pieces = [(drivers, known, range(first, min(first + PIECE, words.copies)), words.seed) for first in range(0, words.copies, PIECE)]
     found += reports.beside(words, compare_piece, pieces)
     counts = reports.total(found)
-    reports.end(found, counts["answers"] + counts["copies"], f"{counts['answers']} answers of {len(faces)} faces, {counts['copies']} damaged copies, {counts['refused']} refused alike, {counts['explained']} different as explained")
+    reports.end(found, counts["answers"] + counts["copies"], f"{counts['answers']} answers of {counts['answers'] // len(SIZES)} faces, {counts['copies']} damaged copies, {counts['refused']} refused alike, {counts['explained']} different as explained")

@@ -144,13 +144,14 @@ def pieces(given, room):
 
 
 def main():
-    given = reports.words(faces=(150, 24), copies=(150, 120))
+    given = reports.words(faces=(300, 24), copies=(300, 120))
     fonts.install(FONTS + readers.PACKAGES + readers.PDFBOX)
     total, all_, wanted = collections.Counter(), reports.Report("pdf_font"), 0
     calls()
+    end = time.monotonic() + 60 * given.minutes
     with tempfile.TemporaryDirectory(prefix="pdf-font-") as room:
         for number, cases in enumerate(pieces(given, room)):
-            if time.monotonic() > given.end:
+            if time.monotonic() > end:
                 break
             wanted += len(cases)
             found, done = compared_piece(cases, given, os.path.join(room, str(number)))

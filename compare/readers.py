@@ -159,24 +159,22 @@ def compare_place(path, index, cff2, place, glyphs, folder):
     return wrong
 
 
-def compare_font(words, path, index=0):
-    """Some places of a face."""
+def one_place(number, path, index):
+    """A face at a random place, or one with CFF2 at its default (0)."""
     data, label = fonts.content(path), fonts.label(path, index)
-    report, rng, cff2 = Report(label), random.Random(label), Cff2Face(path, index) if "CFF2" in fonts.directory(data, index) else None
+    report, rng, cff2 = Report(label), random.Random(f"{label} {number}"), Cff2Face(path, index) if "CFF2" in fonts.directory(data, index) else None
     axes, count, other = fonts.axes(data, index), fonts.count_in(data, index), harfbuzz.HarfBuzz(path, index)
     there = [glyph for glyph in rng.sample(range(1, count), min(count - 1, 4 * GLYPHS_A_PLACE)) if harfbuzz.contours(other.drawn(glyph))][:GLYPHS_A_PLACE]
-    places = [[]] * bool(cff2) + [harfbuzz.random_place(axes, rng) for _ in range(words.places if axes else 0)]
-    for place in places:
-        glyphs, wrong = rng.sample(there, len(there)), []
-        with tempfile.TemporaryDirectory(prefix="places-") as room:
-            try:
-                wrong = compare_place(path, index, cff2, place, glyphs, room)
-                report.counts["places"] += 1
-            except Refused as it:
-                if not (cff2 and is_too_wide(cff2, cff2.at(place), [0, *glyphs]) and str(it) == TOO_LARGE):
-                    wrong = [f"refused: {it}"]
-        for it in wrong:
-            report.say(f"at {harfbuzz.words_at(place) or 'the default'}", it)
+    place, wrong = harfbuzz.random_place(axes, rng) if number else [], []
+    with tempfile.TemporaryDirectory(prefix="places-") as room:
+        try:
+            wrong = compare_place(path, index, cff2, place, there, room)
+            report.counts["places"] += 1
+        except Refused as it:
+            if not (cff2 and is_too_wide(cff2, cff2.at(place), [0, *there]) and str(it) == TOO_LARGE):
+                wrong = [f"refused: {it}"]
+    for it in wrong:
+        report.say(f"at {harfbuzz.words_at(place) or 'the default'}", it)
     return report
 
 
@@ -189,10 +187,11 @@ def main():
     listed = [it[1:] for pair in zip(fonts.TRUETYPE_FONTS, fonts.CFF_FONTS) for it in pair]
     faces = [(bare, path, index) for bare, count in ((False, words.faces), (True, words.bare))
              for path, index in (listed[:count] if words.short else chosen(count)) if words.only in path]
-    found = reports.beside(words, compare_face, faces, 0.5)
+    found = reports.beside(words, compare_face, fonts.part_of(faces, len(faces)), 0.5)
     variable = [(path, 0) for path in fonts.variable(words.folders, words.only)][:words.fonts]
     cff2 = cff2_fonts.faces(words.folders, words.only)[:words.fonts]
-    found += reports.beside(words, compare_font, [(words, *it) for it in variable + cff2])
-    counts = reports.total(found)
-    reports.end(found, counts["faces"] + counts["places"], f"{counts['faces']} faces, {counts['bare']} of them bare, and {counts['places']} places of {len(variable)} fonts with `glyf` "
-                f"and {len(cff2)} with CFF2, by three readers")
+    rows = [(number, *it) for number in range(words.places + 1) for it in variable * (number > 0) + cff2 if not number or fonts.axes(fonts.content(it[0]), it[1])]
+    places = reports.beside(words, one_place, rows)
+    counts = reports.total(found + places)
+    reports.end(found + places, counts["faces"] + counts["places"], f"{counts['faces']} faces, {counts['bare']} of them bare, and {counts['places']} places of {len({it.label for it in places})} variable "
+                "fonts, with `glyf` or CFF2, by three readers")

@@ -1,15 +1,18 @@
-"""Do PDF readers give lines of shaped text back, and is each glyph where the shaper has it?: text --lines N (of each script)
+"""Do PDF readers give lines of shaped text back, and is each glyph where the shaper has it?: text --lines N (of each script) --by LANGUAGES --skip PROGRAMS
 
-Each line of text.tsv is shaped by HarfBuzz (hb-shape, its default clusters), shown by the Python call PdfText, and embedded in a PDF of its own.
+Each line of text.tsv is shaped by HarfBuzz (hb-shape, its default clusters), shown by the Python call PdfText, and embedded in a PDF of its own. By
+Rust, C and JavaScript (drivers/text.*; --by rust,c) a line without texts of single glyphs has to have the same bytes; not in the short form.
 
 - `qpdf --check` finds nothing in it; with all lines PDFBox's preflight finds it valid as PDF/A-1b.
 - Each outline lies within half a thousandth of the em of where the shaper has it, and so does the pen at the end of a run: operators, widths, map and
   program of the file are read here (ISO 32000-1, 9.4.4, 9.7.4), and HarfBuzz draws the glyphs of the program and of the source.
+- Compressed, all fonts and pages with one text for each cluster have at most 1.02 of the bytes of sheets (PdfFont.sheet).
 - The reader's text is the line's: exactly (2), after marks of direction are taken out, NFC, each space of category Zs as U+0020, no blanks at the ends, and
   no line ends in a column; or nearly (1), but for blanks and default ignorables. MuPDF and Ghostscript know no directions: of these the order in which
   letters or clusters stand counts, too. It fails where a reader gives back less than text.tsv says, and says where it gives more.
 
-Whole runs have the lines made by four other programs beside it, as far as these can make them; nothing is demanded of them.
+Whole runs have the lines made by four other programs beside it (lib/writers.py), but for those with texts of single glyphs. Nothing is demanded of
+them, but that they are there: one that isn't is left out by --skip alone.
 In text.tsv `runs` are a text, its direction, script and language each, as they stand on the line from the left; `texts` are those of single glyphs.
 """
 import csv
@@ -19,6 +22,7 @@ import os
 import re
 import tempfile
 import unicodedata
+import zlib
 from fractions import Fraction
 from types import SimpleNamespace
 
@@ -34,6 +38,8 @@ from pdf_file import FIRST, Face, archival
 from report import Report
 
 SIZE = 24
+# The part of a sheet's bytes that fonts and pages may take.
+PACKED = 1.02
 TOKEN = re.compile(r"<[0-9A-F]*>|/\w+|[][]|<<|>>|-?[\d.]+|\w+")
 DIRECTION = re.compile("[\u200e\u200f\u202a-\u202e\u2066-\u2069]")
 IGNORED = re.compile("[\u00ad\u034f\u200b-\u200d\u2060\ufe00-\ufe0f\ufeff\U000e0100-\U000e01ef\\s]")
@@ -62,6 +68,11 @@ class Run:
         begins = list(dict.fromkeys(it.cluster for it in self.glyphs))
         ends = dict(zip(sorted(begins), [*sorted(begins)[1:], len(self.text)]))
         return [self.text[it:ends[it]] for it in begins]
+
+    def numbers(self):
+        """What drivers/text.* read."""
+        rows = [it for glyph in self.glyphs for it in vars(glyph).values()]
+        return " ".join(map(str, [("ltr", "rtl", "ttb").index(self.direction), len(self.text), len(self.glyphs), *map(ord, self.text), *rows]))
 
     def drawn(self, source):
         """The outlines as the shaper has them, in thousandths, and the end of the pen."""
@@ -92,7 +103,7 @@ class Line:
         return set(map(plain, found))
 
     def write(self, path):
-        """Writes the PDF; the operators of each run."""
+        """Writes the PDF; the operators of each run, and the objects of the font."""
         shown, ends, data = [], [0, 0], fonts.content(self.font)
         with calls().PdfText(data, vertical=self.is_vertical, rights="held") as text:
             for run in self.runs:
@@ -101,10 +112,23 @@ class Line:
                 else:
                     shown.append(text.shaped(run.text, run.glyphs, run.glyphs, run.direction, SIZE))
                 ends = [end + sum(getattr(it, name) for it in run.glyphs) * SIZE // text.units_per_em for end, name in zip(ends, ("x_advance", "y_advance"))]
-            objects = text.font(hinting=False, cid_set=True).objects(FIRST)
-        content = f"BT /F0 {SIZE} Tf {60 if ends[1] else 30} {40 - ends[1]} Td\n" + "".join(it.decode() for it in shown) + "ET"
+            font = text.font(hinting=False, cid_set=True)
+        objects, content = font.objects(FIRST), f"BT /F0 {SIZE} Tf {60 if ends[1] else 30} {40 - ends[1]} Td\n" + "".join(it.decode() for it in shown) + "ET"
+        self.packed = packed(font, content.encode())
         fonts.put(path, archival(*objects, content, (120 + ends[0], 90 - ends[1])))
-        return [it.decode() for it in shown]
+        return [it.decode() for it in shown], objects[0]
+
+    def packed_sheet(self):
+        """The bytes of a sheet of the line, as `packed` counts them: the text of a cluster is that of its first glyph."""
+        texts = [dict(zip(dict.fromkeys(it.cluster for it in run.glyphs), run.clusters())) for run in self.runs]
+        shown = [(it.codepoint, found.pop(it.cluster, "")) for run, found in zip(self.runs, texts) for it in run.glyphs]
+        font = calls().pdf_font(fonts.content(self.font), shown, rights="held", vertical=self.is_vertical, hinting=False, cid_set=True)
+        return packed(font, re.search(rb"stream\n(BT\n.*?)\nendstream", font.sheet(), re.S)[1])
+
+
+def packed(font, content):
+    """The bytes of a font's objects and of a page, each stream compressed."""
+    return len(zlib.compress(content)) + sum(len(it.value) for it in font.parts(range(FIRST, FIRST + font.part_count), compress=True))
 
 
 def lines(words):
@@ -204,23 +228,22 @@ def grade(line, reader, path):
     return 2 if got in wanted else int(IGNORED.sub("", got) in {IGNORED.sub("", it) for it in wanted}), got
 
 
-def grades_of_others(line, room):
+def grades_of_others(line, programs, room):
     """The text that readers find in what other programs make of a line."""
-    for name, write in writers.WRITERS.items() if not line.texts else ():
-        path = os.path.join(room, name, line.name + ".pdf")
-        os.makedirs(os.path.dirname(path), exist_ok=True)
+    for name in programs if not line.texts else ():
         try:
-            write(line, path)
-            yield from (((name, reader), grade(line, reader, path)[0]) for reader in readers.TEXTS)
+            path = writers.write(name, line, os.path.join(room, line.name))
+            yield from [((name, reader), grade(line, reader, path)[0]) for reader in readers.TEXTS] + [((name, ""), 0)]
         except (readers.Unread, OSError) as error:
             print(f"{line.name}: not made by {name}: {error}", flush=True)
 
 
-def compare_line(row, asked, is_short, room):
+def compare_line(row, asked, commands, programs, room):
     report, path = Report(row["name"]), os.path.join(room, row["name"] + ".pdf")
     try:
         line = Line(row)
-        operators = line.write(path)
+        operators, objects = line.write(path)
+        runs, said = fonts.put(path + ".runs", "\n".join(it.numbers() for it in line.runs)), "".join(operators).encode() + objects
         if CANARY.is_due:
             CANARY.is_due, operators[0] = False, operators[0].replace("]TJ", "2]TJ", 1)
         found = [("file", it) for it in readers.faults_by_qpdf(path)] + [("places", it) for it in faults_of_places(line, operators, path)]
@@ -230,9 +253,14 @@ def compare_line(row, asked, is_short, room):
             found += [(reader, f"{came}, not {line.floor[reader]}: {got!r}")] * (came < line.floor[reader])
             if came > line.floor[reader]:
                 print(f"{line.name}: {reader} {came}, more than {line.floor[reader]}", flush=True)
-        report.counts.update({"lines": 1, (line.script, "", ""): 1})
-        for (name, reader), came in () if is_short else grades_of_others(line, room):
-            report.counts.update({(name, reader, "exact"): came == 2, (name, reader, "near"): came > 0})
+        if not line.texts:
+            report.counts.update(packed=line.packed, sheets=line.packed_sheet())
+        for name, command in commands.items() if not line.texts else ():
+            found += [("language", f"other bytes by {name}")] * (readers.ran(*command, line.font, runs, str(int(line.is_vertical))) != said)
+            report.counts[name] += 1
+        report.counts.update({"lines": 1, (line.script, "", "near"): 1})
+        for (name, reader), came in grades_of_others(line, programs, room):
+            report.counts.update({(name, reader, "exact"): came == 2, (name, reader, "near"): came > 0 or not reader})
     except (readers.Unread, calls().Error, LookupError, ValueError, StopIteration) as error:
         found = [("not compared", repr(error))]
     for it in found:
@@ -240,21 +268,30 @@ def compare_line(row, asked, is_short, room):
     return report
 
 
+# The driver of each language.
+DRIVERS = {"rust": lambda: [build.driver("generated", "text", "--features", "subsetter/pdf")], "c": lambda: [build.gcc("text.c", f"-I{build.ROOT}/bindings/c", build.library()[:-2] + "a", to="text_c")],
+           "js": lambda: ["node", os.path.join(build.DRIVERS, "text.mjs"), build.wasm()]}
+
+
 def main():
-    words = reports.words(lines=(1000, 2))
+    words = reports.words(lines=(1000, 2), by=("rust,c,js", ""), skip=("", ",".join(writers.WRITERS)))
     rows, asked = list(lines(words)), list(readers.TEXTS)[:2 if words.short else None]
-    fonts.install(["libharfbuzz-bin", *readers.PACKAGES, *([] if words.short else readers.PDFBOX + readers.PDFJS + writers.PACKAGES), *(it["package"] for it in rows)])
+    fonts.install(["libharfbuzz-bin", *readers.PACKAGES, *([] if words.short else readers.PDFBOX + readers.PDFJS), *(it["package"] for it in rows)])
+    commands, programs, missing, left = {it: DRIVERS[it]() for it in words.by.split(",") if it not in ("", "python")}, *writers.there(words.skip.split(",")), Report("programs")
+    for name in missing:
+        left.say("left out", name)
     calls()
     with tempfile.TemporaryDirectory(prefix="text-") as room:
-        found = reports.beside(words, compare_line, [(it, asked, words.short, room) for it in rows])
+        found = reports.beside(words, compare_line, [(it, asked, commands, programs, room) for it in rows])
         if 0 < len(found) < len(rows):
-            found[-1].say("time", f"it ended after {len(found)} of {len(rows)} lines")
+            left.say("time", f"it ended after {len(found)} of {len(rows)} lines")
         paths = sorted(os.path.join(room, it) for it in os.listdir(room) if it.endswith(".pdf") and not words.short)
         for path, faults in zip(paths, readers.preflight(paths, room) if paths else ()):
-            found.append(Report(os.path.basename(path)))
             for it in faults:
-                found[-1].say("PDF/A-1b", it)
+                left.say("PDF/A-1b", f"{os.path.basename(path)}: {it}")
     counts = reports.total(found)
+    if counts["lines"] > 50 and counts["packed"] > PACKED * counts["sheets"]:
+        left.say("bytes", f"{counts['packed']} of fonts and pages, and {counts['sheets']} of sheets")
 
     def said(reader, scripts):
         exact, near = (sum(counts[script, reader, it] for script in scripts) for it in ("exact", "near"))
@@ -262,7 +299,8 @@ def main():
 
     scripts = list(dict.fromkeys(it["script"] for it in rows))
     print("\n".join([f"| Script | Lines | {' | '.join(asked)} |", "|---|---:|" + "---:|" * len(asked),
-                     *(f"| {script} | {counts[script, '', '']} | {' | '.join(said(it, [script]) for it in asked)} |" for script in scripts),
-                     *(f"| made by {name} | | {' | '.join(said(it, [name]) for it in asked)} |" for name in writers.WRITERS if not words.short)]))
-    reports.end(found, counts["lines"], f"{counts['lines']} lines of {len(scripts)} kinds of text, exact (or near) {', '.join(f'{said(it, scripts)} by {it}' for it in asked)}"
-                f"{f'; {len(paths)} files valid as PDF/A-1b' if paths else ''}")
+                     *(f"| {name} | {counts[name, '', 'near']} | {' | '.join(said(it, [name]) for it in asked)} |" for name in [*scripts, *programs])]))
+    by_all = ", ".join(f"{said(it, scripts)} by {it}" for it in asked)
+    others = "".join(f"; by the same of {counts[name, '', 'near']} lines of {name} {', '.join(said(it, [name]) for it in asked)}" for name in programs)
+    same = "".join(f"; the same bytes of {counts[name]} lines by {name}" for name in commands)
+    reports.end([*found, left], counts["lines"], f"{counts['lines']} lines of {len(scripts)} kinds of text, exact (or near) {by_all}{others}{same}; {counts['packed'] / (counts['sheets'] or 1):.3f} of the bytes of sheets{f'; {len(paths)} files valid as PDF/A-1b' if paths else ''}")

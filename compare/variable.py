@@ -155,12 +155,12 @@ def compare_place(report, library, data, place, glyphs, other):
     beside_fonttools(report, font.at, made)
 
 
-def compare_font(words, path):
+def one_place(words, path, number):
     report, library, data = Report(path), build.Calls(words.library), fonts.content(path)
-    rng, other = random.Random(f"{words.seed} {report.label}"), harfbuzz.HarfBuzz(path)
-    for _ in range(words.places):
-        place = harfbuzz.random_place(fonts.axes(data), rng)
-        compare_place(report, library, data, place, rng.sample(range(fonts.count_in(data, 0)), min(words.glyphs, fonts.count_in(data, 0))), other)
+    rng, other = random.Random(f"{words.seed} {report.label} {number}"), harfbuzz.HarfBuzz(path)
+    place = harfbuzz.random_place(fonts.axes(data), rng)
+    compare_place(report, library, data, place, rng.sample(range(fonts.count_in(data, 0)), min(words.glyphs, fonts.count_in(data, 0))), other)
+    report.counts["places"] = 1
     return report
 
 
@@ -227,9 +227,9 @@ def main():
     fonts.install(harfbuzz.PACKAGES)
     words.library = build.library()
     paths = fonts.variable(words.folders, words.only)
-    found = reports.beside(words, compare_font, [(words, path) for path in paths], 0.5)
+    found = reports.beside(words, one_place, [(words, path, number) for number in range(words.places) for path in paths], 0.5)
     pieces = [(words, path, number) for number in range(-(-words.copies // (PIECE * len(paths)))) for path in paths]
     found += reports.beside(words, damage_piece, pieces)
     counts = reports.total(found)
-    reports.end(found, counts["reading"] + counts["copies"] + counts["at the default"], f"{len(paths)} fonts at {words.places} places, {counts['reading']} glyphs, {counts['refused']} refused; "
+    reports.end(found, counts["reading"] + counts["copies"] + counts["at the default"], f"{len(paths)} fonts at {counts['places']} places, {counts['reading']} glyphs, {counts['refused']} refused; "
                 f"{counts['copies']} damaged copies, {counts['at the default']} at the default, {counts['refused copies']} refused ({counts['another error']} under another name)")

@@ -82,7 +82,7 @@ def c(room, program, compiler=("cc", "-std=c11", "-xc"), libraries=("-lz",)):
 
 
 def shaped(room, program):
-    c(room, program, libraries=("-I/usr/include/harfbuzz", "-lharfbuzz", "-lz"))
+    c(room, program, libraries=("-I/usr/include/harfbuzz", "-lharfbuzz"))
 
 
 def with_qpdf(room, program, libraries=("-lqpdf",)):
@@ -118,7 +118,7 @@ def test_programs_of_documents(tmp_path, how, document, language):
 
 
 LINES = ["Hello, Ελλάδα, office", "سلام لا", "हिन्दी क्षत्रिय", "ภาษาไทยที่นี่", "吾輩は猫である"]
-DEMANDED = {"shaped.py": ([LINES[4], *LINES[:4]], [LINES[0], LINES[1][::-1], *LINES[2:]], 4)}
+DEMANDED = {"shaped.py": ([LINES[4], *LINES[:4]], [LINES[0], LINES[1][::-1], *LINES[2:]], 4), "shaped.c": (LINES[:2], [LINES[0], LINES[1][::-1]])}
 EXAMPLES = {"writer.rs": rust, "shaped.c": shaped, "with_qpdf.cc": with_qpdf, "with_podofo.cc": with_podofo, "shaped.mjs": js}
 
 

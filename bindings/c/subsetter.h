@@ -90,6 +90,8 @@ enum {
     SUBSETTER_INVALID_TEXT = 12,
     /* The font has no table by which characters have glyphs; of the calls that look them up alone. */
     SUBSETTER_NO_CMAP = 13,
+    /* The font has bitmaps (`CBDT`, `sbix` or `EBDT`) and no outlines; of the calls that make a font for PDF alone. Others answer 1. */
+    SUBSETTER_BITMAPS_ALONE = 14,
     /* The font of a text would have more than 65,535 codes: the run is for another text. */
     SUBSETTER_OVERFULL = 15,
     /* The numbers of objects are too few or too many, 0, or not distinct; of the calls for PDF alone. */
@@ -102,10 +104,10 @@ static inline const char *subsetter_status_text(uint32_t status)
     static const char *const texts[] = {
         "all done", "unknown font kind", "malformed font", "unsupported feature in font", "subsetting of font failed",
         "overflow occurred", "processing CFF table failed", "out of memory", "a buffer is too small",
-        "the limit of the depth is 0", "unknown option", "embedding not permitted", "invalid text"
+        "the limit of the depth is 0", "wrong option, size or text", "embedding not permitted", "invalid text"
     };
     return status < sizeof texts / sizeof *texts ? texts[status]
-           : status == 13 ? "no usable cmap in font" : status == 15 ? "too many codes" : status == 16 ? "invalid numbers" : "unknown status";
+           : status == 13 ? "no usable cmap in font" : status == 14 ? "bitmaps alone in font" : status == 15 ? "too many codes" : status == 16 ? "invalid numbers" : "unknown status";
 }
 
 /* This text from the library, in ASCII, without a zero at the end: print it by "%.*s", with (int)length in front.
@@ -222,7 +224,7 @@ typedef struct subsetter_coordinate {
  *   8: there is room for less than `text_count` glyphs; `glyphs` is as it was, and `*length` is `text_count`.
  *   1, 2, 7, 12, 13: `glyphs` is as it was, and `*length` is 0.
  * The table is the first Unicode one of format 12, else of format 4, else of format 0, 6 or 13; else a symbol table, which has the
- * characters below U+0100 from U+F000 on; else one of Mac OS Roman.
+ * characters below U+0100 from U+F000 on; else one of Mac OS Roman. The font needs no outlines.
  */
 uint32_t subsetter_glyphs_of(const uint8_t *font, size_t font_size, uint32_t index,
                              const uint32_t *text, size_t text_count,
@@ -549,8 +551,8 @@ typedef struct subsetter_font {
  * are the 32-bit characters of all entries, and `ends` says for each entry where its characters end there; they begin where
  * those of the entry before end. So `end_count` is `glyph_count`. Where each glyph has one character, `ends` is 1, 2, 3 and so on.
  *   0: `*made` is the font.
- *   1 to 7, 10 to 12: all sizes, counts and numbers of `*made` are 0 (but for `made->size`), and nothing is to be freed. First comes
- *   10, then a text that isn't one (12), what is found in opening the font, 11, a text that is too long (12), and then what
+ *   1 to 7, 10 to 12, 14: all sizes, counts and numbers of `*made` are 0 (but for `made->size`), and nothing is to be freed. First
+ *   comes 10, then a text that isn't one (12), 14, what is found in opening the font, 11, a text that is too long (12), and then what
  *   `subsetter_embed_at_by_words` answers. 2 also where outlines in `glyf` have no `maxp`; 5 also for more than 65,535 pairs of a
  *   glyph and a text.
  * `made` is written by each call and must not be null; what it held before isn't freed. No value of the font descriptor is a
@@ -943,6 +945,22 @@ static inline uint32_t subsetter_make_text_font(const subsetter_text *text, cons
     made->size = sizeof(subsetter_font);
     return subsetter_make_text_font_by_words(text, subsetter_pdf_option_words(options), subsetter_pdf_option_count(options), made);
 }
+
+/* A run on a page of its own: its operators, which were shown with 36000 as their size, and how far the pen goes on, in thousandths of
+ * the em, without a sign. */
+typedef struct subsetter_line {
+    const uint8_t *operators;
+    size_t size;
+    uint32_t advance;
+} subsetter_line;
+
+/* A whole PDF file of runs of a text in 36 points. The font is that of the text, made after the last of them. A page is as long as its
+ * line with margins of 36 points, and has at most 14,400 points; without runs there are no pages.
+ *   0: `made->bytes` is the file, and the count of offsets is 0.
+ *   5, 7, 10 (an unknown `font->size`): the size and the count of `*made` are 0, and nothing is to be freed.
+ */
+uint32_t subsetter_make_text_sheet(const subsetter_font *font, const subsetter_line *lines, size_t line_count,
+                                   subsetter_pdf_objects *made);
 
 /* ---- a font in the older struct */
 

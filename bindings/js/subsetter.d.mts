@@ -37,6 +37,8 @@ export class NotPermitted extends SubsetterError {}
 export class InvalidText extends SubsetterError {}
 /** The font has no table by which characters have glyphs. */
 export class NoCmap extends SubsetterError {}
+/** The font has bitmaps (`CBDT`, `sbix` or `EBDT`) and no outlines: `pdfFont` alone throws it. */
+export class BitmapsAlone extends UnknownKind {}
 /** The font lacks characters of a text. */
 export class MissingCharacters extends SubsetterError {
     /** Their places, as of `TextGlyphs`. */
@@ -359,6 +361,12 @@ export interface RunChoices {
     readonly size?: number;
 }
 
+/** What shows a run: operators for a content stream. */
+export interface Run extends Uint8Array {
+    /** How far the pen goes on, in thousandths of the em; downwards it is below 0. */
+    readonly advance: number;
+}
+
 /** What a caller chooses of a text. */
 export interface TextChoices {
     readonly limits?: Limits;
@@ -384,22 +392,27 @@ export interface PdfText {
     unitsPerEm: number;
     /**
      * What shows a run of glyphs, in the order in which they are seen, for a content stream: between BT and ET, after Tf and Td or
-     * Tm, where Tc, Tw and Ts are 0 and Tz is 100. The pen goes on by the run's advance.
+     * Tm, where Tc, Tw and Ts are 0 and Tz is 100. The pen goes on by the run's `advance`.
      *
      * InvalidText is thrown where the first item continues a cluster, a glyph isn't the font's, an advance leaves the line, a text has
      * an unpaired surrogate, or one that needs an ActualText is too long; and Overfull. After an error the text is as it was.
      */
-    run(items: Iterable<Item>, options?: RunChoices): Uint8Array;
+    run(items: Iterable<Item>, options?: RunChoices): Run;
     /**
      * The same of what HarfBuzz has made of a text, where its font has the scale of units per em. A cluster's text goes from its number
      * to the next greater one of the run, or to the end. InvalidText is also thrown where a number isn't where a character begins,
      * or numbers fall in reading order.
      */
-    shaped(text: string, glyphs: Iterable<ShapedGlyph>, options?: RunChoices): Uint8Array;
+    shaped(text: string, glyphs: Iterable<ShapedGlyph>, options?: RunChoices): Run;
     /** The advances of glyphs in thousandths of the em, as W has them. */
     advances(glyphs: Iterable<number>): number[];
     /** All that a PDF has of the font, for the runs so far; it may be asked again after further ones. Errors are those of `pdfFont`. */
     font(options?: Pick<PdfChoices, "small" | "hinting" | "bounds" | "cidSet" | "tag">): PdfFont;
+    /**
+     * A whole PDF file of runs of this text, each on a page of its own, with the font for the runs so far. The font has 36 points there,
+     * and so has to be `size` of the runs. Options and errors are those of `font`.
+     */
+    sheet(runs: Iterable<Run>, options?: Parameters<PdfText["font"]>[0]): Uint8Array;
     /** Gives the font's memory back. Its calls throw a TypeError afterwards; fonts that it made stay. */
     close(): void;
 }
@@ -415,8 +428,8 @@ export interface Subsetter {
     /** The library's version, as "1.0.0". */
     readonly version: string;
     /**
-     * All that a PDF has of a font for glyphs in order of use, with repeats if need be. Besides, NotPermitted and InvalidText are
-     * thrown. No value of the font descriptor is a reason: where a table is missing or cut, another source of the value is taken.
+     * All that a PDF has of a font for glyphs in order of use, with repeats if need be. Besides, BitmapsAlone, NotPermitted and
+     * InvalidText are thrown. No value of the font descriptor is a reason: where a table is missing or cut, another source of the value is taken.
      */
     pdfFont(data: FontData, shown: Iterable<Shown>, options?: Face & PdfChoices & Place): PdfFont;
     /**

@@ -37,6 +37,8 @@ export class NotPermitted extends SubsetterError {}
 export class InvalidText extends SubsetterError {}
 /** The font has no table by which characters have glyphs. */
 export class NoCmap extends SubsetterError {}
+/** The font has bitmaps and no outlines: `pdfFont` alone throws it. */
+export class BitmapsAlone extends UnknownKind {}
 /** The font lacks characters of a text; `missing` are their places. */
 export class MissingCharacters extends SubsetterError {
     constructor(message, missing = []) {
@@ -50,7 +52,7 @@ export class Overfull extends OverflowError {}
 // The names are strings, since tools that make scripts smaller rename classes.
 const NAMES = {
     SubsetterError, UnknownKind, MalformedFont, Unimplemented, SubsetError, OverflowError, CFFError, OutOfMemory, NotPermitted,
-    InvalidText, NoCmap, MissingCharacters, Overfull,
+    InvalidText, NoCmap, BitmapsAlone, MissingCharacters, Overfull,
 };
 for (const [name, error] of Object.entries(NAMES)) {
     Object.defineProperty(error.prototype, "name", { value: name, configurable: true, writable: true });
@@ -61,6 +63,7 @@ const ERRORS = [, UnknownKind, MalformedFont, Unimplemented, SubsetError, Overfl
 ERRORS[11] = NotPermitted;
 ERRORS[12] = InvalidText;
 ERRORS[13] = NoCmap;
+ERRORS[14] = BitmapsAlone;
 ERRORS[15] = Overfull;
 ERRORS[16] = RangeError;
 const DONE = 0, OVERFLOW = 5, OUT_OF_MEMORY = 7, NOT_PERMITTED = 11, INVALID_NUMBERS = 16;
@@ -676,6 +679,23 @@ class Library {
         const [at, size, offsetsAt, offsetCount] = words.slice(-4);
         return { bytes: new Uint8Array(buffer.slice(at, at + size)), offsets: numbersOf(4, buffer, offsetsAt, offsetCount) };
     }
+
+    /** A file of runs and such a font. */
+    textSheet(raw, numbers, runs) {
+        const { lists, counted } = this.#lists(raw);
+        let size = 0;
+        const ends = runs.map((it) => (size += it.length)), operators = new Uint8Array(size);
+        runs.forEach((it, i) => operators.set(it, ends[i] - it.length));
+        const all = [...lists, operators, listOf(4, ends), listOf(4, runs.map((it) => Math.abs(it.advance)))];
+        const given = (...places) => {
+            const [operatorsAt, endsAt, advancesAt] = places.slice(lists.length);
+            return [...counted(places), ...numbers, operatorsAt, size, endsAt, ends.length, advancesAt, ends.length, 0, 0];
+        };
+        const { status, buffer, words } = this.#call("subsetter_text_sheet", all, given);
+        this.#check(status);
+        const [at, length] = words.slice(-2);
+        return new Uint8Array(buffer.slice(at, at + length));
+    }
 }
 
 const latin1 = (text) => Uint8Array.from(text, (it) => it.charCodeAt(0));
@@ -704,6 +724,9 @@ class Part {
         return stream ? joined(latin1("<< "), entries, latin1(`/Length ${stream.length} >>\nstream\n`), stream, latin1("\nendstream")) : joined(latin1("<< "), entries, latin1(">>"));
     }
 }
+
+/** The sheet of runs of a font, which is for `PdfText` alone. */
+const SHEET = Symbol("sheet");
 
 /** All that a PDF has of a font. */
 class PdfFont {
@@ -807,6 +830,10 @@ class PdfFont {
     sheet(layout) {
         const number = oneOf(layout, ["line", "grid"], "layout");
         return this.#written("subsetter_pdf_sheet", number, this.#entries).bytes;
+    }
+
+    [SHEET](runs) {
+        return this.#library.textSheet(this.#kept(), this.#numbers, runs);
     }
 }
 
@@ -959,9 +986,12 @@ class PdfText {
         this.#held();
         const lists = [this.#needs, this.#kept, listOf(4, glyphs), listOf(sizes[1], text)];
         const show = () => this.#library.show(name, sizes, ...lists, number, this.#order, Math.round(1000 * points));
-        const shown = explained(show, () => fault(DIRECTIONS[number]));
+        const shown = explained(show, () => fault(DIRECTIONS[number])), { unitsPerEm } = this.#needs;
         this.#kept = shown.kept;
-        return shown.operators;
+        // (each glyph ends with its advances and its offsets)
+        const step = sizes[0] / 4, at = step - (this.#isVertical ? 3 : 4);
+        const length = glyphs.reduce((sum, it, i) => (i % step === at ? sum + it : sum), 0);
+        return Object.defineProperty(shown.operators, "advance", { value: Math.floor((2000 * length + unitsPerEm) / (2 * unitsPerEm)) });
     }
 
     run(items, options) {
@@ -1024,6 +1054,17 @@ class PdfText {
         const chosen = named(options, ["small", "hinting", "bounds", "cidSet", "tag"], "options");
         const choices = pdfChoicesOf({ ...chosen, ...this.#choices });
         return this.#library.textFont(this.#held(), this.#index, this.#needs, this.#kept, choices);
+    }
+
+    sheet(runs, options) {
+        const wanted = "runs must be an iterable of what run and shaped return";
+        const lines = listed(runs, wanted, (it) => {
+            if (kindOf(it) !== "Uint8Array" || typeof it.advance !== "number") {
+                throw new TypeError(wanted);
+            }
+            return it;
+        });
+        return this.font(options)[SHEET](lines);
     }
 
     close() {

@@ -1,4 +1,4 @@
-/* Measures HarfBuzz: `harfbuzz_bench --list FILE`, where FILE has one line FONT INDEX GLYPHS COUNT, as the other drivers read it.
+/* Measures HarfBuzz: `harfbuzz_bench --list FILE`, where FILE has lines FONT INDEX GLYPHS COUNT of one face, as the other drivers read it.
  *
  * The face is preprocessed once, before the clock starts. The clock runs round each call of `hb_subset_or_fail` and the bytes of
  * its answer. Subroutines are resolved, glyph 0 keeps its outline and glyphs their names, and no layout tables and no `cmap` are kept, as
@@ -44,23 +44,24 @@ int main(int count, char **words) {
     static char font[4096], glyphs[1 << 20];
     unsigned index, calls, length = 0;
     FILE *list = count == 3 && !strcmp(words[1], "--list") ? fopen(words[2], "r") : NULL;
-    if (!list || fscanf(list, "%4095s %u %1048575s %u", font, &index, glyphs, &calls) != 4 || !calls) return 2;
-    hb_blob_t *source = hb_blob_create_from_file_or_fail(font);
-    hb_face_t *face = source ? hb_subset_preprocess(hb_face_create(source, index)) : NULL;
-    uint64_t least = UINT64_MAX;
-    if (!face) return 1;
-    hb_subset_input_t *input = input_of(glyphs);
-    for (unsigned call = 0; call < calls; call++) {
-        uint64_t start = now();
-        hb_face_t *made = hb_subset_or_fail(face, input);
-        hb_blob_t *bytes = made ? hb_face_reference_blob(made) : NULL;
-        uint64_t took = now() - start;
-        least = took < least ? took : least;
-        hb_face_destroy(made);
-        if (!bytes) return puts("error") < 0;
-        length = hb_blob_get_length(bytes);
-        hb_blob_destroy(bytes);
+    hb_face_t *face = NULL;
+    while (list && fscanf(list, "%4095s %u %1048575s %u", font, &index, glyphs, &calls) == 4) {
+        if (!face) face = hb_subset_preprocess(hb_face_create(hb_blob_create_from_file_or_fail(font), index));
+        hb_subset_input_t *input = input_of(glyphs);
+        uint64_t least = UINT64_MAX;
+        for (; calls && least; calls--) {
+            uint64_t start = now();
+            hb_face_t *made = hb_subset_or_fail(face, input);
+            hb_blob_t *bytes = made ? hb_face_reference_blob(made) : NULL;
+            uint64_t took = bytes ? now() - start : 0;
+            least = took < least ? took : least;
+            length = bytes ? hb_blob_get_length(bytes) : 0;
+            hb_blob_destroy(bytes);
+            hb_face_destroy(made);
+        }
+        hb_subset_input_destroy(input);
+        if (least) printf("ok %llu %u\n", (unsigned long long)least, length);
+        else puts("error");
     }
-    printf("ok %llu %u\n", (unsigned long long)least, length);
-    return 0;
+    return !face;
 }

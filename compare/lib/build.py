@@ -101,8 +101,8 @@ def package(name, version, needs, source):
     return folder
 
 
-def driver(name):
-    """drivers/bench.rs over the generated crate, or over the Rust crate (`original`: ORIGINAL)."""
+def driver(name, source="bench", *words):
+    """drivers/bench.rs, or another, over the generated crate, or over the Rust crate (`original`: ORIGINAL)."""
     crate = os.path.join(ROOT, "bindings", "rust")
     if name == "original":
         found = sorted(glob.glob("/usr/share/cargo/registry/rustc-hash-*"))
@@ -110,8 +110,8 @@ def driver(name):
             sys.exit(f"{NAME}: no rustc-hash: apt-get install librust-rustc-hash-dev")
         rustc_hash = package("rustc-hash", found[-1].rpartition("-")[2], {}, os.path.join(found[-1], "src"))
         crate = package("subsetter", "0.2.6", {"rustc-hash": rustc_hash}, os.path.join(named("ORIGINAL"), "src"))
-    package(f"{name}_bench", "0.1.0", {"subsetter": crate}, os.path.join(DRIVERS, "bench.rs"))
-    return os.path.join(cargo(f"compare/build/{name}_bench", "--release", RUSTFLAGS="-C target-cpu=x86-64-v2"), "release", f"{name}_bench")
+    package(f"{name}_{source}", "0.1.0", {"subsetter": crate}, os.path.join(DRIVERS, f"{source}.rs"))
+    return os.path.join(cargo(f"compare/build/{name}_{source}", "--release", *words, RUSTFLAGS="-C target-cpu=x86-64-v2"), "release", f"{name}_{source}")
 
 
 def gcc(source, *more, to):
@@ -120,6 +120,15 @@ def gcc(source, *more, to):
     path = os.path.join(BUILD, to)
     subprocess.run(["gcc", "-O3", "-march=x86-64-v2", "-o", path, os.path.join(DRIVERS, source), *more], check=True)
     return path
+
+
+def wasm():
+    """The WebAssembly module: WASM, or as `make -C bindings/js` builds it."""
+    if "WASM" in os.environ:
+        return named("WASM")
+    folder = os.path.join(ROOT, "bindings", "js")
+    subprocess.run(["make", "-s", "-C", folder], check=True)
+    return os.path.join(folder, "out", "subsetter.wasm")
 
 
 # ---- the calls

@@ -211,20 +211,17 @@ def is_too_wide(face, at, glyphs):
     return any(face.advance(glyph, at) > WIDEST for glyph in glyphs)
 
 
-def compare_face(words, path, index, room):
-    """A face at its default and at random places, for so many glyphs (0: all, of large ones 300) in a random order."""
+def compare_face(words, path, index, number, room):
+    """A face at its default (0) or at a random place, for so many glyphs (0: all, of large ones 300) in a random order."""
     face = Face(path, index)
-    report, rng, count = Report(face.label), random.Random(f"{words.seed} {os.path.basename(path)} {index}"), len(face.metrics)
-    for number in range((words.places if face.axes else 0) + 1):
-        place = harfbuzz.random_place(face.axes, rng) if number else []
-        glyphs = rng.sample(range(count), min(words.glyphs or (count if count <= 5000 else 300), count))
-        try:
-            data, old = subset_at(words.program, path, index, place, glyphs, room)
-        except (Refused, Broken) as it:
-            if is_too_wide(face, face.at(place), glyphs) and str(it) == TOO_LARGE:
-                report.counts["too wide"] += 1
-                continue
+    report, rng, count = Report(face.label), random.Random(f"{words.seed} {os.path.basename(path)} {index} {number}"), len(face.metrics)
+    place = harfbuzz.random_place(face.axes, rng) if number else []
+    glyphs = rng.sample(range(count), min(words.glyphs or (count if count <= 5000 else 300), count))
+    try:
+        compare_font(report, face, place, *subset_at(words.program, path, index, place, glyphs, room), room)
+    except (Refused, Broken) as it:
+        if is_too_wide(face, face.at(place), glyphs) and str(it) == TOO_LARGE:
+            report.counts["too wide"] += 1
+        else:
             report.say("answer", f"at {harfbuzz.words_at(place) or 'the default'}: {it}")
-            continue
-        compare_font(report, face, place, data, old, room)
     return report

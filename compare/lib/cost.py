@@ -1,6 +1,6 @@
 """What a call of the Python module takes and holds, in a process of its own under drivers/refuse.c: cost.py CALL PATH INDEX GLYPHS COORDINATES LIMITS
 
-CALL is glyphs, subset, pdf or columns; GLYPHS are numbers and ranges, of `glyphs` characters; COORDINATES are as `wght=650`, or `-`; LIMITS are tokens, depth
+CALL is glyphs, subset, pdf, columns, or one of RUNS, of as many; GLYPHS are numbers and ranges, of `glyphs` characters; COORDINATES are as `wght=650`, or `-`; LIMITS are tokens, depth
 and bytes. It prints the nanoseconds of a processor, the bytes that are answered, those that are held at most (the answer twice, as Python copies it), and the
 name of the error, or `-`."""
 import ctypes
@@ -9,6 +9,9 @@ import time
 
 import build
 import fonts
+
+# Items of so many glyphs, of one cluster with so many, and of a glyph with so many characters.
+RUNS = {"run": lambda n: [(1, "A", 500, 0, 0, 0)] * n, "cluster": lambda n: [(1, "A", 500, 0, 0, 0)] + [(1, None, 500, 0, 0, 0)] * (n - 1), "characters": lambda n: [(1, "A" * n, 500, 0, 0, 0)]}
 
 
 def numbers_in(text):
@@ -29,6 +32,8 @@ def main():
     def call():
         if name == "glyphs":
             return calls.answer("glyphs_of", data, text, int(index))
+        if name in RUNS:
+            return calls.module.PdfText(data).run(RUNS[name](len(numbers)))
         if name == "subset":
             return calls.answer("subset", data, numbers, int(index), **more)
         font = calls.answer("pdf_font", data, shown, int(index), rights="held", vertical=name == "columns", **more)

@@ -125,8 +125,10 @@ def glyph_sets(count):
 
 
 def part_of(items, count):
-    """So many items, spread over all."""
-    return items if len(items) <= count else [items[k * len(items) // count] for k in range(count)]
+    """So many items, spread over all, and jumbled (the same in each run), so that the first of them are spread, too."""
+    taken = [items[k * len(items) // count] for k in range(count)] if len(items) > count else list(items)
+    random.Random(1).shuffle(taken)
+    return taken
 
 
 def faces():

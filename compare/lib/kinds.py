@@ -6,7 +6,6 @@ fonts, and of the least fonts of made.py each is a kind. The fonts are made anew
 import glob
 import io
 import os
-import struct
 
 import fonts
 import made
@@ -86,21 +85,12 @@ def cut(path, index, count):
 
 def collection(parts):
     """A collection of these fonts, in which tables of the same bytes stand once."""
-    start = 12 + 4 * len(parts)
-    heads, bodies, places = [], b"", {}
-    at = start + sum(12 + 16 * fonts.u16(part, 4) for part in parts)
-    for part in parts:
-        records = b""
-        for k in range(fonts.u16(part, 4)):
-            tag, checksum, offset, length = struct.unpack_from(">4sIII", part, 12 + 16 * k)
-            body = part[offset:offset + length]
-            if body not in places:
-                places[body] = at + len(bodies)
-                bodies += body + bytes(-len(body) % 4)
-            records += struct.pack(">4sIII", tag, checksum, places[body], length)
-        heads.append(part[:12] + records)
-    offsets = [start + sum(map(len, heads[:k])) for k in range(len(heads))]
-    return b"ttcf" + made.u32s(0x00010000, len(parts), *offsets) + b"".join(heads) + bodies
+    from fontTools.ttLib import TTCollection, TTFont
+
+    file, made_of = io.BytesIO(), TTCollection()
+    made_of.fonts = [TTFont(io.BytesIO(it), lazy=True, recalcTimestamp=False) for it in parts]
+    made_of.save(file, shareTables=True)
+    return file.getvalue()
 
 
 def stored(name, make):

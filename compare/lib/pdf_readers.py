@@ -67,7 +67,7 @@ TEXTS = {
     "Poppler": ["pdftotext", "-enc", "UTF-8", "FILE", "-"],
     "MuPDF": ["mutool", "draw", "-q", "-F", "txt", "FILE"],
     "Ghostscript": ["gs", "-q", "-dSAFER", "-dNOPAUSE", "-dBATCH", "-sDEVICE=txtwrite", "-sOutputFile=-", "FILE"],
-    "PDFBox": ["java", "-Djava.awt.headless=true", "-cp", CLASSES, "org.apache.pdfbox.tools.ExtractText", "-console", "-encoding", "UTF-8", "FILE"],
+    "PDFBox": ["java", "-XX:TieredStopAtLevel=1", "-Djava.awt.headless=true", "-cp", CLASSES, "org.apache.pdfbox.tools.ExtractText", "-console", "-encoding", "UTF-8", "FILE"],
     "pdf.js": ["node", os.path.join(build.DRIVERS, "pdfjs.mjs"), "FILE"],
 }
 

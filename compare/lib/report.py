@@ -22,27 +22,28 @@ class Report:
         self.wrong.append(f"{self.label}: {kind}: {text}")
 
 
-def words(**numbers):
-    """The arguments that all take, and numbers of its own: for each the usual one, and that of --short."""
+def words(**own):
+    """The arguments that all take, and its own numbers and words: for each the usual one, and that of --short."""
     parser = argparse.ArgumentParser()
     parser.add_argument("--short", action="store_true")
     parser.add_argument("--seed", default="1")
     parser.add_argument("--only", default="")
     parser.add_argument("--jobs", type=int, default=2)
     parser.add_argument("--minutes", type=float, default=1e6)
-    for name in numbers:
-        parser.add_argument(f"--{name}", type=int)
+    for name, pair in own.items():
+        parser.add_argument(f"--{name}", type=type(pair[0]))
     given = parser.parse_args()
-    for name, pair in numbers.items():
+    for name, pair in own.items():
         if getattr(given, name) is None:
             setattr(given, name, pair[given.short])
     given.folders = os.environ.get("FONTS", "").split()
-    given.end = time.monotonic() + 60 * given.minutes
+    given.end = None
     return given
 
 
 def beside(words, call, rows, part=1):
-    """What a call answers for each row, some of them at a time, in this part of the time that is left."""
+    """What a call answers for each row, some of them at a time, in this part of the time that is left. The minutes begin with the first call."""
+    words.end = words.end or time.monotonic() + 60 * words.minutes
     end = time.monotonic() + part * (words.end - time.monotonic())
     with concurrent.futures.ProcessPoolExecutor(words.jobs) as pool:
         waiting, found, rows = set(), [], iter(rows)

@@ -103,6 +103,9 @@ FIELD(subsetter_pdf_part, string_count, 8 + 3 * WORD, size_t *) FIELD(subsetter_
 FIELD(subsetter_pdf_part, stream, 8 + 5 * WORD, const uint8_t **) FIELD(subsetter_pdf_part, stream_size, 8 + 6 * WORD, size_t *) SIZE(subsetter_pdf_part, 8 + 7 * WORD)
 LIST(subsetter_pdf_parts, 0, parts, subsetter_pdf_part, part_count) SIZE(subsetter_pdf_parts, 2 * WORD)
 
+FIELD(subsetter_line, operators, 0, const uint8_t **) FIELD(subsetter_line, size, WORD, size_t *)
+FIELD(subsetter_line, advance, 2 * WORD, uint32_t *) SIZE(subsetter_line, 3 * WORD)
+
 #define TEXT_LIST(AT, NAME, ITEM, COUNT)                                                                          \
     FIELD(subsetter_text, NAME, 8 + 2 * (AT) * WORD, const ITEM **) FIELD(subsetter_text, COUNT, 8 + (2 * (AT) + 1) * WORD, size_t *)
 FIELD(subsetter_text, size, 0, uint32_t *) FIELD(subsetter_text, units_per_em, 4, uint32_t *)
@@ -180,3 +183,4 @@ CALL(subsetter_show_run, uint32_t, subsetter_text *, const subsetter_item *, siz
 CALL(subsetter_show_shaped, uint32_t, subsetter_text *, const subsetter_shaped *, size_t, const void *, size_t, uint32_t, RUN)
 CALL(subsetter_make_text_font_by_words, uint32_t, const subsetter_text *, WORDS, subsetter_font *)
 CALL(subsetter_make_text_font, uint32_t, const subsetter_text *, const subsetter_pdf_options *, subsetter_font *)
+CALL(subsetter_make_text_sheet, uint32_t, const subsetter_font *, const subsetter_line *, size_t, subsetter_pdf_objects *)

@@ -919,14 +919,14 @@ static uint8_t digit_of(char digit)
     return (uint8_t)(digit <= '9' ? digit - '0' : digit - 'a' + 10);
 }
 
-/* The bits of kinds by their names, joined by `+`, up to a comma or the end. */
+/* The bits of kinds by their names, joined by `+`, up to a comma or a blank. */
 static uint32_t bits_of(const char **words)
 {
     static const char *const names[] = {"colr1", "colr0", "svg", "cbdt17", "cbdt18", "cbdt19", "cbdt", "sbix-png", "sbix-jpg", "sbix-tiff", "sbix-pdf", "sbix-mask",
         "sbix-dupe", "sbix", "ebdt", "outline", "empty"};
     uint32_t bits = 0;
     for (int is_more = 1; is_more;) {
-        size_t length = strcspn(*words, "+,\n");
+        size_t length = strcspn(*words, "+, ");
         for (size_t i = 0; i < sizeof names / sizeof *names; i++)
             bits |= (uint32_t)(strlen(names[i]) == length && strncmp(*words, names[i], length) == 0) << i;
         is_more = (*words)[length] == '+';
@@ -935,7 +935,8 @@ static uint32_t bits_of(const char **words)
     return bits;
 }
 
-/* Each row of kinds.txt, also with a buffer that is one too small, and with each request for memory refused. */
+/* Each row of kinds.txt, also with a buffer that is one too small, and with each request for memory refused; and a PDF's font where
+ * there are no outlines. */
 static void try_kinds(void)
 {
     size_t size, rows = 0;
@@ -971,6 +972,13 @@ static void try_kinds(void)
         check(kinds[wanted == 0 ? count : 0] == 0xA5A5A5A5, "what is after them", name);
         if (wanted != 0 || count == 0)
             continue;
+        uint32_t refusal = (uint32_t)strtoul(words, NULL, 10);
+        if (refusal != 0) {
+            subsetter_font made;
+            uint32_t status = subsetter_make_font(font, font_size, face, NULL, 0, glyphs, 1, (const uint32_t[]){65}, 1, (const size_t[]){1}, 1, NULL, &made);
+            check(status == refusal && made.pdf.program == NULL, "without outlines", name);
+        }
+        check(refusal == 0 || subsetter_glyphs_of(font, font_size, face, NULL, 0, NULL, 0, &size) == 13, "no characters", name);
         memset(kinds, FILLED, sizeof kinds);
         check(subsetter_glyph_kinds(font, font_size, face, glyphs, count, kinds, count - 1) == 8 && kinds[0] == 0xA5A5A5A5, "room", name);
         for (unsigned long request = 1; CAN_REFUSE; request++) {
@@ -1053,9 +1061,9 @@ static void try_reasons(void)
 
 struct shown {
     subsetter_text text;
-    subsetter_pdf_objects lines[4];
+    subsetter_pdf_objects lines[4], sheet;
     subsetter_font font;
-    uint32_t statuses[6];
+    uint32_t statuses[7];
 };
 
 /* A ligature, a pair drawn nearer by 100 of 2048 units (from 1841 on, not 1890); from right to left, by HarfBuzz's numbers; a mark 1024 back and
@@ -1080,12 +1088,15 @@ static void show(const uint8_t *bytes, size_t size, uint32_t own_glyphs, struct 
     it->statuses[3] = subsetter_show_run(&it->text, marked, 2, accented, 2, LEFT, &it->lines[2]);
     it->statuses[4] = subsetter_show_run(&it->text, marked + 1, 1, accented, 2, LEFT, &it->lines[3]);
     it->statuses[5] = subsetter_make_text_font(&it->text, NULL, &it->font);
+    const subsetter_line pages[] = {{it->lines[0].bytes, it->lines[0].size, 2509}, {(const uint8_t *)"", 0, 400000}};
+    it->statuses[6] = subsetter_make_text_sheet(&it->font, pages, 2, &it->sheet);
 }
 
 static void free_shown(struct shown *it)
 {
     for (int i = 0; i < 4; i++)
         subsetter_free_pdf_objects(&it->lines[i]);
+    subsetter_free_pdf_objects(&it->sheet);
     subsetter_free_font(&it->font);
     subsetter_free_text(&it->text);
 }
@@ -1148,6 +1159,9 @@ static void try_own_glyphs(const uint8_t *bytes, size_t size)
     check(subsetter_make_text_font(&text, NULL, &font) == 0 && font.pdf.width_count == 3 && font.pdf.widths[1] == 667, "a font", "own glyphs");
     /* (.notdef, the two parts, the own glyph and the blank) */
     check(is_same(font.cid_to_gid_map, font.cid_to_gid_map_size, (uint8_t[]){0, 0, 0, 3, 0, 4}, 6), "CIDToGIDMap", "own glyphs");
+    font.size--;
+    check(subsetter_make_text_sheet(&font, NULL, 0, &line) == 10 && are_no_objects(&line), "another size", "a sheet");
+    font.size++;
     subsetter_free_font(&font);
     subsetter_text other = text;
     for (size_t i = 0; i < sizeof wrong / sizeof *wrong; i++) {
@@ -1162,6 +1176,25 @@ static void try_own_glyphs(const uint8_t *bytes, size_t size)
     check(subsetter_show_run(&other, marked, 2, accented, 2, LEFT, &line) == 10 && subsetter_make_text_font(&other, NULL, &font) == 10, "too many parts", "own glyphs");
     subsetter_free_text(&text);
     check(text.own_count == 0 && text.part_count == 0 && text.most_parts == 0, "a text that was given back", "own glyphs");
+}
+
+/* The sheet of a line and of an empty one: a page for each, as long as its line, and then the objects of the font. */
+static int is_sheet(const struct shown *it, const char *line)
+{
+    static const char begin[] = "BT\n/F0 36 Tf\n1 0 0 1 36 54 Tm\n";
+    char front[2048];
+    subsetter_pdf_objects font;
+    size_t size = (size_t)snprintf(front, sizeof front, "%%PDF-1.7\n%%\342\343\317\323\n1 0 obj\n<< /Type /Catalog /Pages 2 0 R >>\nendobj\n"
+        "2 0 obj\n<< /Type /Pages /Count 2 /Kids [3 0 R 5 0 R ] >>\nendobj\n"
+        "3 0 obj\n<< /Type /Page /Parent 2 0 R /MediaBox [0 0 163 144] /Resources << /Font << /F0 7 0 R >> >> /Contents 4 0 R >>\nendobj\n"
+        "4 0 obj\n<< /Length %zu >>\nstream\n%s%sET\nendstream\nendobj\n"
+        "5 0 obj\n<< /Type /Page /Parent 2 0 R /MediaBox [0 0 14400 144] /Resources << /Font << /F0 7 0 R >> >> /Contents 6 0 R >>\nendobj\n"
+        "6 0 obj\n<< /Length %zu >>\nstream\n%sET\nendstream\nendobj\n", strlen(begin) + strlen(line) + 2, begin, line, strlen(begin) + 2, begin);
+    int is_one = subsetter_make_objects(&it->font, 7, &font) == 0 && it->sheet.size > size + font.size + 5 && it->sheet.offset_count == 0
+        && memcmp(it->sheet.bytes, front, size) == 0 && memcmp(it->sheet.bytes + size, font.bytes, font.size) == 0
+        && memcmp(it->sheet.bytes + size + font.size, "xref\n", 5) == 0;
+    subsetter_free_pdf_objects(&font);
+    return is_one;
 }
 
 /* Runs and their font, with own glyphs and without, where each request for memory is refused in turn: what is answered is whole, or nothing with
@@ -1195,6 +1228,8 @@ static void try_runs_with(const uint8_t *bytes, size_t size, uint32_t own)
         check(!is_whole || (it.text.pair_count == codes - 1 && it.text.pairs[2].kind == own && it.text.pairs[2].character == 'i'), "pairs", "runs");
         check(!is_whole || it.text.own_count == (own == SUBSETTER_OWN_GLYPHS_NONE ? 0 : 3), "own glyphs", "runs");
         check(it.statuses[5] == 0 || it.statuses[5] == (it.statuses[0] != 0 ? 10 : 7) ? is_whole || was_refused : 0, "a font", "runs");
+        check(it.statuses[6] == 0 ? !is_whole || it.statuses[5] != 0 || is_sheet(&it, lines[own][0])
+                                  : was_refused && it.statuses[6] == 7 && are_no_objects(&it.sheet), "a sheet", "runs");
         if (it.statuses[5] != 0)
             check(is_no_whole(&it.font), "no font", "runs");
         else if (is_whole) {

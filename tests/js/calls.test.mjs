@@ -160,7 +160,7 @@ test("answers are copies", () => {
 });
 
 test("errors", () => {
-    const names = ["UnknownKind", "MalformedFont", "Unimplemented", "SubsetError", "OverflowError", "CFFError", "OutOfMemory", "NotPermitted", "InvalidText", "NoCmap", "MissingCharacters", "Overfull"];
+    const names = ["UnknownKind", "MalformedFont", "Unimplemented", "SubsetError", "OverflowError", "CFFError", "OutOfMemory", "NotPermitted", "InvalidText", "NoCmap", "BitmapsAlone", "MissingCharacters", "Overfull"];
     assert.deepEqual(Object.keys(library).sort(), [...names, "SubsetterError", "load"].sort());
     for (const name of [...names, "SubsetterError"]) {
         const error = new library[name]("why");
@@ -207,7 +207,7 @@ test("each status is thrown by its class, in its words", async () => {
     let status = 0;
     const names = ["subset", "subset_at", "embed", "embed_at", "read_text", "pdf_font", "codes_of", "advances", "new_text", "show_run", "show_shaped", "text_font"];
     const change = (exports) => ({ ...exports, ...Object.fromEntries(names.map((name) => [`subsetter_${name}`, () => status])) });
-    const kinds = { 1: "UnknownKind", 2: "MalformedFont", 3: "Unimplemented", 4: "SubsetError", 5: "OverflowError", 6: "CFFError", 7: "OutOfMemory", 11: "NotPermitted", 12: "InvalidText", 13: "NoCmap", 15: "Overfull" };
+    const kinds = { 1: "UnknownKind", 2: "MalformedFont", 3: "Unimplemented", 4: "SubsetError", 5: "OverflowError", 6: "CFFError", 7: "OutOfMemory", 11: "NotPermitted", 12: "InvalidText", 13: "NoCmap", 14: "BitmapsAlone", 15: "Overfull" };
     await watched(async () => {
         const it = await load(wasm), font = it.open(TTF), line = new it.PdfText(TTF), at = { coordinates: { wght: 1 } };
         const calls = [() => it.subset(TTF, []), () => it.embed(TTF, []), () => font.subset([], at), () => font.embed([], at), () => it.glyphsOf(TTF, "A"), () => font.pdfFont([]), () => it.codesOf([]), () => it.advances(TTF, []),

@@ -113,8 +113,17 @@ test("parts", () => {
 
 const DEJAVU = readFileSync("/usr/share/fonts/truetype/dejavu/DejaVuSans.ttf");
 
-/** What Poppler and MuPDF have of a page that shows this in a font. */
-function readBack(font, operators) {
+/** What Poppler and MuPDF have of the pages of a PDF. (MuPDF knows no direction.) */
+function textsOf(pdf) {
+    const path = join(mkdtempSync(join(tmpdir(), "subsetter-")), "it.pdf"), said = (...words) => execFileSync(...words, { encoding: "utf8" });
+    writeFileSync(path, pdf);
+    assert.match(said("qpdf", ["--check", path]), /No syntax or stream encoding errors found/);
+    const pages = (text) => text.replace(/[\u202a-\u202e]/g, "").split("\f").map((it) => it.trim()).filter(Boolean);
+    return [said("pdftotext", ["-enc", "UTF-8", path, "-"]), said("mutool", ["draw", "-q", "-F", "txt", path])].map(pages);
+}
+
+/** A page that shows this in a font whose parts are packed. */
+function packed(font, operators) {
     const numbers = [30, 29, 28, 27, 26, 25].slice(0, font.partCount), parts = font.parts(numbers, { pack: deflateSync });
     assert.match(latin1(parts[3].entries), /\/Filter \/FlateDecode $/);
     const shows = `BT /F1 24 Tf 36 60 Td ${operators} ET`, objects = [
@@ -126,27 +135,27 @@ function readBack(font, operators) {
         table += `${number} 1\n${String(pdf.length).padStart(10, "0")} 00000 n \n`;
         pdf += `${number} 0 obj\n${value}\nendobj\n`;
     }
-    const path = join(mkdtempSync(join(tmpdir(), "subsetter-")), "packed.pdf"), said = (...words) => execFileSync(...words, { encoding: "utf8" });
-    writeFileSync(path, `${pdf}${table}trailer\n<< /Size 31 /Root 1 0 R >>\nstartxref\n${pdf.length}\n%%EOF\n`, "latin1");
-    assert.match(said("qpdf", ["--check", path]), /No syntax or stream encoding errors found/);
-    return [said("pdftotext", ["-enc", "UTF-8", path, "-"]), said("mutool", ["draw", "-q", "-F", "txt", path])].map((it) => it.replace(/[\u202a-\u202e]/g, "").trim());
+    return Buffer.from(`${pdf}${table}trailer\n<< /Size 31 /Root 1 0 R >>\nstartxref\n${pdf.length}\n%%EOF\n`, "latin1");
 }
 
 test("a PDF of packed parts", () => {
     const font = subsetter.pdfFont(DEJAVU, subsetter.glyphsOf(DEJAVU, "Hello, \u0395!"));
-    assert.deepEqual(readBack(font, `${font.string(font.codes)} Tj`), ["Hello, \u0395!", "Hello, \u0395!"]);
+    assert.deepEqual(textsOf(packed(font, `${font.string(font.codes)} Tj`)), [["Hello, \u0395!"], ["Hello, \u0395!"]]);
     for (const [kind, codes] of [[RangeError, [65536]], [TypeError, ["1"]], [TypeError, 5], [TypeError, "A"]]) throws(() => font.string(codes), kind, codes);
 });
 
 test("runs of shaped text", () => {
     const rows = ([g, cl, ax, dx = 0]) => ({ g, cl, ax, ay: 0, dx, dy: 0, flags: 0 }), text = new subsetter.PdfText(DEJAVU, { order: "visual" });
-    // What hb-shape has of two lines. (MuPDF knows no direction.)
+    // What hb-shape has of two lines.
     const latin = [[82, 0, 1253], [5044, 1, 1980], [70, 4, 1126], [72, 5, 1260], [3, 6, 651], [84, 7, 1300], [693, 7, 0, -165], [91, 9, 1212]].map(rows);
     const arabic = [[5365, 5, 1168], [3, 4, 651], [1390, 3, 1268], [5366, 1, 1222], [5293, 0, 1716]].map(rows);
-    const lines = [text.shaped("office q\u0304x", latin), text.shaped("\u0633\u0644\u0627\u0645 \u0644\u0627", new Set(arabic), { direction: "rtl", size: 24 })].map(latin1);
-    const font = text.font({ hinting: false, cidSet: false }), said = "\u0633\u0644\u0627\u0645 \u0644\u0627";
-    assert.deepEqual(readBack(font, lines[0]), ["office q\u0304x", "office q\u0304x"]);
-    assert.deepEqual(readBack(font, lines[1]), [said, [...said].reverse().join("")]);
+    const said = ["office q\u0304x", "\u0633\u0644\u0627\u0645 \u0644\u0627"], runs = [text.shaped(said[0], latin, { size: 36 }), text.shaped(said[1], new Set(arabic), { direction: "rtl", size: 36 })];
+    const lines = runs.map(latin1), font = text.font({ hinting: false, cidSet: false }), sheet = text.sheet(new Set(runs), { hinting: false });
+    assert.deepEqual(textsOf(sheet), [said, [said[0], [...said[1]].reverse().join("")]]);
+    assert.deepEqual(textsOf(packed(font, lines[0])), [[said[0]], [said[0]]]);
+    // A page is as long as its run.
+    assert.deepEqual([...runs.map((it) => it.advance), ...Array.from(latin1(sheet).matchAll(/MediaBox \[0 0 (\d+) 144\]/g), (it) => Number(it[1]))], [4288, 2942, 227, 178]);
+    for (const wrong of [runs[0], lines, [sheet], [5], null]) throws(() => text.sheet(wrong), TypeError, "no runs");
     assert.ok(font.cidToGidMap.length === 2 * font.glyphCount && font.parts([9, 8, 7, 6, 5, 4]).some(({ role }) => role === "cid_to_gid_map"));
     // Own glyphs draw the ligature, and the letter with its mark: each code says what is where it is.
     const plain = latin1(new subsetter.PdfText(DEJAVU, { ownGlyphs: false }).shaped("office q\u0304x", latin));
@@ -158,10 +167,11 @@ test("runs of shaped text", () => {
     const three = [0, 1, 3].map((cl) => ({ ...latin[0], cl }));
     assert.deepEqual(text.shaped("\xe9\u{1d4b3}a", three), text.run(["\xe9", "\u{1d4b3}", "a"].map((it) => ({ glyph: 82, text: it }))));
     const columns = new subsetter.PdfText(DEJAVU, { vertical: true });
-    assert.equal(latin1(columns.run([items[0]])), "[<0001>]TJ\n");
+    const column = columns.run([items[0]], { size: 36 });
+    assert.deepEqual([latin1(column), column.advance, latin1(columns.sheet([column])).includes("/MediaBox [0 0 144 108]")], ["[<0001>]TJ\n", -1000, true]);
     assert.ok(columns.font().columns && throws(() => columns.run([], { direction: "ltr" }), RangeError, "a direction"));
     text.close();
-    for (const call of [() => text.run([]), () => text.shaped("", []), () => text.font(), () => text.advances([1])]) throws(call, TypeError, "a closed text");
+    for (const call of [() => text.run([]), () => text.shaped("", []), () => text.font(), () => text.sheet([]), () => text.advances([1])]) throws(call, TypeError, "a closed text");
 });
 
 test("runs that are refused", () => {

@@ -1,6 +1,7 @@
 /** The worked rows, in Node and in browsers: each function answers what differs, as a list of lines. */
 
 const ERRORS = [, "UnknownKind", "MalformedFont", "Unimplemented", "SubsetError", "OverflowError", "CFFError", "OutOfMemory"];
+ERRORS[14] = "BitmapsAlone";
 /** What a kind of row has between its glyphs and its status. */
 const FIELDS = {
     "": [], limits: ["tokens", "depth"], options: ["tokens", "depth", "drop"], bounded_options: ["tokens", "depth", "drop", "mostBytes"],
@@ -168,16 +169,19 @@ export function wrongPdfRows(library, subsetter, text, files) {
 /** What differs of the rows of kinds of pictures. */
 export function wrongKindRows(subsetter, table) {
     const rows = table.split("\n").filter((it) => it.startsWith("kinds ")).map((it) => it.split(" ").slice(1));
-    return rows.flatMap(([name, font, index, glyphs, status, kinds]) => {
+    return rows.flatMap(([name, font, index, glyphs, status, kinds, pdf]) => {
         const data = bytesOf(font), numbers = numbersOf(glyphs), face = { index: Number(index) };
         const calls = [() => subsetter.kindsOf(data, new Set(numbers).size < numbers.length ? numbers : new Set(numbers), face), () => subsetter.open(data, face).kindsOf(numbers)];
         const wanted = status === "0" ? kinds.replace(/^-$/, "") : ERRORS[status];
-        return calls.map((call) => {
+        const shown = pdf === "0" ? [] : [[() => subsetter.pdfFont(data, [{ glyph: 0, text: "" }], face), ERRORS[pdf]]];
+        return [...calls.map((call) => [call, wanted]), ...shown].flatMap(([call, wanted]) => {
+            let found;
             try {
-                return call().map((it) => it.join("+")).join(",");
+                found = call().map((it) => it.join("+")).join(",");
             } catch (error) {
-                return error.name;
+                found = error.name;
             }
-        }).filter((found) => found !== wanted).map((found) => `${name}: ${found}, and not ${wanted}`);
+            return found === wanted ? [] : [`${name}: ${found}, and not ${wanted}`];
+        });
     });
 }

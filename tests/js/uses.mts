@@ -1,6 +1,6 @@
 /** Uses of the package: tsc has to accept each, but for the line behind each `@ts-expect-error`, which it has to refuse. */
 import { load, OutOfMemory, SubsetterError, UnknownKind } from "subsetter-proved";
-import type { Advances, Column, Embedded, Font, GlyphKind, Objects, Part, PdfFont, PdfText, Shown, Subsetter } from "subsetter-proved";
+import type { Advances, Column, Embedded, Font, GlyphKind, Objects, Part, PdfFont, PdfText, Run, Shown, Subsetter } from "subsetter-proved";
 
 export async function accepted(data: Uint8Array, module: WebAssembly.Module): Promise<void> {
     const subsetter: Subsetter = await load();
@@ -40,7 +40,9 @@ export function acceptedForPdf(subsetter: Subsetter, data: Uint8Array): void {
     const text: PdfText = new subsetter.PdfText(data, { index: 0, coordinates: { wght: 1 }, vertical: false, rights: "held", order: "logical", limits: {} });
     bytes.push(text.run(new Set([{ glyph: 5, text: "fi" }, { glyph: 7, xAdvance: 0, yOffset: 3 }]), { direction: "rtl", size: 9.5 }));
     bytes.push(text.shaped("A", [{ g: 1, cl: 0, ax: 500, ay: 0, dx: 0, dy: 0 }]), text.font({ cidSet: true, tag: "ABCDEF" }).cidToGidMap ?? data);
-    numbers.push(text.unitsPerEm, ...text.advances([1]));
+    const run: Run = text.run([{ glyph: 1, text: "A" }], { size: 36 });
+    bytes.push(text.sheet(new Set([run]), { cidSet: true }));
+    numbers.push(text.unitsPerEm, run.advance, ...text.advances([1]));
     texts.push(font.string([1, 2]));
     text.close();
     font.close();
@@ -86,6 +88,8 @@ export function refused(subsetter: Subsetter, data: Uint8Array): void {
     new subsetter.PdfText(data).run([{ text: "A" }]);
     // @ts-expect-error
     new subsetter.PdfText(data).shaped("A", [], { direction: "up" });
+    // @ts-expect-error
+    new subsetter.PdfText(data).sheet([data]);
     // @ts-expect-error
     subsetter.version = "2";
     // @ts-expect-error

@@ -16,7 +16,7 @@ ROWS = ROOT / "crates/dev_rows/data/subset.txt"
 PDF_DATA = ROOT / "bindings/rust/tests/data"
 
 ERRORS = {1: "UnknownKind", 2: "MalformedFont", 3: "Unimplemented", 4: "SubsetError", 5: "OverflowError", 6: "CFFError", 7: "OutOfMemory",
-          11: "NotPermitted", 12: "InvalidText", 13: "NoCmap", 15: "Overfull"}
+          11: "NotPermitted", 12: "InvalidText", 13: "NoCmap", 14: "BitmapsAlone", 15: "Overfull"}
 # What a kind of row has between its glyphs and its status.
 FIELDS = {"": [], "limits": ["tokens", "depth"], "options": ["tokens", "depth", "drop"],
           "bounded_options": ["tokens", "depth", "drop", "most_bytes"], "at": ["coordinates", "tokens", "depth", "drop", "most_bytes"]}

@@ -248,7 +248,7 @@ def test_messages_say_why(kind, message, call):
 
 def test_errors():
     bases = {"OverflowError": (subsetter.Error, builtins.OverflowError), "OutOfMemory": (subsetter.Error, MemoryError),
-             "InvalidText": (subsetter.Error, ValueError), "Overfull": (subsetter.OverflowError,)}
+             "InvalidText": (subsetter.Error, ValueError), "Overfull": (subsetter.OverflowError,), "BitmapsAlone": (subsetter.UnknownKind,)}
     library = subsetter._library()
     assert raised(subsetter._check, library, 0) is None
     for status in [*range(1, 20), 255, 256, 2**32 - 1]:

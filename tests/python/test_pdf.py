@@ -34,6 +34,7 @@ def test_glyphs_of_a_text():
     assert (type(error), str(error)) == (subsetter.NoCmap, "no usable cmap in font: cmap: no table for Unicode, symbols or Mac Roman in format 0, 4, 6, 12 or 13")
     assert subsetter.pdf_font(TTF, iter(subsetter.glyphs_of(TTF, text))).codes == [1, 2, 3, 4, 5, 0, 1]
     assert type(raised(subsetter.glyphs_of, b"no", "A")) is subsetter.UnknownKind
+    assert subsetter.glyphs_of(TTF.replace(b"glyf", b"none"), "A") == [(1, "A")]
 
 
 @given(st.text(st.characters(), max_size=300) | st.text("\ud800\udbff\udc00\udfffA", max_size=3))

@@ -27,7 +27,7 @@ def answer(call, *arguments, **choices):
 
 
 def test_there_are_rows():
-    assert len(ROWS) > 450 and len(FONTS) > 100 and len(TEXTS) == 14 and len(pdf_rows()) >= 20
+    assert len(ROWS) > 450 and len(FONTS) > 100 and len(TEXTS) == 15 and len(pdf_rows()) >= 20
 
 
 @pytest.mark.parametrize("row", ROWS, ids=lambda row: row.name)
@@ -112,9 +112,11 @@ def test_pdf_row(row):
     assert (b"/ActualText" in line) == (not all(font.text_is_mapped))
 
 
-@pytest.mark.parametrize("name, font, face, glyphs, status, kinds", KIND_ROWS, ids=[row[0] for row in KIND_ROWS])
-def test_kinds(name, font, face, glyphs, status, kinds):
+@pytest.mark.parametrize("name, font, face, glyphs, status, kinds, pdf", KIND_ROWS, ids=[row[0] for row in KIND_ROWS])
+def test_kinds(name, font, face, glyphs, status, kinds, pdf):
     wanted = (STATUSES[int(status)], TEXTS[int(status)]) if status != "0" else tuple(tuple(it.split("+")) for it in kinds.split(",") if it != "-")
     assert answer(subsetter.kinds_of, hexadecimal(font), numbers(glyphs), int(face)) == wanted
     if face == "0":
         assert answer(subsetter.kinds_of, hexadecimal(font), iter(numbers(glyphs))) == wanted
+    if pdf != "0":
+        assert answer(subsetter.pdf_font, hexadecimal(font), [(0, "")]) == (STATUSES[int(pdf)], TEXTS[int(pdf)])

@@ -2,6 +2,7 @@
 
 import pickle
 import re
+import subprocess
 from types import SimpleNamespace
 
 import pytest
@@ -51,6 +52,26 @@ def test_own_glyphs():
     assert font.widths[1:5] == [612, 322, 322, 322] and font.widths[8:10] == [635, 0] and len(font.cid_to_gid_map) == 2 * font.glyph_count
 
 
+def test_a_sheet(tmp_path):
+    """Each run is on a page of its own, which is as long. (MuPDF has text as it is seen.)"""
+    path, said = tmp_path / "sheet.pdf", []
+    with subsetter.PdfText(DEJAVU) as text:
+        runs = [text.shaped(line, *arrays(rows), direction, 36) for (line, rows), direction in ((LATIN, "ltr"), (ARABIC, "rtl"))]
+        path.write_bytes(text.sheet(iter(runs), hinting=False))
+        for wrong in (runs[0], [bytes(runs[0])], 5):
+            assert type(raised(text.sheet, wrong)) is TypeError
+        assert b"/Count 0" in text.sheet([])
+    assert [it.advance for it in runs] == [4288, 2942] and pickle.loads(pickle.dumps(runs[0])).advance == 4288
+    assert re.findall(rb"/MediaBox \[0 0 (\d+) 144\]", path.read_bytes()) == [b"227", b"178"]
+    for words in (["qpdf", "--check", path], ["pdftotext", "-enc", "UTF-8", path, "-"], ["mutool", "draw", "-q", "-F", "txt", path]):
+        output = subprocess.run(words, check=True, stdout=subprocess.PIPE).stdout.decode()
+        said.append([it.strip() for it in re.sub("[\u202a-\u202e]", "", output).split("\f") if it.strip()])
+    assert said[1:] == [[LATIN[0], ARABIC[0]], [LATIN[0], ARABIC[0][::-1]]]
+    columns = subsetter.PdfText(DEJAVU, vertical=True)
+    run = columns.run([(82, "o")], size=36)
+    assert run.advance == -1000 and b"/MediaBox [0 0 144 108]" in columns.sheet([run])
+
+
 def test_items_are_what_is_shaped():
     text = subsetter.PdfText(DEJAVU)
     wanted = text.shaped("office", *arrays(LATIN[1][:4]))
@@ -61,6 +82,12 @@ def test_items_are_what_is_shaped():
         assert text.shaped("\xe9\U0001d4b3a", infos, positions, units=units) == text.run([(82, "\xe9"), (82, "\U0001d4b3"), (82, "a")])
     columns = subsetter.PdfText(DEJAVU, 0, {}, vertical=True)
     assert columns.run([(82, "o")]) == b"[<0001>]TJ\n" and columns.font().columns is not None and type(raised(columns.run, [], "ltr")) is ValueError
+
+
+def test_a_far_offset():
+    """40,000 units are 19,531 thousandths of the em, to the nearest whole one, and in 12 points 234.372."""
+    wanted = b"/Span << /ActualText <FEFF00410042> >> BDC\n-234.372 Ts\n[-19531<0001>]TJ\n0 Ts\n[19531<0002>]TJ\nEMC\n"
+    assert subsetter.PdfText(TTF).run([(1, "A", 1366, 0, 40000, -40000), (2, "B")]) == wanted
 
 
 def test_a_font_with_more_outlines_than_maxp_counts():
@@ -79,7 +106,7 @@ def test_a_closed_text():
     assert type(raised(data.append, 0)) is BufferError
     text.close()
     data.append(0)
-    for call in (lambda: text.run([]), lambda: text.shaped("", [], []), text.font, lambda: text.codes, lambda: text.advances([1])):
+    for call in (lambda: text.run([]), lambda: text.shaped("", [], []), text.font, lambda: text.sheet([]), lambda: text.codes, lambda: text.advances([1])):
         assert type(raised(call)) is ValueError and str(raised(call)) == "the text is closed"
 
 

@@ -58,6 +58,8 @@ def accepted_for_text(data: bytes, one: Index) -> None:
     with subsetter.PdfText(data, one, {"wght": 1}, vertical=False, rights="held", order="logical", tokens=one, depth=3, most_bytes=None) as text:
         shown: bytes = text.run([(one, "fi"), (5, None, 1, 0, one, -3)], "rtl", 9.5) + text.shaped("A", [Glyph()], [Glyph()], size=Fraction(1, 2), units="utf16")
         font: subsetter.PdfFont = text.font(hinting=False, cid_set=True, tag="ABCDEF", bounds="kept", small=True)
+        run: subsetter.Run = text.run([(1, "A")], size=36)
+        shown += text.sheet([run], cid_set=True)[:run.advance]
         glyph, character = text.codes[0]
     print(shown, text.advances([one]), text.units_per_em, glyph, character, font.string(range(3)), font.cid_to_gid_map)
 
@@ -73,5 +75,6 @@ def refused(data: bytes) -> None:
     subsetter.PdfText(data).run([(1, "A")], "up")  # type: ignore[arg-type]
     subsetter.PdfText(data).run([(1, "A", 5)])  # type: ignore[list-item]
     subsetter.PdfText(data).shaped("A", [5], [])  # type: ignore[list-item]
+    subsetter.PdfText(data).sheet([b"[<0001>]TJ"])  # type: ignore[list-item]
     font: bytes = subsetter.embed(data, [1])  # type: ignore[assignment]
     print(font, subsetter.no_such_name)  # type: ignore[attr-defined]

@@ -4,7 +4,7 @@ use crate::buffers::{hand_items, hand_read, list, Buffer, ReadSizes};
 use crate::calls::guarded;
 use crate::making::List;
 use crate::options::font_choices;
-use crate::status::{status_of, DONE, INVALID_TEXT, NOT_PERMITTED, NO_CMAP, UNKNOWN_OPTION};
+use crate::status::{status_of, BITMAPS_ALONE, DONE, INVALID_TEXT, NOT_PERMITTED, NO_CMAP, UNKNOWN_OPTION};
 use fonts::capi::pdf::{glyphs_of, pdf_font, read_text, Column, Entries, Entry, FontLists, FontNumbers, FontParts, Refusal};
 use fonts::capi::Coordinate;
 use fonts::pdf::FontError;
@@ -163,6 +163,7 @@ pub fn status_of_refusal(refusal: Refusal) -> u32 {
         Refusal::Text | Refusal::Font(FontError::TextTooLong) => INVALID_TEXT,
         Refusal::Font(FontError::NotPermitted(_)) => NOT_PERMITTED,
         Refusal::Font(FontError::Subset(error)) => status_of(error),
+        Refusal::Font(FontError::BitmapsAlone) => BITMAPS_ALONE,
         // (that is `NoCmap`; Rust wants an arm for what may come)
         Refusal::Font(_) => NO_CMAP,
     }

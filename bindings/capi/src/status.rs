@@ -16,6 +16,8 @@ pub const NOT_PERMITTED: u32 = 11;
 pub const INVALID_TEXT: u32 = 12;
 /// The font has no table by which characters have glyphs.
 pub const NO_CMAP: u32 = 13;
+/// The font has bitmaps and no outlines.
+pub const BITMAPS_ALONE: u32 = 14;
 /// The font of a text would have too many codes.
 pub const OVERFULL: u32 = 15;
 /// The numbers of objects are too few or too many, 0, or not distinct.
@@ -49,10 +51,11 @@ pub fn status_text(status: u32) -> &'static [u8] {
         7 => b"out of memory",
         TOO_SMALL => b"a buffer is too small",
         NO_DEPTH => b"the limit of the depth is 0",
-        UNKNOWN_OPTION => b"unknown option",
+        UNKNOWN_OPTION => b"wrong option, size or text",
         NOT_PERMITTED => b"embedding not permitted",
         INVALID_TEXT => b"invalid text",
         NO_CMAP => b"no usable cmap in font",
+        BITMAPS_ALONE => b"bitmaps alone in font",
         OVERFULL => b"too many codes",
         INVALID_NUMBERS => b"invalid numbers",
         _ => b"unknown status",

@@ -105,6 +105,9 @@ fn in_memory(address: usize) -> Vec<(u32, usize)> {
         let found = subsetter_make_objects(&whole, 1, &mut objects);
         all.push((found, objects.size()));
         subsetter_free_pdf_objects(&mut objects);
+        let found = subsetter_make_text_sheet(&whole, address as *const Line, 0, &mut objects);
+        all.push((found, objects.size().min(1)));
+        subsetter_free_pdf_objects(&mut objects);
         subsetter_free_font(&mut whole);
         length = 0;
         all.push((subsetter_codes_of(glyphs, 0, words, 0, ends, 0, 0, buffer, 0, &mut length), length));
@@ -130,7 +133,7 @@ fn no_panic_reaches_the_caller() {
         };
         assert_eq!(left, wanted, "call {call}");
     }
-    let mut wanted = [(PANICKED, 0); 15];
+    let mut wanted = [(PANICKED, 0); 16];
     // (how many parts there are is counted)
     wanted[10].1 = 5;
     assert_eq!(memory, wanted);
@@ -158,7 +161,7 @@ fn lists_of_no_items_may_be_anywhere() {
             [(DONE, 164), (DONE, 164), (2, 0), (2, 0), (NO_CMAP, 0), (2, 0)]
         );
         assert!(made[6].0 == DONE && made[6].1 > 500 && made[7].0 == DONE);
-        assert_eq!(made[8..], [(2, 0), (NO_CMAP, 0), (DONE, 5), made[6], (DONE, 0), (2, 0), (DONE, 0)]);
+        assert_eq!(made[8..], [(2, 0), (NO_CMAP, 0), (DONE, 5), made[6], (DONE, 1), (DONE, 0), (2, 0), (DONE, 0)]);
     }
 }
 

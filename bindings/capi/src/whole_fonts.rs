@@ -325,6 +325,41 @@ pub unsafe extern "C" fn subsetter_make_objects(
     unsafe { hand(answer, ObjectsMade::NOTHING, made) }
 }
 
+/// A line of a sheet.
+#[derive(Clone, Copy)]
+#[repr(C)]
+pub struct Line {
+    operators: List<u8>,
+    advance: u32,
+}
+
+/// See `subsetter.h`.
+///
+/// # Safety
+///
+/// What the header requires of a caller.
+#[no_mangle]
+pub unsafe extern "C" fn subsetter_make_text_sheet(
+    font: *const FontMade,
+    lines: *const Line,
+    line_count: usize,
+    made: *mut ObjectsMade,
+) -> u32 {
+    let (size, parts) = unsafe { ((*font).size, (*font).parts()) };
+    let lines = unsafe { list(lines, line_count) };
+    let runs = lines
+        .iter()
+        .map(|it| unsafe { (it.operators.items(), it.advance) });
+    let answer = guarded(|| {
+        if size != SIZE {
+            return Err(UNKNOWN_OPTION);
+        }
+        let file = parts.text_sheet(runs).map_err(status_of)?;
+        Ok(ObjectsMade::bytes(file))
+    });
+    unsafe { hand(answer, ObjectsMade::NOTHING, made) }
+}
+
 /// See `subsetter.h`.
 ///
 /// # Safety

@@ -18,9 +18,9 @@ use fonts::capi::{self, Choices, Coordinate};
 use fonts::pdf::{FontError, PartsError};
 use fonts::{Embedded, Error};
 use status::{
-    status_of, status_text, DONE, INVALID_NUMBERS, INVALID_TEXT, NOT_PERMITTED, NO_CMAP, NO_DEPTH, OVERFULL, UNKNOWN_OPTION, VERSION,
+    status_of, status_text, BITMAPS_ALONE, DONE, INVALID_NUMBERS, INVALID_TEXT, NOT_PERMITTED, NO_CMAP, NO_DEPTH, OVERFULL, UNKNOWN_OPTION, VERSION,
 };
-use std::mem::take;
+use std::mem::{replace, take};
 use std::slice;
 
 /// A list by its address.
@@ -274,6 +274,16 @@ pub struct WriteCall {
     offsets: List<usize>,
 }
 
+/// A call that writes runs of text: the operators of all, where those of each end, and how far it goes on.
+#[repr(C)]
+pub struct TextSheetCall {
+    font: PdfMade,
+    operators: List<u8>,
+    ends: List<usize>,
+    advances: List<u32>,
+    bytes: List<u8>,
+}
+
 /// A call that gives the parts of such a font.
 #[repr(C)]
 pub struct PartsCall {
@@ -353,6 +363,7 @@ fn status_of_refusal(refusal: Refusal) -> u32 {
         Refusal::Text | Refusal::Font(FontError::TextTooLong) => INVALID_TEXT,
         Refusal::Font(FontError::NotPermitted(_)) => NOT_PERMITTED,
         Refusal::Font(FontError::Subset(error)) => status_of(error),
+        Refusal::Font(FontError::BitmapsAlone) => BITMAPS_ALONE,
         // (that is `NoCmap`; Rust wants an arm for what may come)
         Refusal::Font(_) => NO_CMAP,
     }
@@ -605,6 +616,19 @@ pub unsafe extern "C" fn subsetter_text_font(call: &mut TextFontCall) -> u32 {
         FontMade::of(pdf::text_font(font, call.index, at, view, call.chosen.is_vertical(), &choices))
     });
     status(made.map(|made| call.made = made))
+}
+
+/// # Safety
+///
+/// As of `List::items`; the ends are in order, and among the operators.
+#[no_mangle]
+pub unsafe extern "C" fn subsetter_text_sheet(call: &mut TextSheetCall) -> u32 {
+    let (parts, operators) = unsafe { (call.font.parts(), call.operators.items()) };
+    let (ends, advances) = unsafe { (call.ends.items(), call.advances.items()) };
+    let mut start = 0;
+    let runs = ends.iter().zip(advances).map(|(end, advance)| (&operators[replace(&mut start, *end)..*end], *advance));
+    let made = parts.text_sheet(runs);
+    status(made.map_err(status_of).map(|bytes| call.bytes = List::of(bytes)))
 }
 
 /// A call that says why another was refused.

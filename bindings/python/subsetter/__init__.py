@@ -72,9 +72,9 @@ else:
 
 __all__ = [
     "pdf_font", "glyphs_of", "codes_of", "advances", "kinds_of", "PdfFont", "Advances", "Column", "Descriptor", "Permission", "Objects", "Part",
-    "PdfText", "subset", "embed", "Embedded", "Error",
+    "PdfText", "Run", "subset", "embed", "Embedded", "Error",
     "UnknownKind", "MalformedFont", "Unimplemented", "SubsetError", "CFFError", "OutOfMemory", "NotPermitted", "InvalidText", "Overfull",
-    "NoCmap", "MissingCharacters", "TextGlyphs",
+    "NoCmap", "BitmapsAlone", "MissingCharacters", "TextGlyphs",
 ]
 
 __version__ = "1.0.0"
@@ -124,6 +124,10 @@ class InvalidText(Error, ValueError):
 
 class NoCmap(Error):
     """The font has no table by which characters have glyphs."""
+
+
+class BitmapsAlone(UnknownKind):
+    """The font has bitmaps (`CBDT`, `sbix` or `EBDT`) and no outlines: `pdf_font` alone raises it."""
 
 
 class MissingCharacters(Error, ValueError):
@@ -244,7 +248,7 @@ class Objects(NamedTuple):
 _NAME = {"win32": "subsetter.dll", "darwin": "libsubsetter.dylib"}.get(sys.platform, "libsubsetter.so")
 _ERRORS: Dict[int, Type[Error]] = {
     1: UnknownKind, 2: MalformedFont, 3: Unimplemented, 4: SubsetError, 5: OverflowError, 6: CFFError, 7: OutOfMemory,
-    11: NotPermitted, 12: InvalidText, 13: NoCmap, 15: Overfull,
+    11: NotPermitted, 12: InvalidText, 13: NoCmap, 14: BitmapsAlone, 15: Overfull,
 }
 _DROP_HINTING, _DROP_NAMES, _DROP_GLYPH_NAMES, _DROP_ALL = 1, 2, 4, 7
 
@@ -360,6 +364,12 @@ class _Parts(ctypes.Structure):
     _fields_ = [("parts", ctypes.POINTER(_Part)), ("part_count", ctypes.c_size_t)]
 
 
+class _Line(ctypes.Structure):
+    """A run on a page of its own."""
+
+    _fields_ = [("operators", ctypes.c_void_p), ("size", ctypes.c_size_t), ("advance", ctypes.c_uint32)]
+
+
 class _Objects(ctypes.Structure):
     """What the library hands over of objects."""
 
@@ -449,10 +459,13 @@ def _declare(library: ctypes.CDLL) -> ctypes.CDLL:
             make[:3] + [pointer, size, ctypes.POINTER(_Entry), size, pointer, size, ctypes.POINTER(_ReadSizes)], ctypes.c_uint32),
     }
     for_kinds = {"subsetter_glyph_kinds": (make[:3] + [pointer, size] * 2, ctypes.c_uint32)}
+    for_sheets = {
+        "subsetter_make_text_sheet": ([pointer, ctypes.POINTER(_Line), size, ctypes.POINTER(_Objects)], ctypes.c_uint32),
+    }
     # (a library has all calls of a group or, if it is older than they are, none)
     groups: Dict[str, Any] = {
         "subsetter_glyphs_of": for_pdf, "subsetter_make_font_by_words": new, "subsetter_new_text_by_words": for_runs,
-        "subsetter_read_text": for_texts, "subsetter_glyph_kinds": for_kinds,
+        "subsetter_read_text": for_texts, "subsetter_glyph_kinds": for_kinds, "subsetter_make_text_sheet": for_sheets,
     }
     for first, group in groups.items():
         if hasattr(library, first):
@@ -889,8 +902,8 @@ def glyphs_of(
     direction) is text of the entry before it, or of the one after it where none is before. A control, as a tab or a line end, has
     no entry, and is among the missing. `data` and `index` are as for `subset`.
 
-    Raises an `Error` by its name: what comes of opening the font, `NoCmap`, and `InvalidText` for an unpaired surrogate.
-    `NotImplementedError` is raised where the library is of an older version.
+    Raises an `Error` by its name: what comes of opening the font, which needs no outlines, `NoCmap`, and `InvalidText` for an
+    unpaired surrogate. `NotImplementedError` is raised where the library is of an older version.
     """
     is_strict = _choice("missing", missing, ("glyph_0", "error")) == 1
     characters, face = _characters(text), _number("index", index, 0, 0xFFFFFFFF)
@@ -1278,8 +1291,8 @@ def pdf_font(
     - `tag`: the six capitals in front of the font's name; without them they are computed of the font program.
     - `rights`: by `fsType` of the table `OS/2`, "from_font", or "held" by the caller, whatever that says.
 
-    Raises an `Error` by its name: those of `embed`, `NotPermitted`, and `InvalidText` for a text of more than 256 UTF-16 units or
-    with an unpaired surrogate. No value of the font descriptor is a reason: where a table is missing or cut, another
+    Raises an `Error` by its name: those of `embed`, `BitmapsAlone`, `NotPermitted`, and `InvalidText` for a text of more than 256
+    UTF-16 units or with an unpaired surrogate. No value of the font descriptor is a reason: where a table is missing or cut, another
     source of the value is taken. `NotImplementedError` is raised as by `glyphs_of`.
     """
     words = _pdf_words(
@@ -1393,6 +1406,15 @@ def _thousandths(size: Value) -> int:
     return round(scaled)
 
 
+class Run(bytes):
+    """What shows a run of a `PdfText`: operators for a content stream.
+
+    - `advance`: how far the pen goes on, in thousandths of the em; downwards it is below 0.
+    """
+
+    advance: int
+
+
 class PdfText:
     """Text of a font in a PDF: runs of glyphs that HarfBuzz has shaped, so that readers copy and find it, and then the font that they want.
 
@@ -1492,9 +1514,9 @@ class PdfText:
                 raise MalformedFont(f"malformed font: {_no_glyph(max(numbers), count)}")
             return [self._text.metrics[it].displacement for it in numbers]
 
-    def run(self, items: Iterable[Item], direction: Optional[Direction] = None, size: Value = 12) -> bytes:
+    def run(self, items: Iterable[Item], direction: Optional[Direction] = None, size: Value = 12) -> Run:
         """What shows a run of glyphs, for a content stream: between BT and ET, after Tf and Td or Tm, where Tc, Tw and Ts are 0 and Tz
-        is 100. The pen goes on by the run's advance.
+        is 100. The pen goes on by the run's `advance`.
 
         `items` are the glyphs in the order in which they are seen: (glyph, text, x_advance, y_advance, x_offset, y_offset) in the
         font's units, as a shaper has them, or (glyph, text), with the font's own advance. The text is that of a cluster, at its
@@ -1530,7 +1552,7 @@ class PdfText:
             return "the first item continues a cluster, as its text is None" if rows and rows[0][1] else self._fault(rows, characters)
 
         given = _packed(_ITEM, rows, ("a glyph", "", "", "", *_PLACES))
-        return self._shown("subsetter_show_run", direction, size, fault, given, len(rows), characters.buffer_info()[0], len(characters))
+        return self._shown("subsetter_show_run", direction, size, rows, fault, given, len(rows), characters.buffer_info()[0], len(characters))
 
     def _fault(self, rows: List[Tuple[Any, ...]], characters: Iterable[int]) -> str:
         """What is wrong with the glyphs or the characters of a run."""
@@ -1553,7 +1575,7 @@ class PdfText:
     def shaped(
         self, text: str, infos: Iterable[GlyphInfo], positions: Iterable[GlyphPosition], direction: Optional[Direction] = None,
         size: Value = 12, *, units: Literal["utf8", "utf16", "utf32"] = "utf32",
-    ) -> bytes:
+    ) -> Run:
         """The same of what uharfbuzz has made of a text: `infos` are its `buffer.glyph_infos`, and `positions` its
         `buffer.glyph_positions`, where the font's scale is units per em.
 
@@ -1580,9 +1602,11 @@ class PdfText:
             return self._fault(rows, map(ord, text)) or _cluster_fault(text, width, [row[1] for row in rows], direction)
 
         given = _packed(_SHAPED, rows, ("a codepoint", "a cluster", *_PLACES))
-        return self._shown("subsetter_show_shaped", direction, size, fault, given, len(rows), encoded, 8 * len(encoded) // width, width)
+        return self._shown("subsetter_show_shaped", direction, size, rows, fault, given, len(rows), encoded, 8 * len(encoded) // width, width)
 
-    def _shown(self, call: str, direction: Optional[Direction], size: Value, fault: Callable[[str], str], *given: Any) -> bytes:
+    def _shown(
+        self, call: str, direction: Optional[Direction], size: Value, rows: List[Tuple[Any, ...]], fault: Callable[[str], str], *given: Any
+    ) -> Run:
         known = _DIRECTIONS[2:] if self._vertical else _DIRECTIONS[:2]
         number = _DIRECTIONS.index(known[_choice("direction", known[0] if direction is None else direction, known)])
         thousandths, made = _thousandths(size), _Objects()
@@ -1590,7 +1614,10 @@ class PdfText:
             status = getattr(self._library, call)(text, *given, number, self._order, thousandths, ctypes.byref(made))
         try:
             _check(self._library, status, None, lambda: fault(_DIRECTIONS[number]))
-            return ctypes.string_at(made.bytes, made.size)
+            run = Run(ctypes.string_at(made.bytes, made.size))
+            length = sum(operator.index(row[-3 if self._vertical else -4]) for row in rows)
+            run.advance = (2000 * length + self.units_per_em) // (2 * self.units_per_em)
+            return run
         finally:
             self._library.subsetter_free_pdf_objects(ctypes.byref(made))
 
@@ -1610,3 +1637,18 @@ class PdfText:
             return font
         finally:
             self._library.subsetter_free_font(ctypes.byref(made))
+
+    def sheet(
+        self, runs: Iterable[Run], *, hinting: bool = True, small: bool = False, bounds: Bounds = "font", cid_set: bool = False,
+        tag: Optional[str] = None,
+    ) -> bytes:
+        """A whole PDF file of runs of this text, each on a page of its own, with the font for the runs so far. The font has 36 points
+        there, and so has to be `size` of the runs. The choices and errors are those of `font`."""
+        wanted = "runs are a list of what `run` and `shaped` have answered"
+        lines = _listed(runs, wanted)
+        if not all(isinstance(it, Run) for it in lines):
+            raise TypeError(wanted)
+        _library_with("subsetter_make_text_sheet")
+        font = self.font(hinting=hinting, small=small, bounds=bounds, cid_set=cid_set, tag=tag)
+        given = (_Line * len(lines))(*[_Line(_place(it), len(it), abs(it.advance)) for it in lines])
+        return font._written("subsetter_make_text_sheet", font._struct(), given, len(given)).bytes

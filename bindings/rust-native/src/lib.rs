@@ -35,6 +35,7 @@ pub enum Error {
     NotPermitted,
     InvalidText,
     NoCmap,
+    BitmapsAlone,
     /// Another status: the library is of another version, or its own code failed.
     Unknown(u32),
 }
@@ -53,6 +54,7 @@ impl Error {
             11 => Self::NotPermitted,
             12 => Self::InvalidText,
             13 => Self::NoCmap,
+            14 => Self::BitmapsAlone,
             _ => Self::Unknown(status),
         }
     }
@@ -68,10 +70,11 @@ impl fmt::Display for Error {
             Self::OverflowError => "overflow occurred",
             Self::CFFError => "processing CFF table failed",
             Self::OutOfMemory => "out of memory",
-            Self::UnknownOption => "unknown option",
+            Self::UnknownOption => "wrong option, size or text",
             Self::NotPermitted => "embedding not permitted",
             Self::InvalidText => "invalid text",
             Self::NoCmap => "no usable cmap in font",
+            Self::BitmapsAlone => "bitmaps alone in font",
             Self::Unknown(status) => return write!(f, "unknown status {status}"),
         })
     }

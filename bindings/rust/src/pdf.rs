@@ -50,7 +50,6 @@ pub use values::{Cmap, Column, Columns, Descriptor, Permission, ProgramKind, Usa
 use crate::proved::pdf_font as proved;
 use crate::proved::subsetter as subsetting;
 use crate::proved::subsetter_sfnt::parse::parse;
-use crate::proved::subsetter_variable::check_opening_at;
 use crate::proved::text_glyphs::{self as reading, find_source, TextSource};
 use crate::rattle::alloc::Global;
 use crate::{library, Error, Tag};
@@ -73,9 +72,7 @@ fn listed(characters: impl Iterator<Item = char> + Clone) -> Result<Vec<char>, E
 
 /// The tables of a font's `cmap` by which characters have glyphs.
 fn text_source(data: &[u8], index: u32) -> Result<TextSource<'_>, FontError> {
-    let all = subsetting::Extras::ALL;
-    check_opening_at(data, index, all).map_err(library::refused)?;
-    let face = parse(data, index, all).map_err(library::refused)?;
+    let face = parse(data, index, subsetting::Extras::ALL).map_err(library::refused)?;
     let bytes = face.stored(subsetting::Tag::new(b"cmap"));
     bytes.and_then(find_source).ok_or(FontError::NoCmap)
 }
@@ -134,8 +131,8 @@ pub(crate) fn read_characters(
 ///
 /// # Errors
 ///
-/// [`FontError::Subset`]: what comes of opening the font, where outlines in `CFF2` are taken too; [`FontError::NoCmap`]: it has no
-/// such table.
+/// [`FontError::Subset`]: it is no font, its directory is cut, or it has no such face; [`FontError::NoCmap`]: it has no such table.
+/// A font without outlines will do.
 pub fn glyphs_of<'a>(data: &[u8], index: u32, text: &'a str) -> Result<TextGlyphs<'a>, FontError> {
     let read = read_characters(data, index, text.chars())?;
     let mut places = with_room(text.chars().count() + 1)?;

@@ -66,6 +66,11 @@ fn taken(call: Call) -> (proved::Call, Option<Error>) {
         Call::EmbedWithVariations(error) => (proved::Call::EmbedAt, Some(error)),
         #[cfg(feature = "variable-fonts")]
         Call::PdfFont(FontError::Subset(error)) => (proved::Call::PdfFont, Some(error)),
+        // (for the proved call such a font is of no known kind)
+        #[cfg(feature = "variable-fonts")]
+        Call::PdfFont(FontError::BitmapsAlone) => {
+            (proved::Call::PdfFont, Some(Error::UnknownKind))
+        }
         #[cfg(feature = "variable-fonts")]
         Call::PdfFont(_) => (proved::Call::PdfFont, None),
         #[cfg(feature = "variable-fonts")]

@@ -4,7 +4,7 @@
 mod table;
 
 use std::fs;
-use subsetter::pdf::{kinds_of, pdf_font, FontOptions, Shown};
+use subsetter::pdf::{glyphs_of, kinds_of, pdf_font, FontError, FontOptions, Shown};
 use table::words::{bytes, short_numbers};
 use table::ERRORS;
 
@@ -34,6 +34,14 @@ fn each_row_is_answered() {
             let names: Vec<_> = kinds.iter().map(|it| it.to_string()).collect();
             assert_eq!(kinds.is_unseen(), names.len() > 1 && names.last().unwrap() == "empty", "{}", words[0]);
         }
+        // (a face without outlines, and without `cmap`)
+        let refused = match words[6].parse().unwrap() {
+            0 => continue,
+            14 => FontError::BitmapsAlone,
+            status => ERRORS[status - 1_usize].into(),
+        };
+        assert_eq!(pdf_font(&font, face, &[], &[Shown::new(0, "")], &FontOptions::new()).err(), Some(refused), "{}", words[0]);
+        assert_eq!(glyphs_of(&font, face, "A"), Err(FontError::NoCmap), "{}", words[0]);
     }
 }
 

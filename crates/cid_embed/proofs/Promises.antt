@@ -1,6 +1,6 @@
 -- What `embed` promises, by what `subset` promises and what is read of its answer.
 use Rattle.std.proofs.Common.{◌≡◌, ℕ, ◌<◌, ◌||◌, true, eqb, List, [], length, get_or, map, Option, Some, None, Result, Ok, Err, refl, sym, ap, subst, ◌∙◌, ◌⊎◌, inl, inr}
-use Rattle.std.specs.Prelude.{IsSome, IfErr}
+use Rattle.std.specs.Prelude.{IsSome}
 use Rattle.subsetter_base.proofs.Options.{some_not_none}
 use Rattle.std.proofs.Math.Bool.{or-true}
 use Rattle.std.proofs.lemmas.List.{get_or_default}
@@ -9,6 +9,7 @@ use Rattle.subsetter_base.specs.Indexes.{index_of, HasAllAboveZero}
 use Rattle.subsetter_base.specs.declared.error.Error.{Error}
 use Rattle.subsetter_base.specs.declared.error.Error.TheVariants.{UnknownKind, MalformedFont, Unimplemented, SubsetError, OverflowError, CFFError, OutOfMemory}
 use Rattle.subsetter_base.proofs.GlyphLemmas.{known, known-all, Contains-index}
+use Rattle.subsetter_sfnt.specs.Fault.{HasOpeningFault}
 use Rattle.subsetter_sfnt.specs.Read.{Font}
 use Rattle.subsetter.specs.Fault.{HasFault, in_opening}
 use Rattle.subsetter.specs.Subset.{IsSubset}
@@ -16,7 +17,7 @@ use Rattle.subsetter.specs.Answer.{IsAnswer}
 use Rattle.subsetter.specs.Bound as bounds
 use Rattle.subsetter.specs.Bound.{IsWithin, HasFaultWithin, HasNoAnswerWithin}
 use Rattle.cid_embed.specs.Afresh.{table_of, widths_of}
-use Rattle.cid_embed.specs.Embed.{numbering, HasMapperFault, all_asked, unopened, IsEmbedded, HasEmbedFault, HasEmbedFaultWithin, HasNoEmbedding, HasNoEmbeddingWithin, in_numbering, in_subset, in_widths, in_font, beyond}
+use Rattle.cid_embed.specs.Embed.{numbering, HasMapperFault, all_asked, unopened, IsEmbedded, HasEmbedFault, HasEmbedFaultWithin, HasNoEmbedding, HasNoEmbeddingWithin, IsEmbedPromised, in_numbering, in_subset, in_widths, in_font, beyond}
 use Rattle.cid_embed.specs.Width.{HasWidthFault}
 use Rattle.cid_embed.specs.declared.embedding.Embedded.{Embedded}
 use Rattle.cid_embed.proofs.Reading.{IsReading, is_reading}
@@ -40,18 +41,22 @@ IsRefusal bound tokens depth font glyphs why = (why ≡ OutOfMemory) ⊎ ((order
 abbrev pub IsFinal : Option ℕ → ℕ → ℕ → Font → List ℕ → Error → Type 0
 IsFinal bound tokens depth font glyphs why = (why ≡ OutOfMemory) ⊎ HasNoEmbeddingWithin bound tokens depth font glyphs
 
--- the same where no bound is set
-pub no_bound_refusal : {X : Type 0} (bound : Option ℕ) (tokens depth : ℕ) (font : Font) (glyphs : List ℕ) (r : Result X Error) → bound ≡ None → IfErr r (λ why. IsRefusal bound tokens depth font glyphs why) → IfErr r (λ why. (why ≡ OutOfMemory) ⊎ ((order : List ℕ) × HasEmbedFault tokens depth font glyphs order why))
-no_bound_refusal bound tokens depth font glyphs (Ok x) none h = tt
-no_bound_refusal bound tokens depth font glyphs (Err why) none h = elim h [ inl m ↦ inl m | inr s ↦ inr (s.0, by s.0 why s.1) ]
-  where
-    by : (order : List ℕ) (why : Error) → HasEmbedFaultWithin bound tokens depth font glyphs order why → HasEmbedFault tokens depth font glyphs order why
-    by order why (in_font f) = f
-    by order why (beyond b) = absurd (some_not_none bound b.most b.is_set none)
+-- the promise of a refusal
+pub refused : (bound : Option ℕ) (tokens depth : ℕ) (font : Font) (glyphs : List ℕ) (why : Error) → IsRefusal bound tokens depth font glyphs why → IsFinal bound tokens depth font glyphs why → ((e : Error) → HasOpeningFault font e → why ≡ OutOfMemory → ⊥) → IsEmbedPromised bound tokens depth font glyphs (Err why)
+refused bound tokens depth font glyphs why refusal final early = record { exact = tt; within = tt; err = refusal; no_answer = final; before_memory = λ e f k. early e f (let is = k in cc) }
 
-pub no_bound_final : {X : Type 0} (bound : Option ℕ) (tokens depth : ℕ) (font : Font) (glyphs : List ℕ) (r : Result X Error) → bound ≡ None → IfErr r (λ why. IsFinal bound tokens depth font glyphs why) → IfErr r (λ why. (why ≡ OutOfMemory) ⊎ HasNoEmbedding tokens depth font glyphs)
-no_bound_final bound tokens depth font glyphs (Ok x) none h = tt
-no_bound_final bound tokens depth font glyphs (Err why) none h = elim h [ inl m ↦ inl m | inr n ↦ inr (λ e a. n e (subst (λ (b : Option ℕ). IsWithin b e.font.items) (sym none) tt) a) ]
+-- where no bound is set, a fault is one of the font, and no answer is none at all
+fault_of_font : (tokens depth : ℕ) (font : Font) (glyphs order : List ℕ) (why : Error) → HasEmbedFaultWithin None tokens depth font glyphs order why → HasEmbedFault tokens depth font glyphs order why
+fault_of_font tokens depth font glyphs order why (in_font f) = f
+fault_of_font tokens depth font glyphs order why (beyond b) = absurd (some_not_none None b.most b.is_set refl)
+
+pub refused_by_font : (tokens depth : ℕ) (font : Font) (glyphs : List ℕ) (why : Error) → IsRefusal None tokens depth font glyphs why → (why ≡ OutOfMemory) ⊎ ((order : List ℕ) × HasEmbedFault tokens depth font glyphs order why)
+refused_by_font tokens depth font glyphs why (inl m) = inl m
+refused_by_font tokens depth font glyphs why (inr f) = inr (f.0, fault_of_font tokens depth font glyphs f.0 why f.1)
+
+pub final_for_font : (tokens depth : ℕ) (font : Font) (glyphs : List ℕ) (why : Error) → IsFinal None tokens depth font glyphs why → (why ≡ OutOfMemory) ⊎ HasNoEmbedding tokens depth font glyphs
+final_for_font tokens depth font glyphs why (inl m) = inl m
+final_for_font tokens depth font glyphs why (inr n) = inr (λ e a. n e tt a)
 
 -- what a mapper refuses, as a fault of numbering
 pub unnumbered : (font : Font) (glyphs : List ℕ) (why : Error) → (why ≡ OutOfMemory) ⊎ ((why ≡ OverflowError) × HasAllAboveZero glyphs) → (why ≡ OutOfMemory) ⊎ HasMapperFault font glyphs why

@@ -1,8 +1,8 @@
 -- What a PDF writer gets of a font for the glyphs that it asks for, and why it doesn't.
-use Rattle.std.specs.Prelude.{◌≡◌, ℕ, List, [], ◌∷◌, map, Option, Some}
+use Rattle.std.specs.Prelude.{◌≡◌, ◌≢◌, ◌⊎◌, ℕ, List, [], ◌∷◌, map, Option, Some, Result, Err, IfOk, IfErr}
 use Rattle.subsetter_base.specs.Indexes.{index_of, with_glyphs, HasAllAboveZero}
 use Rattle.subsetter_base.specs.declared.error.Error.{Error}
-use Rattle.subsetter_base.specs.declared.error.Error.TheVariants.{OverflowError}
+use Rattle.subsetter_base.specs.declared.error.Error.TheVariants.{OverflowError, OutOfMemory}
 use Rattle.subsetter_sfnt.specs.Read.{Font}
 use Rattle.subsetter.specs.Subset.{IsSubset}
 use Rattle.subsetter.specs.Answer.{IsAnswer}
@@ -61,3 +61,18 @@ pub data HasEmbedFaultWithin (bound : Option ℕ) (tokens depth : ℕ) (font : F
 -- nothing within the bound is answered for the asked glyphs of a font
 abbrev pub HasNoEmbeddingWithin : Option ℕ → ℕ → ℕ → Font → List ℕ → Type 0
 HasNoEmbeddingWithin bound tokens depth font glyphs = (e : Embedded) → IsWithin bound e.font.items → ¬ (IsEmbeddingAnswer tokens depth font glyphs e)
+
+-- ---- what a call promises
+
+-- of its result, for the requested glyphs of a font, where a run has so many tokens and goes so deep, and the font at most so many bytes
+pub record IsEmbedPromised (bound : Option ℕ) (tokens depth : ℕ) (font : Font) (glyphs : List ℕ) (result : Result Embedded Error) : Type 0 where
+  -- what is returned is the answer: a subset of a font without a fault, with CIDs and widths
+  pub exact : IfOk result (λ e. IsEmbeddingAnswer tokens depth font glyphs e)
+  -- and its font has no more bytes than it may have
+  pub within : IfOk result (λ e. IsWithin bound e.font.items)
+  -- what is refused has a fault of that name, or the bound is set and every answer passes it
+  pub err : IfErr result (λ why. (why ≡ OutOfMemory) ⊎ ((order : List ℕ) × HasEmbedFaultWithin bound tokens depth font glyphs order why))
+  -- and, unless memory ran out, there is no answer within these limits
+  pub no_answer : IfErr result (λ why. (why ≡ OutOfMemory) ⊎ HasNoEmbeddingWithin bound tokens depth font glyphs)
+  -- a fault that is found before memory is taken isn't reported as want of memory
+  pub before_memory : (e : Error) → HasOpeningFault font e → result ≢ Err OutOfMemory

@@ -1,16 +1,14 @@
 //! The subset of a font with the CIDs and the widths of its glyphs.
 
 ghost use Rattle.subsetter_sfnt.specs.FontAt.{font_at};
-ghost use Rattle.std.specs.Prelude.{◌≡◌, ◌≢◌, ◌⊎◌, ℕ, List, map, All, IfOk, IfErr, OnOk, IsSome, Some, Err};
+ghost use Rattle.std.specs.Prelude.{◌≡◌, ◌≢◌, ◌⊎◌, map, All, IfOk, IfErr, OnOk, IsSome, None, Some, Err};
 ghost use Rattle.subsetter_base.specs.Indexes.{index_of, HasAllAboveZero};
 ghost use Rattle.subsetter_base.specs.declared.error.Error.{Error as SpecError};
 ghost use Rattle.subsetter_base.specs.declared.error.Error.TheVariants.{OutOfMemory};
 ghost use Rattle.subsetter_sfnt.specs.Extras.{all_extras};
 ghost use Rattle.subsetter_sfnt.specs.Fault.{HasOpeningFault};
 ghost use Rattle.subsetter.specs.Limits.{token_limit, depth_limit};
-ghost use Rattle.subsetter.specs.Answer.{IsAnswer, IsTheAnswer};
-ghost use Rattle.subsetter.specs.Bound.{IsWithin};
-ghost use Rattle.cid_embed.specs.Embed.{numbering, HasMapperFault, IsEmbedded, HasEmbedFault, HasEmbedFaultWithin, HasNoEmbedding, HasNoEmbeddingWithin};
+ghost use Rattle.cid_embed.specs.Embed.{numbering, HasMapperFault, IsEmbedPromised};
 
 use crate::widths::read_widths;
 use std::alloc::Global;
@@ -86,19 +84,8 @@ pub fn mapper_for(
 ///
 /// Unless memory runs out they are looked for in this order.
 pub fn embed(alloc: Global, data: &[u8], index: u32, glyphs: &[u16]) -> Result<Embedded, Error>
-    // What is answered is a subset with CIDs and widths.
-    ensures ok { IfOk result (λ e. IsEmbedded token_limit depth_limit (font_at «data».now index all_extras) glyphs.now e) }
-    // And then no fault stands in the source, the size limits being judged for the answer's order of glyphs.
-    ensures clean { IfOk result (λ e. (s : IsEmbedded token_limit depth_limit (font_at «data».now index all_extras) glyphs.now e) × ((why : SpecError) → ¬ (HasEmbedFault token_limit depth_limit (font_at «data».now index all_extras) glyphs.now s.subset.keeps.order why))) }
-    // Its font is the one that `subset` answers.
-    ensures exact { IfOk result (λ e. IsAnswer token_limit depth_limit (font_at «data».now index all_extras) (numbering glyphs.now) e.font.items) }
-    ensures same { IfOk result (λ e. IsTheAnswer (font_at «data».now index all_extras) (numbering glyphs.now) e.font.items) }
-    // What is refused has a fault of that name.
-    ensures err { IfErr result (λ why. (why ≡ OutOfMemory) ⊎ ((order : List ℕ) × HasEmbedFault token_limit depth_limit (font_at «data».now index all_extras) glyphs.now order why)) }
-    // And, unless memory ran out, it has no answer: no call answers it within these limits.
-    ensures no_answer { IfErr result (λ why. (why ≡ OutOfMemory) ⊎ HasNoEmbedding token_limit depth_limit (font_at «data».now index all_extras) glyphs.now) }
-    // Where a fault stands that is found before memory is taken, the answer isn't out of memory.
-    ensures before_memory { (e : SpecError) → HasOpeningFault (font_at «data».now index all_extras) e → result ≢ Err OutOfMemory }
+    // What is returned is the subset with CIDs and widths, what is refused has a fault of that name.
+    ensures promise { IsEmbedPromised None token_limit depth_limit (font_at «data».now index all_extras) glyphs.now result }
 {
     embed_with_limits(alloc, data, index, glyphs, &Limits::default())
 }
@@ -116,21 +103,8 @@ pub fn embed_with_limits(
     glyphs: &[u16],
     limits: &Limits,
 ) -> Result<Embedded, Error>
-    // What is answered is a subset with CIDs and widths.
-    ensures ok { IfOk result (λ e. IsEmbedded limits.now.tokens limits.now.depth (font_at «data».now index all_extras) glyphs.now e) }
-    // And then no fault stands in the source, the size limits being judged for the answer's order of glyphs.
-    ensures clean { IfOk result (λ e. (s : IsEmbedded limits.now.tokens limits.now.depth (font_at «data».now index all_extras) glyphs.now e) × ((why : SpecError) → ¬ (HasEmbedFault limits.now.tokens limits.now.depth (font_at «data».now index all_extras) glyphs.now s.subset.keeps.order why))) }
-    // Its font is the one that `subset_with_limits` answers.
-    ensures exact { IfOk result (λ e. IsAnswer limits.now.tokens limits.now.depth (font_at «data».now index all_extras) (numbering glyphs.now) e.font.items) }
-    ensures same { IfOk result (λ e. IsTheAnswer (font_at «data».now index all_extras) (numbering glyphs.now) e.font.items) }
-    // Its font has no more bytes than it may have.
-    ensures within { IfOk result (λ e. IsWithin limits.now.bytes e.font.items) }
-    // What is refused has a fault of that name, or the bound on bytes is set and every answer passes it.
-    ensures err { IfErr result (λ why. (why ≡ OutOfMemory) ⊎ ((order : List ℕ) × HasEmbedFaultWithin limits.now.bytes limits.now.tokens limits.now.depth (font_at «data».now index all_extras) glyphs.now order why)) }
-    // And, unless memory ran out, it has no answer: no call answers it within these limits.
-    ensures no_answer { IfErr result (λ why. (why ≡ OutOfMemory) ⊎ HasNoEmbeddingWithin limits.now.bytes limits.now.tokens limits.now.depth (font_at «data».now index all_extras) glyphs.now) }
-    // Where a fault stands that is found before memory is taken, the answer isn't out of memory.
-    ensures before_memory { (e : SpecError) → HasOpeningFault (font_at «data».now index all_extras) e → result ≢ Err OutOfMemory }
+    // What is returned is the subset with CIDs and widths, what is refused has a fault of that name, or every answer passes the bound on bytes.
+    ensures promise { IsEmbedPromised limits.now.bytes limits.now.tokens limits.now.depth (font_at «data».now index all_extras) glyphs.now result }
 {
     let options = Options {
         limits: *limits,
@@ -152,21 +126,8 @@ pub fn embed_with_options(
     glyphs: &[u16],
     options: &Options,
 ) -> Result<Embedded, Error>
-    // What is answered is a subset with CIDs and widths.
-    ensures ok { IfOk result (λ e. IsEmbedded options.now.limits.tokens options.now.limits.depth (font_at «data».now index options.now.extras) glyphs.now e) }
-    // And then no fault stands in the source, the size limits being judged for the answer's order of glyphs.
-    ensures clean { IfOk result (λ e. (s : IsEmbedded options.now.limits.tokens options.now.limits.depth (font_at «data».now index options.now.extras) glyphs.now e) × ((why : SpecError) → ¬ (HasEmbedFault options.now.limits.tokens options.now.limits.depth (font_at «data».now index options.now.extras) glyphs.now s.subset.keeps.order why))) }
-    // Its font is the one that `subset_with_options` answers.
-    ensures exact { IfOk result (λ e. IsAnswer options.now.limits.tokens options.now.limits.depth (font_at «data».now index options.now.extras) (numbering glyphs.now) e.font.items) }
-    ensures same { IfOk result (λ e. IsTheAnswer (font_at «data».now index options.now.extras) (numbering glyphs.now) e.font.items) }
-    // Its font has no more bytes than it may have.
-    ensures within { IfOk result (λ e. IsWithin options.now.limits.bytes e.font.items) }
-    // What is refused has a fault of that name, or the bound on bytes is set and every answer passes it.
-    ensures err { IfErr result (λ why. (why ≡ OutOfMemory) ⊎ ((order : List ℕ) × HasEmbedFaultWithin options.now.limits.bytes options.now.limits.tokens options.now.limits.depth (font_at «data».now index options.now.extras) glyphs.now order why)) }
-    // And, unless memory ran out, it has no answer: no call answers it within these limits.
-    ensures no_answer { IfErr result (λ why. (why ≡ OutOfMemory) ⊎ HasNoEmbeddingWithin options.now.limits.bytes options.now.limits.tokens options.now.limits.depth (font_at «data».now index options.now.extras) glyphs.now) }
-    // Where a fault stands that is found before memory is taken, the answer isn't out of memory.
-    ensures before_memory { (e : SpecError) → HasOpeningFault (font_at «data».now index options.now.extras) e → result ≢ Err OutOfMemory }
+    // What is returned is the subset with CIDs and widths, what is refused has a fault of that name, or every answer passes the bound on bytes.
+    ensures promise { IsEmbedPromised options.now.limits.bytes options.now.limits.tokens options.now.limits.depth (font_at «data».now index options.now.extras) glyphs.now result }
 {
     let mapper = mapper_for(alloc, data, index, glyphs, options.extras)?;
     let font = subset_with_options(alloc, data, index, &mapper, options)?;

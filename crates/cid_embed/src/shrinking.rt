@@ -1,19 +1,16 @@
 //! Subsetting a font that is itself a subset, and embedding an embedded one again, with some of their glyphs.
 
-ghost use Rattle.std.specs.Prelude.{◌≡◌, ◌≤◌, ◌⊎◌, ℕ, List, length, Contains, IfOk, IfErr, ◌≢◌, Err};
+ghost use Rattle.std.specs.Prelude.{◌≡◌, ◌≤◌, ◌⊎◌, ℕ, List, length, Contains, IfOk, IfErr, None};
 ghost use Rattle.subsetter_base.specs.Bytes.{IsBytes};
-ghost use Rattle.subsetter_base.specs.declared.error.Error.{Error as SpecError};
 ghost use Rattle.subsetter_base.specs.declared.error.Error.TheVariants.{MalformedFont, OutOfMemory};
-ghost use Rattle.subsetter.specs.Answer.{IsAnswer, IsTheAnswer, HasNoAnswer};
+ghost use Rattle.subsetter.specs.Promise.{IsPromised};
 ghost use Rattle.subsetter.specs.Limits.{token_limit, depth_limit};
 ghost use Rattle.subsetter_sfnt.specs.Read.{as_font};
 ghost use Rattle.cid_embed.specs.Again.{IsTrueTypeOrCidKeyed};
 ghost use Rattle.cid_embed.specs.Shrink.{OfEachSource, IsShrunk, IsGivenBack, HasNoFaultForAll, HasFaultForUnknown};
 ghost use Rattle.subsetter_cff.specs.Write.Again.{AreAll};
-ghost use Rattle.cid_embed.specs.Embed.{numbering, IsEmbedded, HasEmbedFault, HasNoEmbedding};
+ghost use Rattle.cid_embed.specs.Embed.{numbering, HasEmbedFault, IsEmbedPromised};
 ghost use Rattle.cid_embed.specs.Width.{HasWidthFault};
-ghost use Rattle.subsetter.specs.Fault.{HasFault};
-ghost use Rattle.subsetter_sfnt.specs.Fault.{HasOpeningFault};
 
 use crate::embedding::{Embedded, embed};
 use std::alloc::Global;
@@ -30,24 +27,17 @@ use subsetter::{Error, GlyphRemapper, subset};
 ///
 /// Those of `subset`. A glyph that the given subset doesn't have is `MalformedFont`.
 pub fn shrink_font(alloc: Global, font: &[u8], mapper: &GlyphRemapper) -> Result<Vec<u8>, Error>
-    // What is answered is a subset of the font, and of each font of which that is a subset.
+    // It answers as `subset` does.
+    ensures promise { IsPromised (λ v. v.items) None token_limit depth_limit (as_font font.now) mapper.now result }
+    // The new font is a subset of each font of which the given one is a subset.
     ensures ok { IfOk result (λ out. IsShrunk font.now mapper.now out.items) }
     // All glyphs in order give the font back.
     ensures given_back { IfOk result (λ out. IsGivenBack font.now mapper.now out.items) }
-    // It is the one answer for the font's bytes, and where there is one no fault stands in them.
-    ensures exact { IfOk result (λ out. IsAnswer token_limit depth_limit (as_font font.now) mapper.now out.items) }
-    ensures same { IfOk result (λ out. IsTheAnswer (as_font font.now) mapper.now out.items) }
-    // What is refused has a fault of that name.
-    ensures err { IfErr result (λ e. (e ≡ OutOfMemory) ⊎ ((order : List ℕ) × HasFault token_limit depth_limit (as_font font.now) mapper.now order e)) }
-    // And, but for want of memory, it has no answer: no call answers it.
-    ensures no_answer { IfErr result (λ e. (e ≡ OutOfMemory) ⊎ HasNoAnswer token_limit depth_limit (as_font font.now) mapper.now) }
-    // No fault stands in a subset for all its glyphs in order, so that it is refused for want of memory alone.
+    // A subset has no fault for all its glyphs in order, so that it is refused for want of memory alone.
     ensures sound { HasNoFaultForAll font.now mapper.now }
     ensures only_memory { IfErr result (λ e. OfEachSource font.now (λ source first. AreAll (length first) mapper.now → IsTrueTypeOrCidKeyed source → e ≡ OutOfMemory)) }
     // A glyph that the font doesn't have is a fault.
     ensures unknown { HasFaultForUnknown font.now mapper.now }
-    // Where a fault stands that is found before memory is taken, the answer isn't want of memory.
-    ensures before_memory { (e : SpecError) → HasOpeningFault (as_font font.now) e → result ≢ Err OutOfMemory }
 {
     // What `num_gids` says of the mapper, that glyph 0 comes first, is a premise of the proof.
     let _count = mapper.num_gids();
@@ -81,22 +71,13 @@ fn as_bytes(font: &[u8]) -> &[u8]
 /// Those of `embed`. A CID that the embedded font doesn't have is `MalformedFont`. With all CIDs in order a TrueType or
 /// CID-keyed font is refused for want of memory or of widths alone.
 pub fn shrink(alloc: Global, e: &Embedded, cids: &[u16]) -> Result<Embedded, Error>
-    // What is answered is a subset of the font with CIDs and widths.
-    ensures ok { IfOk result (λ s. IsEmbedded token_limit depth_limit (as_font e.now.font.items) cids.now s) }
-    // And then no fault stands in the font, the size limits being judged for the answer's order of glyphs.
-    ensures clean { IfOk result (λ s. (x : IsEmbedded token_limit depth_limit (as_font e.now.font.items) cids.now s) × ((why : SpecError) → ¬ (HasEmbedFault token_limit depth_limit (as_font e.now.font.items) cids.now x.subset.keeps.order why))) }
-    // Its font is the one that `subset` answers.
-    ensures exact { IfOk result (λ s. IsAnswer token_limit depth_limit (as_font e.now.font.items) (numbering cids.now) s.font.items) }
-    ensures same { IfOk result (λ s. IsTheAnswer (as_font e.now.font.items) (numbering cids.now) s.font.items) }
-    // It is a subset of each font of which the given one is a subset.
+    // It answers as `embed` does.
+    ensures promise { IsEmbedPromised None token_limit depth_limit (as_font e.now.font.items) cids.now result }
+    // The new font is a subset of each font of which the given one is a subset.
     ensures shrunk { IfOk result (λ s. IsShrunk e.now.font.items (numbering cids.now) s.font.items) }
     // All CIDs in order give the font back.
     ensures given_back { IfOk result (λ s. IsGivenBack e.now.font.items (numbering cids.now) s.font.items) }
-    // What is refused has a fault of that name.
-    ensures err { IfErr result (λ why. (why ≡ OutOfMemory) ⊎ ((order : List ℕ) × HasEmbedFault token_limit depth_limit (as_font e.now.font.items) cids.now order why)) }
-    // And, but for want of memory, it has no answer: no call answers it.
-    ensures no_answer { IfErr result (λ why. (why ≡ OutOfMemory) ⊎ HasNoEmbedding token_limit depth_limit (as_font e.now.font.items) cids.now) }
-    // No fault of the subset stands for all CIDs in order, so that they are refused for want of memory or of widths alone.
+    // A subset has no fault for all CIDs in order, so that they are refused for want of memory or of widths alone.
     ensures sound { HasNoFaultForAll e.now.font.items (numbering cids.now) }
     ensures only_widths { IfErr result (λ why. OfEachSource e.now.font.items (λ source first. AreAll (length first) (numbering cids.now) → IsTrueTypeOrCidKeyed source → (why ≡ OutOfMemory) ⊎ HasWidthFault (as_font e.now.font.items) why)) }
     // A CID that the font doesn't have is a fault.

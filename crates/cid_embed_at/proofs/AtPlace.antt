@@ -8,14 +8,13 @@ use Rattle.subsetter_base.specs.declared.error.Error.TheVariants.{OverflowError}
 use Rattle.subsetter_base.specs.Indexes.{HasAllAboveZero}
 use Rattle.subsetter_sfnt.specs.Read.{Font}
 use Rattle.subsetter.specs.Fault.{in_opening}
-use Rattle.subsetter.specs.Answer.{IsAnswer}
 use Rattle.subsetter.specs.Subset.{IsSubset}
 use Rattle.subsetter_variable.specs.DefaultLocation.{IsCff2Font, HasStaticFault}
-use Rattle.subsetter_variable.specs.Subset.{whole, HasOpeningFaultAt, IsStatic}
-use Rattle.subsetter_variable.proofs.Static.{one_static, closed}
-use Rattle.cid_embed.specs.Embed.{numbering, HasMapperFault, all_asked, unopened, IsEmbedded, HasEmbedFault, HasEmbedFaultWithin, in_font, in_numbering, in_subset, IsEmbeddingAnswer, HasNoEmbeddingWithin}
+use Rattle.subsetter_variable.specs.Subset.{whole, HasOpeningFaultAt, IsStatic, IsTheAnswerAt}
+use Rattle.subsetter_variable.proofs.Static.{one_static, closed, answers_are_one}
+use Rattle.cid_embed.specs.Embed.{numbering, HasMapperFault, all_asked, unopened, in_font, in_numbering, in_subset, IsEmbeddingAnswer, IsEmbedPromised}
 use Rattle.cid_embed.specs.declared.embedding.Embedded.{Embedded}
-use Rattle.cid_embed_at.specs.Embed.{IsEmbeddingAnswerAt, HasEmbedFaultAt, HasNoEmbeddingAt, in_instance, in_cff_instance, in_static, in_numbering as none_left}
+use Rattle.cid_embed_at.specs.Embed.{IsEmbeddingAnswerAt, HasEmbedFaultAt, HasNoEmbeddingAt, IsEmbedPromisedAt, in_instance, in_cff_instance, in_static, in_numbering as none_left}
 
 -- ---- glyphs without numbers
 
@@ -76,23 +75,36 @@ module _ (bound : Option ℕ) (tokens depth : ℕ) (font : Font) (settings : Lis
     unmade_final e (inl o) = inl o
     unmade_final e (inr f) = inr (none_made e (there e f))
 
-  -- ---- the static font
+  -- ---- the promises
+
+  pub refused : (e : Error) → (e ≡ OutOfMemory) ⊎ ((order : List ℕ) × HasEmbedFaultAt bound tokens depth font settings glyphs order e) → (e ≡ OutOfMemory) ⊎ HasNoEmbeddingAt bound tokens depth font settings glyphs → ((why : Error) → HasOpeningFaultAt font why → e ≡ OutOfMemory → ⊥) → IsEmbedPromisedAt bound tokens depth font settings glyphs (Err e)
+  refused e refusal final early = record { exact = tt; within = tt; err = refusal; no_answer = final; before_memory = λ why f k. early why f (let is = k in cc) }
 
   module _ (static : Font) (is : IsStatic font settings (numbering glyphs) static) where
-    pub err_at : (r : Result Embedded Error) → IfErr r (λ why. (why ≡ OutOfMemory) ⊎ ((order : List ℕ) × HasEmbedFaultWithin bound tokens depth static glyphs order why)) → IfErr r (λ why. (why ≡ OutOfMemory) ⊎ ((order : List ℕ) × HasEmbedFaultAt bound tokens depth font settings glyphs order why))
-    err_at (Ok e) h = tt
-    err_at (Err why) (inl o) = inl o
-    err_at (Err why) (inr f) = inr (f.0, in_static static is f.1)
+    -- what is promised of the static font is promised of the font
+    pub promised_at : ((why : Error) → HasStaticFault (whole font) settings (numbering glyphs) tokens depth why → ⊥) → (r : Result Embedded Error) → ((e : Error) → HasOpeningFaultAt font e → r ≡ Err OutOfMemory → ⊥) → IsEmbedPromised bound tokens depth static glyphs r → IsEmbedPromisedAt bound tokens depth font settings glyphs r
+    promised_at made (Ok e) early p =
+        record {
+          exact = record { static = static; is_static = is; made = λ why not f. made why (inl (not, f)); cff_made = λ why c f. made why (inr (c, f)); answer = p.exact };
+          within = p.within;
+          err = tt;
+          no_answer = tt;
+          before_memory = early;
+        }
+    promised_at made (Err why) early p =
+        record {
+          exact = tt;
+          within = tt;
+          err = elim p.err [ inl m ↦ inl m | inr f ↦ inr (f.0, in_static static is f.1) ];
+          no_answer = elim p.no_answer [ inl m ↦ inl m | inr n ↦ inr (λ x within a. n x within (subst (λ (f : Font). IsEmbeddingAnswer tokens depth f glyphs x) (one_static font settings (numbering glyphs) a.static static a.is_static is) a.answer)) ];
+          before_memory = early;
+        }
 
-    pub no_answer_at : (r : Result Embedded Error) → IfErr r (λ why. (why ≡ OutOfMemory) ⊎ HasNoEmbeddingWithin bound tokens depth static glyphs) → IfErr r (λ why. (why ≡ OutOfMemory) ⊎ HasNoEmbeddingAt bound tokens depth font settings glyphs)
-    no_answer_at (Ok e) h = tt
-    no_answer_at (Err why) (inl o) = inl o
-    no_answer_at (Err why) (inr n) = inr (λ x within a. n x within (subst (λ (f : Font). IsEmbeddingAnswer tokens depth f glyphs x) (one_static font settings (numbering glyphs) a.static static a.is_static is) a.answer))
+    pub subset_in : (r : Result Embedded Error) → IsEmbedPromised bound tokens depth static glyphs r → IfOk r (λ e. IsSubset tokens depth static (numbering glyphs) e.font.items)
+    subset_in (Ok e) p = p.exact.embedded.subset
+    subset_in (Err why) p = tt
 
-    pub ok_at : ((why : Error) → HasStaticFault (whole font) settings (numbering glyphs) tokens depth why → ⊥) → (r : Result Embedded Error) → IfOk r (λ e. (s : IsEmbedded tokens depth static glyphs e) × ((why : Error) → HasEmbedFault tokens depth static glyphs s.subset.keeps.order why → ⊥)) → IfOk r (λ e. IsAnswer tokens depth static (numbering glyphs) e.font.items) → IfOk r (λ e. IsEmbeddingAnswerAt tokens depth font settings glyphs e)
-    ok_at made (Ok e) clean exact = record { static = static; is_static = is; made = λ why not f. made why (inl (not, f)); cff_made = λ why c f. made why (inr (c, f)); answer = record { embedded = clean.0; clean = clean.1; font_is = exact } }
-    ok_at made (Err why) clean exact = tt
-
-    pub subset_in : (r : Result Embedded Error) → IfOk r (λ e. IsEmbedded tokens depth static glyphs e) → IfOk r (λ e. IsSubset tokens depth static (numbering glyphs) e.font.items)
-    subset_in (Ok e) h = h.subset
-    subset_in (Err why) h = tt
+-- the font of an answer is the one answer
+pub one_font : (tokens depth : ℕ) (font : Font) (settings : List (Tag × ℤ)) (glyphs : List ℕ) (e : Embedded) → IsEmbeddingAnswerAt tokens depth font settings glyphs e → IsTheAnswerAt font settings (numbering glyphs) e.font.items
+one_font tokens depth font settings glyphs e a =
+    answers_are_one tokens depth font settings (numbering glyphs) e.font.items (record { static = a.static; is_static = a.is_static; made = a.made; cff_made = a.cff_made; answer = a.answer.font_is })

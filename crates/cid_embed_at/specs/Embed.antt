@@ -1,15 +1,15 @@
 -- What a PDF writer gets of a variable font at settings of its user coordinates, and why it doesn't.
-use Rattle.std.specs.Prelude.{ℕ, List, Option, ℤ}
+use Rattle.std.specs.Prelude.{◌≡◌, ◌≢◌, ◌⊎◌, ℕ, List, Option, Result, Err, IfOk, IfErr, ℤ}
 use Rattle.subsetter_base.specs.Indexes.{HasAllAboveZero}
 use Rattle.subsetter_base.specs.declared.tag.Tag.{Tag}
 use Rattle.subsetter_base.specs.declared.error.Error.{Error}
-use Rattle.subsetter_base.specs.declared.error.Error.TheVariants.{OverflowError}
+use Rattle.subsetter_base.specs.declared.error.Error.TheVariants.{OverflowError, OutOfMemory}
 use Rattle.subsetter_sfnt.specs.Read.{Font}
 use Rattle.subsetter.specs.Bound.{IsWithin}
 use Rattle.subsetter_instance.specs.Fault.{HasInstanceFault}
 use Rattle.subsetter_cff_instance.specs.Fault.{HasCffInstanceFault}
 use Rattle.subsetter_variable.specs.DefaultLocation.{IsAtDefault, IsCff2Font}
-use Rattle.subsetter_variable.specs.Subset.{whole, IsStatic}
+use Rattle.subsetter_variable.specs.Subset.{whole, IsStatic, HasOpeningFaultAt}
 use Rattle.cid_embed.specs.Embed.{numbering, HasEmbedFaultWithin, IsEmbeddingAnswer}
 use Rattle.cid_embed.specs.declared.embedding.Embedded.{Embedded}
 
@@ -35,3 +35,19 @@ pub data HasEmbedFaultAt (bound : Option ℕ) (tokens depth : ℕ) (font : Font)
 -- nothing within the bound is answered for the asked glyphs of a font
 abbrev pub HasNoEmbeddingAt : Option ℕ → ℕ → ℕ → Font → List (Tag × ℤ) → List ℕ → Type 0
 HasNoEmbeddingAt bound tokens depth font settings glyphs = (e : Embedded) → IsWithin bound e.font.items → ¬ (IsEmbeddingAnswerAt tokens depth font settings glyphs e)
+
+-- ---- what a call promises
+
+-- of its result, for the requested glyphs of a font, where a run has so many tokens and goes so deep, and the font at most so many bytes
+pub record IsEmbedPromisedAt (bound : Option ℕ) (tokens depth : ℕ) (font : Font) (settings : List (Tag × ℤ)) (glyphs : List ℕ)
+    (result : Result Embedded Error) : Type 0 where
+  -- what is returned is the answer: an embedding of the static font, which has no fault
+  pub exact : IfOk result (λ e. IsEmbeddingAnswerAt tokens depth font settings glyphs e)
+  -- and its font has no more bytes than it may have
+  pub within : IfOk result (λ e. IsWithin bound e.font.items)
+  -- what is refused has a fault of that name, or the bound is set and every answer passes it
+  pub err : IfErr result (λ why. (why ≡ OutOfMemory) ⊎ ((order : List ℕ) × HasEmbedFaultAt bound tokens depth font settings glyphs order why))
+  -- and, unless memory ran out, there is no answer within these limits
+  pub no_answer : IfErr result (λ why. (why ≡ OutOfMemory) ⊎ HasNoEmbeddingAt bound tokens depth font settings glyphs)
+  -- a fault that is found before memory is taken isn't reported as want of memory
+  pub before_memory : (e : Error) → HasOpeningFaultAt font e → result ≢ Err OutOfMemory

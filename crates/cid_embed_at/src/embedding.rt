@@ -1,19 +1,18 @@
 //! Embedding a font at user coordinates.
 
-ghost use Rattle.std.specs.Prelude.{◌≡◌, ◌≢◌, ◌⊎◌, ℕ, List, None, IfOk, IfErr, Err};
+ghost use Rattle.std.specs.Prelude.{◌≡◌, ◌≢◌, ◌⊎◌, None, IfOk, IfErr, Err};
 ghost use Rattle.subsetter_base.specs.declared.error.Error.{Error as SpecError};
 ghost use Rattle.subsetter_base.specs.declared.error.Error.TheVariants.{OutOfMemory, OverflowError};
 ghost use Rattle.subsetter_base.specs.Indexes.{HasAllAboveZero};
 ghost use Rattle.subsetter_sfnt.specs.Extras.{all_extras};
 ghost use Rattle.subsetter_sfnt.specs.FontAt.{font_at};
-ghost use Rattle.subsetter.specs.Bound.{IsWithin};
 ghost use Rattle.subsetter.specs.Limits.{token_limit, depth_limit};
 ghost use Rattle.cid_embed.specs.Embed.{numbering};
 ghost use Rattle.subsetter_variable.specs.Afresh.{HasGlyphsDrawn};
 ghost use Rattle.subsetter_variable.specs.Blended.{HasGlyphsBlended};
 ghost use Rattle.subsetter_variable.specs.DefaultLocation.{IsAtDefault, IsCff2Font};
-ghost use Rattle.subsetter_variable.specs.Subset.{HasOpeningFaultAt, IsTheAnswerAt};
-ghost use Rattle.cid_embed_at.specs.Embed.{IsEmbeddingAnswerAt, HasEmbedFaultAt, HasNoEmbeddingAt};
+ghost use Rattle.subsetter_variable.specs.Subset.{HasOpeningFaultAt};
+ghost use Rattle.cid_embed_at.specs.Embed.{IsEmbedPromisedAt};
 
 use cid_embed::{Embedded, embed_with_options, mapper_for};
 use std::alloc::Global;
@@ -63,23 +62,15 @@ pub fn embed_with_variations(
     coordinates: &[(Tag, i32)],
     glyphs: &[u16],
 ) -> Result<Embedded, Error>
-    // What is answered is an embedding of the font as it is, at its default, or else of an instance of it, or of the font with outlines
-    // in `CFF ` that is made of outlines in CFF2, and then no fault stands, the size limits being judged for the answer's order of glyphs.
-    ensures ok { IfOk result (λ e. IsEmbeddingAnswerAt token_limit depth_limit (font_at «data».now index all_extras) coordinates.now glyphs.now e) }
+    // What is returned is an embedding of the font as it is, at its default, or else of an instance of it, or of the font with outlines in
+    // `CFF ` that is made of outlines in CFF2. What is refused has a fault of that name.
+    ensures promise { IsEmbedPromisedAt None token_limit depth_limit (font_at «data».now index all_extras) coordinates.now glyphs.now result }
     // Elsewhere than at its default the new font has glyph 0 and the asked glyphs and no other, each exactly as it is drawn at
     // these coordinates, read afresh.
     ensures drawn { IfOk result (λ e. ¬ (IsAtDefault (font_at «data».now index all_extras) coordinates.now) → HasGlyphsDrawn (font_at «data».now index all_extras) coordinates.now (numbering glyphs.now) e.font.items) }
     // Of outlines in CFF2 alone the new font has glyph 0 and the requested glyphs and no other, each with the outline that these have at the
     // coordinates, each coordinate and each edge of a stem rounded once, read afresh.
     ensures drawn_cff { IfOk result (λ e. IsCff2Font (font_at «data».now index all_extras) → HasGlyphsBlended (font_at «data».now index all_extras) coordinates.now (numbering glyphs.now) e.font.items) }
-    // Its font is the one answer of `subset_with_variations_and_options`.
-    ensures same { IfOk result (λ e. IsTheAnswerAt (font_at «data».now index all_extras) coordinates.now (numbering glyphs.now) e.font.items) }
-    // What is refused has a fault of that name.
-    ensures err { IfErr result (λ why. (why ≡ OutOfMemory) ⊎ ((order : List ℕ) × HasEmbedFaultAt None token_limit depth_limit (font_at «data».now index all_extras) coordinates.now glyphs.now order why)) }
-    // And, unless memory ran out, it has no answer: no call answers it within these limits.
-    ensures no_answer { IfErr result (λ why. (why ≡ OutOfMemory) ⊎ HasNoEmbeddingAt None token_limit depth_limit (font_at «data».now index all_extras) coordinates.now glyphs.now) }
-    // Where a fault stands that is found before memory is taken, the answer isn't out of memory.
-    ensures before_memory { (e : SpecError) → HasOpeningFaultAt (font_at «data».now index all_extras) e → result ≢ Err OutOfMemory }
 {
     let options = Options::keeping_all(Limits::default());
     embed_with_variations_and_options(alloc, data, index, coordinates, glyphs, &options)
@@ -100,25 +91,15 @@ pub fn embed_with_variations_and_options(
     glyphs: &[u16],
     options: &Options,
 ) -> Result<Embedded, Error>
-    // What is answered is an embedding of the font as it is, at its default, or else of an instance of it, or of the font with outlines
-    // in `CFF ` that is made of outlines in CFF2, and then no fault stands, the size limits being judged for the answer's order of glyphs.
-    ensures ok { IfOk result (λ e. IsEmbeddingAnswerAt options.now.limits.tokens options.now.limits.depth (font_at «data».now index options.now.extras) coordinates.now glyphs.now e) }
+    // What is returned is an embedding of the font as it is, at its default, or else of an instance of it, or of the font with outlines in
+    // `CFF ` that is made of outlines in CFF2. What is refused has a fault of that name.
+    ensures promise { IsEmbedPromisedAt options.now.limits.bytes options.now.limits.tokens options.now.limits.depth (font_at «data».now index options.now.extras) coordinates.now glyphs.now result }
     // Elsewhere than at its default the new font has glyph 0 and the asked glyphs and no other, each exactly as it is drawn at
     // these coordinates, read afresh.
     ensures drawn { IfOk result (λ e. ¬ (IsAtDefault (font_at «data».now index all_extras) coordinates.now) → HasGlyphsDrawn (font_at «data».now index all_extras) coordinates.now (numbering glyphs.now) e.font.items) }
     // Of outlines in CFF2 alone the new font has glyph 0 and the requested glyphs and no other, each with the outline that these have at the
     // coordinates, each coordinate and each edge of a stem rounded once, read afresh.
     ensures drawn_cff { IfOk result (λ e. IsCff2Font (font_at «data».now index all_extras) → HasGlyphsBlended (font_at «data».now index all_extras) coordinates.now (numbering glyphs.now) e.font.items) }
-    // Its font is the one answer of `subset_with_variations_and_options`.
-    ensures same { IfOk result (λ e. IsTheAnswerAt (font_at «data».now index options.now.extras) coordinates.now (numbering glyphs.now) e.font.items) }
-    // Its font has no more bytes than it may have.
-    ensures within { IfOk result (λ e. IsWithin options.now.limits.bytes e.font.items) }
-    // What is refused has a fault of that name, or the bound on bytes is set and every answer passes it.
-    ensures err { IfErr result (λ why. (why ≡ OutOfMemory) ⊎ ((order : List ℕ) × HasEmbedFaultAt options.now.limits.bytes options.now.limits.tokens options.now.limits.depth (font_at «data».now index options.now.extras) coordinates.now glyphs.now order why)) }
-    // And, unless memory ran out, it has no answer: no call answers it within these limits.
-    ensures no_answer { IfErr result (λ why. (why ≡ OutOfMemory) ⊎ HasNoEmbeddingAt options.now.limits.bytes options.now.limits.tokens options.now.limits.depth (font_at «data».now index options.now.extras) coordinates.now glyphs.now) }
-    // Where a fault stands that is found before memory is taken, the answer isn't out of memory.
-    ensures before_memory { (e : SpecError) → HasOpeningFaultAt (font_at «data».now index options.now.extras) e → result ≢ Err OutOfMemory }
 {
     let mapper = mapper_at(alloc, data, index, glyphs, options.extras)?;
     let made = static_font(alloc, data, index, coordinates, &mapper, &options.limits)?;

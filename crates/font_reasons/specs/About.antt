@@ -2,12 +2,13 @@
 use Rattle.std.specs.Prelude.{ℕ, Option, Some, None, codes}
 use Rattle.subsetter_base.specs.declared.tag.Tag.{Tag}
 use Rattle.font_reasons.specs.declared.reason.Reason.{Reason}
-use Rattle.font_reasons.specs.declared.reason.Reason.TheVariants.{Cut, NoGlyph, NoTable, NoEntries, Descends, Outside, CutHeader, CutComponent, ByComponent, NoMetrics, FewMetrics, NoMetric, NoUnits, Short, LostName, NoUnicode, OnlyCff2, Forbidden, OtherVersion, AxisSize, AxisCount, WrongGvar, OtherCff, WrongCff, NoCharstring, WrongCharstring, Composed}
+use Rattle.font_reasons.specs.declared.reason.Reason.TheVariants.{Cut, BitmapsAlone, NoGlyph, NoTable, NoEntries, Descends, Outside, CutHeader, CutComponent, ByComponent, NoMetrics, FewMetrics, NoMetric, NoUnits, Short, LostName, NoUnicode, OnlyCff2, Forbidden, OtherVersion, AxisSize, AxisCount, WrongGvar, OtherCff, WrongCff, NoCharstring, WrongCharstring, Composed}
 
 -- the table whose bytes show it, or that isn't there
 abbrev pub reason_table : Reason → Option Tag
 reason_table (Cut tag end size) = Some tag
 reason_table (NoTable tag) = Some tag
+reason_table (BitmapsAlone tag) = Some tag
 reason_table (NoGlyph glyph count) = Some (record { 0 = codes "maxp" })
 reason_table (NoEntries glyph) = Some (record { 0 = codes "loca" })
 reason_table (Descends glyph) = Some (record { 0 = codes "loca" })

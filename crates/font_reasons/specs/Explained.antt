@@ -43,13 +43,17 @@ no_cmap font = no_table font (record { 0 = codes "cmap" })
 abbrev pub no_mapping : Font → Option Reason
 no_mapping font = or_else (no_cmap font) (no_unicode font)
 
+-- the program of outlines in `glyf` has `maxp` (ISO 32000-1, 9.9)
+abbrev pub no_maxp : Font → Option Reason
+no_maxp font = option_and_then (λ glyf. no_table font (record { 0 = codes "maxp" })) (stored font (codes "glyf"))
+
 -- what a call needs that others don't
 unfoldable pub lacks : Call → Font → Option Reason
 lacks Subset font = None
 lacks SubsetAt font = None
 lacks Embed font = no_widths font
 lacks EmbedAt font = no_widths font
-lacks PdfFont font = no_widths font
+lacks PdfFont font = or_else (no_widths font) (no_maxp font)
 lacks GlyphsOf font = no_mapping font
 lacks Advances font = no_widths font
 

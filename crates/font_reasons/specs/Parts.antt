@@ -8,9 +8,10 @@ use Rattle.subsetter_sfnt.specs.Fields.Hmtx.{metric_in}
 use Rattle.subsetter_sfnt.specs.Fields.Maxp.{num_glyphs}
 use Rattle.subsetter_sfnt.specs.declared.fields.hmtx.LongHorMetric.{LongHorMetric}
 use Rattle.subsetter_sfnt.specs.Read.{Font, stored}
+use Rattle.glyph_kinds.specs.Alone.{bitmaps_alone, has_outlines}
 use Rattle.font_reasons.specs.File.{or_else, missing_table}
 use Rattle.font_reasons.specs.declared.reason.Reason.{Reason}
-use Rattle.font_reasons.specs.declared.reason.Reason.TheVariants.{NoGlyph, NoOutlines, NoMetrics, FewMetrics, NoMetric}
+use Rattle.font_reasons.specs.declared.reason.Reason.TheVariants.{NoGlyph, NoOutlines, BitmapsAlone, NoMetrics, FewMetrics, NoMetric}
 
 -- numGlyphs of `maxp` (OpenType, "maxp")
 abbrev pub face_glyphs : Font → Option ℕ
@@ -71,12 +72,10 @@ pair_count font = option_and_then number_of_h_metrics (stored font (codes "hhea"
 abbrev pub no_metric : Font → List ℕ → Option Reason
 no_metric font glyphs = option_and_then (λ hmtx. option_and_then (λ count. first_without_metric hmtx count glyphs) (pair_count font)) (stored font (codes "hmtx"))
 
--- none of the tables that have outlines
-abbrev pub no_outlines_by : Option (List ℕ) → Option (List ℕ) → Option (List ℕ) → Option Reason
-no_outlines_by None None None = Some NoOutlines
-no_outlines_by (Some glyf) cff cff2 = None
-no_outlines_by None (Some cff) cff2 = None
-no_outlines_by None None (Some cff2) = None
+-- none of the tables that have outlines, but bitmaps or not
+abbrev pub bare_reason : Option Tag → Reason
+bare_reason None = NoOutlines
+bare_reason (Some tag) = BitmapsAlone tag
 
 abbrev pub no_outlines : Font → Option Reason
-no_outlines font = no_outlines_by (stored font (codes "glyf")) (stored font (codes "CFF ")) (stored font (codes "CFF2"))
+no_outlines font = if has_outlines (stored font) then None else Some (bare_reason (bitmaps_alone font))

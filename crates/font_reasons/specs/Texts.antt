@@ -1,14 +1,18 @@
 -- The texts of reasons.
-use Rattle.std.specs.Prelude.{ℕ, ◌-◌, ◌/◌, ◌%◌, ◌==◌, false, if◌then◌else◌, List, ◌++◌, codes, decimal}
+use Rattle.std.specs.Prelude.{ℕ, ◌-◌, ◌/◌, ◌%◌, ◌==◌, false, if◌then◌else◌, List, ◌++◌, get_or, take, codes, decimal}
 use Rattle.std.specs.Fmt.{radix_digits}
 use Rattle.subsetter_base.specs.Texts.{tag_text}
 use Rattle.subsetter_base.specs.declared.tag.Tag.{Tag}
 use Rattle.font_reasons.specs.declared.reason.Reason.{Reason}
-use Rattle.font_reasons.specs.declared.reason.Reason.TheVariants.{Woff, Woff2, NotFont, Empty, NoFace, NoHeader, CutDirectory, Cut, NoOutlines, NoGlyph, NoTable, NoEntries, Descends, Outside, CutHeader, CutComponent, ByComponent, NoMetrics, FewMetrics, NoMetric, NoUnits, Short, LostName, NoUnicode, OnlyCff2, Forbidden, OtherVersion, AxisSize, AxisCount, WrongGvar, OtherCff, WrongCff, NoCharstring, WrongCharstring, Composed}
+use Rattle.font_reasons.specs.declared.reason.Reason.TheVariants.{Woff, Woff2, Type1, Eot, NotFont, Empty, NoFace, NoHeader, CutDirectory, Cut, NoOutlines, BitmapsAlone, NoGlyph, NoTable, NoEntries, Descends, Outside, CutHeader, CutComponent, ByComponent, NoMetrics, FewMetrics, NoMetric, NoUnits, Short, LostName, NoUnicode, OnlyCff2, Forbidden, OtherVersion, AxisSize, AxisCount, WrongGvar, OtherCff, WrongCff, NoCharstring, WrongCharstring, Composed}
 
 -- a number between two texts
 abbrev pub between : List ℕ → ℕ → List ℕ → List ℕ
 between front n back = front ++ (decimal n ++ back)
+
+-- the name of a table, without a blank at its end
+abbrev pub table_name : Tag → List ℕ
+table_name tag = tag_text (if get_or tag.0 3 0 == 32 then take 3 tag.0 else tag.0)
 
 -- the faces of a collection, and the glyphs of a face, are numbered from 0 on
 abbrev pub no_face_text : ℕ → ℕ → List ℕ
@@ -18,16 +22,16 @@ abbrev pub no_glyph_text : ℕ → ℕ → List ℕ
 no_glyph_text glyph count = if count == 0 then codes "glyph " ++ (decimal glyph ++ codes ": the font has no glyph") else codes "glyph " ++ (decimal glyph ++ (codes ": the font's glyphs are 0 to " ++ decimal (count - 1)))
 
 abbrev pub cut_text : Tag → ℕ → ℕ → List ℕ
-cut_text tag end size = codes "the file is cut: table " ++ (tag_text tag.0 ++ (codes " ends at byte " ++ (decimal end ++ (codes ", the file at " ++ decimal size))))
+cut_text tag end size = codes "the file is cut: table " ++ (table_name tag ++ (codes " ends at byte " ++ (decimal end ++ (codes ", the file at " ++ decimal size))))
 
 abbrev pub component_text : ℕ → ℕ → List ℕ
 component_text glyph component = codes "glyph " ++ (decimal glyph ++ (codes ": its component is glyph " ++ (decimal component ++ codes ", whose outline isn't in the font")))
 
 abbrev pub short_text : Tag → ℕ → ℕ → List ℕ
-short_text tag size needed = tag_text tag.0 ++ (codes ": " ++ (decimal size ++ (codes " bytes, needs " ++ decimal needed)))
+short_text tag size needed = table_name tag ++ (codes ": " ++ (decimal size ++ (codes " bytes, needs " ++ decimal needed)))
 
 abbrev pub axes_text : Tag → ℕ → ℕ → List ℕ
-axes_text tag count axes = tag_text tag.0 ++ (codes ": axisCount is " ++ (decimal count ++ (codes ", that of fvar " ++ decimal axes)))
+axes_text tag count axes = table_name tag ++ (codes ": axisCount is " ++ (decimal count ++ (codes ", that of fvar " ++ decimal axes)))
 
 -- four hexadecimal digits
 abbrev pub hex_text : ℕ → List ℕ
@@ -43,6 +47,8 @@ forbidden_text fs_type bit = codes "OS/2: fsType 0x" ++ (hex_text fs_type ++ for
 abbrev pub reason_text : Reason → List ℕ
 reason_text Woff = codes "a WOFF file: unpack it first"
 reason_text Woff2 = codes "a WOFF2 file: unpack it first"
+reason_text Type1 = codes "a Type 1 font: convert it to OpenType first"
+reason_text Eot = codes "an EOT file: convert it to OpenType first"
 reason_text NotFont = codes "not a font: its first bytes are none of TrueType, OpenType, a collection"
 reason_text Empty = codes "the file is empty"
 reason_text (NoFace index count) = no_face_text index count
@@ -50,8 +56,9 @@ reason_text (NoHeader index) = between (codes "face ") index (codes ": no font b
 reason_text CutDirectory = codes "the file is cut in its table directory"
 reason_text (Cut tag end size) = cut_text tag end size
 reason_text NoOutlines = codes "the face has no table glyf, CFF or CFF2"
+reason_text (BitmapsAlone tag) = table_name tag ++ codes ": the face has bitmaps and no outlines"
 reason_text (NoGlyph glyph count) = no_glyph_text glyph count
-reason_text (NoTable tag) = codes "the face has no table " ++ tag_text tag.0
+reason_text (NoTable tag) = codes "the face has no table " ++ table_name tag
 reason_text (NoEntries glyph) = between (codes "glyph ") glyph (codes ": loca has no entries for it")
 reason_text (Descends glyph) = between (codes "glyph ") glyph (codes ": its loca entries descend")
 reason_text (Outside glyph) = between (codes "glyph ") glyph (codes ": its outline isn't inside glyf")
@@ -67,7 +74,7 @@ reason_text (LostName id) = between (codes "name: the string of name ") id (code
 reason_text NoUnicode = codes "cmap: no table for Unicode, symbols or Mac Roman in format 0, 4, 6, 12 or 13"
 reason_text OnlyCff2 = codes "CFF2: its outlines are taken at coordinates alone"
 reason_text (Forbidden fs_type bit) = forbidden_text fs_type bit
-reason_text (OtherVersion tag) = tag_text tag.0 ++ codes ": its major version isn't 1"
+reason_text (OtherVersion tag) = table_name tag ++ codes ": its major version isn't 1"
 reason_text (AxisSize size) = between (codes "fvar: axisSize is ") size (codes ", needs 20")
 reason_text (AxisCount tag count axes) = axes_text tag count axes
 reason_text WrongGvar = codes "gvar: the table can't be read"

@@ -3,7 +3,7 @@
 ghost use Rattle.std.specs.Prelude.{◌≡◌, codes, IfOk, IfErr};
 ghost use Rattle.subsetter_base.specs.declared.error.Error.TheVariants.{OutOfMemory};
 ghost use Rattle.subsetter_sfnt.specs.Extras.{all_extras};
-ghost use Rattle.font_reasons.specs.Explained.{explained, is_of_charstrings, lacks, lost_for, malformed, no_cmap, malformed_last, no_mapping, no_unicode, no_units, no_widths, not_kept_by, not_read, of_charstrings, only_cff2, seen_last, shown, shown_last, wrong_advances, wrong_for, wrong_variations_for};
+ghost use Rattle.font_reasons.specs.Explained.{explained, is_of_charstrings, lacks, lost_for, malformed, no_cmap, malformed_last, no_mapping, no_maxp, no_unicode, no_units, no_widths, not_kept_by, not_read, of_charstrings, only_cff2, seen_last, shown, shown_last, wrong_advances, wrong_for, wrong_variations_for};
 
 use crate::charstrings::cff_reason;
 use crate::names::lost_name;
@@ -89,6 +89,16 @@ fn no_mapping(font: &[u8], index: u32) -> Option<Reason>
     no_cmap(font, index).or(no_unicode(font, index))
 }
 
+/// Whether a face with outlines in `glyf` has no `maxp`.
+fn no_maxp(font: &[u8], index: u32) -> Option<Reason>
+    ensures { result ≡ no_maxp (record { bytes = font.now; index = index; extras = all_extras }) }
+{
+    match table(font, index, Tag::GLYF) {
+        Some(_) => no_table(font, index, Tag::MAXP),
+        None => None,
+    }
+}
+
 /// Whether a face lacks what this call needs and others don't.
 #[tactic(auto, unfolding(crate::specs::Explained::lacks))]
 fn lacks(call: Call, font: &[u8], index: u32) -> Option<Reason>
@@ -97,7 +107,8 @@ fn lacks(call: Call, font: &[u8], index: u32) -> Option<Reason>
     match call {
         Call::Subset | Call::SubsetAt => None,
         Call::GlyphsOf => no_mapping(font, index),
-        Call::Embed | Call::EmbedAt | Call::PdfFont | Call::Advances => no_widths(font, index),
+        Call::PdfFont => no_widths(font, index).or(no_maxp(font, index)),
+        Call::Embed | Call::EmbedAt | Call::Advances => no_widths(font, index),
     }
 }
 

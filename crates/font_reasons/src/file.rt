@@ -4,11 +4,11 @@ ghost use Rattle.std.specs.Prelude.{◌≡◌, ◌+◌, length};
 ghost use Rattle.subsetter_sfnt.specs.Extras.{all_extras};
 ghost use Rattle.subsetter_sfnt.specs.Read.{records};
 ghost use Rattle.font_reasons.specs.Directory.{bytes_or_none, records_in};
-ghost use Rattle.font_reasons.specs.File.{packed, not_font, face_count, no_face, no_directory, no_font, end_of, is_cut, cut_reason, first_cut, cut_table, missing_table};
+ghost use Rattle.font_reasons.specs.File.{packed, by_magic, other_format, not_font, face_count, no_face, no_directory, no_font, end_of, is_cut, cut_reason, first_cut, cut_table, missing_table};
 
 use crate::reason::Reason;
 use subsetter_base::Tag;
-use subsetter_base::read::Reader;
+use subsetter_base::read::{Reader, number_at};
 use subsetter_sfnt::directory::{find_record, header_offset, kind_at, records};
 use subsetter_sfnt::face::{TTC_TAG, TableRecord};
 
@@ -16,6 +16,14 @@ use subsetter_sfnt::face::{TTC_TAG, TableRecord};
 const WOFF: u32 = 0x774F4646;
 /// What a WOFF2 begins with: `wOF2`.
 const WOFF2: u32 = 0x774F4632;
+/// What a Type 1 font begins with: `%!`, or the mark of a segment of ASCII.
+const TYPE_1: u16 = 0x2521;
+
+const TYPE_1_SEGMENT: u16 = 0x8001;
+/// MagicNumber of an EOT, low byte first, and its offset in bytes.
+const EOT: u16 = 0x4C50;
+
+const EOT_MAGIC: usize = 34;
 /// The offset of numFonts in the header of a collection, in bytes.
 const NUM_FONTS: usize = 8;
 
@@ -61,6 +69,27 @@ fn no_face(font: &[u8], index: u32) -> Option<Reason>
     Some(Reason::NoFace(index, count))
 }
 
+/// What a file is that begins as no font does, by the number where EOT has its own.
+fn by_magic(magic: Option<u16>) -> Reason
+    ensures { result ≡ by_magic magic }
+{
+    match magic {
+        Some(EOT) => Reason::Eot,
+        _ => Reason::NotFont,
+    }
+}
+
+/// The same by its first number, too.
+fn other_format(front: Option<u16>, magic: Option<u16>) -> Reason
+    ensures { result ≡ other_format front magic }
+{
+    match front {
+        Some(TYPE_1) => Reason::Type1,
+        Some(TYPE_1_SEGMENT) => Reason::Type1,
+        _ => by_magic(magic),
+    }
+}
+
 /// Whether a file begins as no font does.
 fn not_font(font: &[u8]) -> Option<Reason>
     ensures { result ≡ not_font font.now }
@@ -70,7 +99,7 @@ fn not_font(font: &[u8]) -> Option<Reason>
     }
     match kind_at(font, 0) {
         Some(_) => None,
-        None => Some(Reason::NotFont),
+        None => Some(other_format(number_at(font, 0), number_at(font, EOT_MAGIC))),
     }
 }
 

@@ -2,10 +2,11 @@
 
 ghost use Rattle.std.specs.Prelude.{◌≡◌};
 ghost use Rattle.subsetter_sfnt.specs.Extras.{all_extras};
-ghost use Rattle.font_reasons.specs.Parts.{face_glyphs, first_past, no_glyph, no_table, no_needed_table, wrong_metrics_of, wrong_metrics, no_metric_of, first_without_metric, pair_count, no_metric, no_outlines};
+ghost use Rattle.font_reasons.specs.Parts.{face_glyphs, first_past, no_glyph, no_table, no_needed_table, wrong_metrics_of, wrong_metrics, no_metric_of, first_without_metric, pair_count, no_metric, bare_reason, no_outlines};
 
 use crate::file::missing_table;
 use crate::reason::Reason;
+use glyph_kinds::{bitmaps_alone, has_outlines};
 use subsetter_base::Tag;
 use subsetter_sfnt::directory::table;
 use subsetter_sfnt::fields::hhea::number_of_h_metrics;
@@ -122,17 +123,22 @@ pub fn no_metric(font: &[u8], index: u32, glyphs: &[u16]) -> Option<Reason>
     first_without_metric(hmtx, count, glyphs)
 }
 
+/// That a face has none of the tables that have outlines, but bitmaps in this table, if one is given.
+fn bare_reason(bitmaps: Option<Tag>) -> Reason
+    ensures { result ≡ bare_reason bitmaps }
+{
+    match bitmaps {
+        Some(tag) => Reason::BitmapsAlone(tag),
+        None => Reason::NoOutlines,
+    }
+}
+
 /// Whether a face has none of the tables that have outlines.
 pub fn no_outlines(font: &[u8], index: u32) -> Option<Reason>
     ensures { result ≡ no_outlines (record { bytes = font.now; index = index; extras = all_extras }) }
 {
-    let outlines = (
-        table(font, index, Tag::GLYF),
-        table(font, index, Tag::CFF),
-        table(font, index, Tag::CFF2),
-    );
-    match outlines {
-        (None, None, None) => Some(Reason::NoOutlines),
-        _ => None,
+    if has_outlines(font, index) {
+        return None;
     }
+    Some(bare_reason(bitmaps_alone(font, index)))
 }

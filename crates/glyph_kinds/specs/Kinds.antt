@@ -1,5 +1,5 @@
 -- The pictures that a font has of a glyph.
-use Rattle.std.specs.Prelude.{ℕ, ◌+◌, ◌*◌, not, Bool, if◌then◌else◌, List, [], ◌∷◌, map, Option, Some, None, Result, Ok, codes}
+use Rattle.std.specs.Prelude.{ℕ, ◌+◌, ◌*◌, nat_lt, not, Bool, if◌then◌else◌, List, [], ◌∷◌, map, filter, Option, Some, None, Result, Ok, codes}
 use Rattle.std.specs.Option.{option_and_then, unwrap_or}
 use Rattle.subsetter_base.specs.Bytes.{◌>>=◌}
 use Rattle.subsetter_base.specs.declared.error.Error.{Error}
@@ -63,6 +63,19 @@ bits (b ∷ bs) = (if b then 1 else 0) + 2 * bits bs
 
 unfoldable pub kind_bits : Tables → ℕ → ℕ
 kind_bits t g = bits (kinds t g)
+
+-- a glyph whose outline is empty, and of which the font has another picture: a PDF shows a blank
+abbrev pub is_unseen : ℕ → Bool
+is_unseen kinds = nat_lt 0x10000 kinds
+
+abbrev pub unseen_by : Tables → List ℕ → List ℕ
+unseen_by t glyphs = filter (λ g. is_unseen (kind_bits t g)) glyphs
+
+-- those among glyphs
+unfoldable pub unseen_glyphs : Font → List ℕ → Result (List ℕ) Error
+unseen_glyphs font glyphs = do
+  records ← opened font
+  Ok (unseen_by (tables_by (table_in font.bytes records)) glyphs)
 
 -- the kinds of pictures of each glyph
 unfoldable pub kinds_of : Font → List ℕ → Result (List ℕ) Error

@@ -1,5 +1,7 @@
+pub mod Alone
 pub mod Bitmaps
 pub mod Colour
+pub mod Counts
 pub mod Graphics
 pub mod Kinds
 pub mod Outlines

@@ -8,14 +8,14 @@ ghost use Rattle.subsetter_sfnt.specs.Extras.{all_extras};
 ghost use Rattle.subsetter_sfnt.specs.Fields.Maxp.{num_glyphs};
 ghost use Rattle.subsetter_sfnt.specs.FontAt.{font_at};
 ghost use Rattle.subsetter_sfnt.specs.Read.{table_in};
-ghost use Rattle.glyph_kinds.specs.Kinds.{beside, bits, kind_bits, kinds, kinds_of, tables_by};
+ghost use Rattle.glyph_kinds.specs.Kinds.{beside, bits, is_unseen, kind_bits, kinds, kinds_of, tables_by, unseen_by, unseen_glyphs};
 ghost use Rattle.glyph_kinds.specs.View.{tables_view};
 
 use crate::bitmaps::has_image;
 use crate::colour::{has_document, has_layers, has_paint};
 use crate::graphics::{DUPE, JPG, MASK, PDF, PNG, TIFF, has_graphic};
 use crate::outlines::{FaceOutlines, has_outline, outlines_in};
-use std::alloc::Global;
+use std::alloc::{AllocError, Global};
 use subsetter_base::{Error, Tag};
 use subsetter_sfnt::extras::Extras;
 use subsetter_sfnt::face::Face;
@@ -80,6 +80,8 @@ fn tables_of<'a>(alloc: Global, face: &Face<'a>) -> Result<FaceTables<'a>, Error
 
 /// How many kinds there are.
 const KINDS: usize = 17;
+/// The bit of an empty outline.
+const EMPTY: u32 = 0x10000;
 
 /// Whether a glyph has a picture of each kind.
 fn kinds(tables: &FaceTables<'_>, glyph: u16) -> [bool; KINDS]
@@ -139,6 +141,44 @@ fn each_kinds(alloc: Global, tables: &FaceTables<'_>, glyphs: &[u16]) -> Result<
     for glyph in glyphs {
         found.push(kind_bits(tables, *glyph))?;
     }
+    Ok(found)
+}
+
+/// Whether these kinds of a glyph are an empty outline and another picture: a PDF shows a blank of it.
+pub fn is_unseen(kinds: u32) -> bool
+    ensures { result ≡ is_unseen kinds }
+{
+    kinds > EMPTY
+}
+
+/// The unseen ones among glyphs.
+fn unseen_by(alloc: Global, tables: &FaceTables<'_>, glyphs: &[u16]) -> Result<Vec<u16>, AllocError>
+    ensures { IfOk result (λ v. v.items ≡ unseen_by (tables_view tables.now) glyphs.now) }
+{
+    glyphs
+        .iter()
+        .copied()
+        .filter(|glyph| is_unseen(kind_bits(tables, *glyph)))
+        .collect(alloc)
+}
+
+/// Those of these glyphs that are unseen: the outline is empty, and the font has another picture.
+///
+/// # Errors
+///
+/// Those of `kinds_of`.
+#[tactic(auto, unfolding(crate::specs::Kinds::unseen_glyphs))]
+pub fn unseen_glyphs(
+    alloc: Global,
+    data: &[u8],
+    index: u32,
+    glyphs: &[u16],
+) -> Result<Vec<u16>, Error>
+    ensures { Gives (λ v. v.items) result (unseen_glyphs (font_at «data».now index all_extras) glyphs.now) }
+{
+    let face = parse(data, index, Extras::ALL)?;
+    let tables = tables_of(alloc, &face)?;
+    let found = unseen_by(alloc, &tables, glyphs)?;
     Ok(found)
 }
 

@@ -7,11 +7,15 @@
 //! ```
 #![tactic(auto)]
 
+mod alone;
 mod bitmaps;
 mod call;
 mod colour;
+mod counts;
 mod graphics;
 mod outlines;
 mod strikes;
 
-pub use call::kinds_of;
+pub use alone::{bitmaps_alone, has_outlines};
+pub use call::{is_unseen, kinds_of, unseen_glyphs};
+pub use counts::kind_counts;

@@ -1,6 +1,7 @@
 mod AllWidths
 mod Answered
 mod Fresh
+pub mod Bitmaps
 mod BoxedPrograms
 mod CffWidths
 mod KeptBoxes
@@ -9,6 +10,6 @@ mod LawProofs
 mod NewLaws
 mod OneFont
 mod Opening
-mod Refused
+pub mod Refused
 mod ShortNames
 mod Tables

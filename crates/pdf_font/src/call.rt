@@ -17,6 +17,7 @@ ghost use Rattle.pdf_font.specs.declared.error.FontError.TheVariants.{Subset};
 use crate::error::FontError;
 use crate::font::{PdfFont, filled};
 use cid_embed_at::embed_with_variations_and_options;
+use glyph_kinds::bitmaps_alone;
 use pdf_codes::{Shown, glyphs_of, has_long_text};
 use pdf_source::{FontOptions, new_font};
 use pdf_values::{Permission, is_permitted, permission_of};
@@ -95,6 +96,8 @@ fn made(
 ///
 /// The first of these that comes:
 ///
+/// - `BitmapsAlone`: the font has bitmaps (`CBDT` with `CBLC`, `sbix`, or `EBDT` with `EBLC`) and no outlines (`glyf`, `CFF `,
+///   `CFF2`).
 /// - `Subset`: the font can't be opened.
 /// - `NotPermitted`: `fsType` forbids it, and the caller holds no rights.
 /// - `TextTooLong`: a text has more than 256 UTF-16 units.
@@ -116,9 +119,12 @@ pub fn pdf_font(
     ensures no_answer { IfErr result (λ e. (e ≡ Subset OutOfMemory) ⊎ HasNoPdfFont (font_of «data».now index options.now) coordinates.now options.now (uses_of shown.now)) }
     // Where a fault is found before memory is taken, the answer isn't out of memory.
     ensures before_memory { (e : SpecError) → HasOpeningFaultAt (font_of «data».now index options.now) e → result ≢ Err (Subset OutOfMemory) }
-    // Such faults come first, in this order: opening, permission, texts.
+    // Such faults come first, in this order: bitmaps alone, opening, permission, texts.
     ensures first { IsFoundFirst (font_of «data».now index options.now) options.now (uses_of shown.now) result }
 {
+    if bitmaps_alone(data, index).is_some() {
+        return Err(FontError::BitmapsAlone);
+    }
     let face = match opened_face(data, index, options.extras()) {
         Ok(face) => face,
         Err(error) => return Err(FontError::Subset(error)),

@@ -12,4 +12,6 @@ pub enum FontError {
     NotPermitted(Permission),
     /// A text has more than 256 UTF-16 units.
     TextTooLong,
+    /// The font has bitmaps and no outlines.
+    BitmapsAlone,
 }

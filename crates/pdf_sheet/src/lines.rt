@@ -13,8 +13,9 @@ use pdf_text::write_count;
 use std::alloc::Global;
 use subsetter_base::Error;
 
-/// A line of a sheet.
+/// A line of a sheet. C has it as it is.
 #[derive(Clone, Copy)]
+#[repr(C)]
 pub struct SheetLine<'a> {
     /// What shows it in a text object, where the font has 36 points.
     pub operators: &'a [u8],

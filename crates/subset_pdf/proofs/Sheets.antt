@@ -3,16 +3,18 @@ use Rattle.std.proofs.Common.{◌≡◌, ◌⊎◌, inl, inr, ℕ, ℤ, List, tr
 use Rattle.std.specs.Prelude.{IfOk, IfErr}
 use Rattle.subsetter_base.specs.declared.tag.Tag.{Tag}
 use Rattle.subsetter_base.specs.declared.error.Error.{Error}
-use Rattle.subsetter_base.specs.declared.error.Error.TheVariants.{OutOfMemory, OverflowError}
+use Rattle.subsetter_base.specs.declared.error.Error.TheVariants.{OutOfMemory, OverflowError, UnknownKind}
 use Rattle.subsetter_sfnt.specs.Read.{Font}
 use Rattle.pdf_codes.specs.Codes.{Used}
 use Rattle.pdf_codes.specs.Shown.{texts_of, uses_of}
 use Rattle.pdf_codes.specs.declared.shown.Shown.{Shown}
 use Rattle.pdf_values.specs.declared.permission.Permission.{Permission}
 use Rattle.pdf_source.specs.declared.choice.FontOptions.{FontOptions}
-use Rattle.pdf_font.specs.PdfFont.{HasFontFault, IsPdfFont, font_of, in_embedding, no_maxp, overfull, not_permitted, long_text}
+use Rattle.pdf_font.specs.PdfFont.{HasFontFault, IsPdfFont, font_of, in_embedding, no_maxp, overfull, not_permitted, long_text, of_bitmaps}
+use Rattle.pdf_font.proofs.Bitmaps.{alone_unopened}
+use Rattle.pdf_font.proofs.Refused.{unopened}
 use Rattle.pdf_font.specs.declared.error.FontError.{FontError}
-use Rattle.pdf_font.specs.declared.error.FontError.TheVariants.{Subset, NotPermitted as Forbidden, TextTooLong as TooLong}
+use Rattle.pdf_font.specs.declared.error.FontError.TheVariants.{Subset, NotPermitted as Forbidden, TextTooLong as TooLong, BitmapsAlone}
 use Rattle.pdf_font.specs.declared.font.PdfFont.{PdfFont}
 use Rattle.pdf_objects.specs.Glyphs.{IsSheetOf, IsSheetOfFont, IsTooLargeFor}
 use Rattle.pdf_objects.specs.View.{IsViewOf}
@@ -54,6 +56,16 @@ module _ (bytes : List ℕ) (request : PdfRequest) (shown : List Shown) where
 
   pub font_too_long : (options : FontOptions) (e : FontError) → e ≡ TooLong → options ≡ options_of request → FaultBy options e → (TextTooLong ≡ RefusedFont OutOfMemory) ⊎ HasFaultFor bytes request shown TextTooLong
   font_too_long options e is are h = long_by (subst (λ (o : FontOptions). FaultBy o TooLong) are (subst (λ (f : FontError). FaultBy options f) is h))
+
+  -- a font of bitmaps alone is of no known kind
+  alone_by : FaultBy (options_of request) BitmapsAlone → (RefusedFont UnknownKind ≡ RefusedFont OutOfMemory) ⊎ HasFaultFor bytes request shown (RefusedFont UnknownKind)
+  alone_by (inl memory) = absurd cc
+  alone_by (inr (order, of_bitmaps is)) =
+      let font : Font = font_of bytes request.index (options_of request) in
+      inr (unopened font request.at.now (options_of request) (uses_of shown) UnknownKind (alone_unopened font is))
+
+  pub font_alone : (options : FontOptions) (e : FontError) → e ≡ BitmapsAlone → options ≡ options_of request → FaultBy options e → (RefusedFont UnknownKind ≡ RefusedFont OutOfMemory) ⊎ HasFaultFor bytes request shown (RefusedFont UnknownKind)
+  font_alone options e is are h = alone_by (subst (λ (o : FontOptions). FaultBy o BitmapsAlone) are (subst (λ (f : FontError). FaultBy options f) is h))
 
   -- ---- its sheet
 

@@ -1,9 +1,10 @@
 -- A subset of a font whose hinting isn't asked for has no instructions, read afresh.
-use Rattle.std.proofs.Common.{◌≡◌, ℕ, ◌+◌, ◌*◌, ◌^◌, ◌<◌, Bool, true, false, List, length, get_or, Option, Some, None, Ok, refl, sym, ap, subst, ◌∙◌}
-use Rattle.std.specs.Prelude.{codes}
+use Rattle.std.proofs.Common.{◌≡◌, ℕ, ◌+◌, ◌*◌, ◌^◌, ◌<◌, Bool, true, false, List, length, get_or, Option, Some, None, Result, Ok, Err, refl, sym, ap, subst, ◌∙◌}
+use Rattle.std.specs.Prelude.{codes, IfOk}
 use Rattle.std.specs.Bool.{OnFalse}
 use Rattle.std.proofs.lemmas.Bool.{OnFalse_from}
 use Rattle.subsetter_base.specs.Bytes.{IsBytes}
+use Rattle.subsetter_base.specs.declared.error.Error.{Error}
 use Rattle.subsetter_base.proofs.Options.{just_is, some_not_none, map_some}
 use Rattle.subsetter_base.proofs.Results.{done_is, bind_ok}
 use Rattle.subsetter_sfnt.specs.declared.flavor.FontFlavor.{FontFlavor}
@@ -21,6 +22,7 @@ use Rattle.subsetter.specs.Truetype.Plain.{Made, laid}
 use Rattle.subsetter.specs.Cff.Plain.{Made as CffMade, made_of, laid as cff_laid, cff_tables}
 use Rattle.subsetter.specs.Laid.{AreMade, of_outlines, of_charstrings}
 use Rattle.subsetter.specs.Subset.{IsSubset}
+use Rattle.subsetter.specs.Promise.{IsPromised}
 use Rattle.subsetter.proofs.CffLaws.Order.{no_outline}
 use Rattle.subsetter.proofs.CffLaws.Steps.{MadeSteps as CffSteps, made_steps as cff_steps}
 use Rattle.subsetter.proofs.CffLaws.Subset.{back as cff_back}
@@ -130,3 +132,7 @@ has_no_instructions tokens depth font glyphs out bytes off s = subst (λ (l : Li
 -- where hinting isn't asked for
 pub as_asked : (tokens depth : ℕ) (font : Font) (glyphs out : List ℕ) → IsBytes font.bytes → IsSubset tokens depth font glyphs out → OnFalse font.extras.hinting (HasNoInstructions (as_font out))
 as_asked tokens depth font glyphs out bytes s = OnFalse_from font.extras.hinting (HasNoInstructions (as_font out)) (λ off. has_no_instructions tokens depth font glyphs out bytes off s)
+
+pub bare_if_promised : {X : Type 0} (file : X → List ℕ) (bound : Option ℕ) (tokens depth : ℕ) (font : Font) (glyphs : List ℕ) → IsBytes font.bytes → (r : Result X Error) → IsPromised file bound tokens depth font glyphs r → IfOk r (λ x. OnFalse font.extras.hinting (HasNoInstructions (as_font (file x))))
+bare_if_promised file bound tokens depth font glyphs bytes (Ok x) p = as_asked tokens depth font glyphs (file x) bytes p.exact.subset
+bare_if_promised file bound tokens depth font glyphs bytes (Err e) p = tt

@@ -9,3 +9,4 @@ pub mod Fault
 pub mod Subset
 pub mod Answer
 pub mod Bound
+pub mod Promise

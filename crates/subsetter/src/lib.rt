@@ -15,6 +15,7 @@ mod cff;
 mod choice;
 mod common;
 mod glyf;
+pub mod laws;
 mod loca;
 mod subsetting;
 mod tables;

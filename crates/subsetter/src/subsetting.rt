@@ -1,8 +1,7 @@
 //! Subsetting a font.
 
-ghost use Rattle.std.specs.Prelude.{◌≡◌, ◌≢◌, ◌⊎◌, ℕ, List, false, length, IfOk, IfErr, OnOk, Err};
+ghost use Rattle.std.specs.Prelude.{◌≡◌, false, length, IfOk, IfErr, OnOk, None};
 ghost use Rattle.std.specs.Bool.{OnFalse};
-ghost use Rattle.subsetter_base.specs.declared.error.Error.TheVariants.{OutOfMemory};
 ghost use Rattle.subsetter_base.specs.declared.error.Error.{Error as SpecError};
 ghost use Rattle.subsetter_base.specs.Within.{GivesWithin, is_past};
 ghost use Rattle.subsetter.specs.Cff.Plain.{cff_file};
@@ -11,12 +10,9 @@ ghost use Rattle.subsetter_sfnt.specs.Extras.{all_extras};
 ghost use Rattle.subsetter_sfnt.specs.FontAt.{font_at, tables_of};
 ghost use Rattle.subsetter.specs.Glyf.BareOutlines.Instructions.{HasNoInstructions};
 ghost use Rattle.subsetter.specs.Truetype.Answered.{IsAnswered, IsRefused};
-ghost use Rattle.subsetter.specs.Fault.{HasFault};
 ghost use Rattle.subsetter_sfnt.specs.Fault.{HasOpeningFault};
 ghost use Rattle.subsetter.specs.Limits.{token_limit, depth_limit};
-ghost use Rattle.subsetter.specs.Subset.{IsSubset};
-ghost use Rattle.subsetter.specs.Answer.{IsAnswer, HasNoAnswer, IsTheAnswer};
-ghost use Rattle.subsetter.specs.Bound.{IsWithin, HasFaultWithin, HasNoAnswerWithin};
+ghost use Rattle.subsetter.specs.Promise.{IsPromised};
 
 use crate::cff::{self, CffTables};
 use crate::choice::Options;
@@ -136,19 +132,8 @@ pub fn subset(
     index: u32,
     mapper: &GlyphRemapper,
 ) -> Result<Vec<u8>, Error>
-    // What is answered is a subset of the font.
-    ensures ok { IfOk result (λ out. IsSubset token_limit depth_limit (font_at «data».now index all_extras) mapper.now out.items) }
-    // And then no fault stands in the source, the size limits being judged for the answer's order of glyphs.
-    ensures clean { IfOk result (λ out. (s : IsSubset token_limit depth_limit (font_at «data».now index all_extras) mapper.now out.items) × ((e : SpecError) → ¬ (HasFault token_limit depth_limit (font_at «data».now index all_extras) mapper.now s.keeps.order e))) }
-    // Its glyphs stand in the order in which they are found, so that there is one answer.
-    ensures exact { IfOk result (λ out. IsAnswer token_limit depth_limit (font_at «data».now index all_extras) mapper.now out.items) }
-    ensures same { IfOk result (λ out. IsTheAnswer (font_at «data».now index all_extras) mapper.now out.items) }
-    // What is refused has a fault of that name.
-    ensures err { IfErr result (λ e. (e ≡ OutOfMemory) ⊎ ((order : List ℕ) × HasFault token_limit depth_limit (font_at «data».now index all_extras) mapper.now order e)) }
-    // And, unless out of memory, it has no answer: no call answers it within these limits.
-    ensures no_answer { IfErr result (λ e. (e ≡ OutOfMemory) ⊎ HasNoAnswer token_limit depth_limit (font_at «data».now index all_extras) mapper.now) }
-    // Where a fault stands that is found before memory is taken, the answer isn't out of memory.
-    ensures before_memory { (e : SpecError) → HasOpeningFault (font_at «data».now index all_extras) e → result ≢ Err OutOfMemory }
+    // What is returned is the subset, what is refused has a fault of that name.
+    ensures promise { IsPromised (λ v. v.items) None token_limit depth_limit (font_at «data».now index all_extras) mapper.now result }
 {
     subset_with_limits(alloc, data, index, mapper, &Limits::default())
 }
@@ -171,21 +156,8 @@ pub fn subset_with_limits(
     mapper: &GlyphRemapper,
     limits: &Limits,
 ) -> Result<Vec<u8>, Error>
-    // What is answered is a subset of the font.
-    ensures ok { IfOk result (λ out. IsSubset limits.now.tokens limits.now.depth (font_at «data».now index all_extras) mapper.now out.items) }
-    // And then no fault stands in the source, the size limits being judged for the answer's order of glyphs.
-    ensures clean { IfOk result (λ out. (s : IsSubset limits.now.tokens limits.now.depth (font_at «data».now index all_extras) mapper.now out.items) × ((e : SpecError) → ¬ (HasFault limits.now.tokens limits.now.depth (font_at «data».now index all_extras) mapper.now s.keeps.order e))) }
-    // Its glyphs stand in the order in which they are found, so that there is one answer, whatever the limits.
-    ensures exact { IfOk result (λ out. IsAnswer limits.now.tokens limits.now.depth (font_at «data».now index all_extras) mapper.now out.items) }
-    ensures same { IfOk result (λ out. IsTheAnswer (font_at «data».now index all_extras) mapper.now out.items) }
-    // It has no more bytes than it may have.
-    ensures within { IfOk result (λ out. IsWithin limits.now.bytes out.items) }
-    // What is refused has a fault of that name, or the bound on bytes is set and every answer passes it.
-    ensures err { IfErr result (λ e. (e ≡ OutOfMemory) ⊎ ((order : List ℕ) × HasFaultWithin limits.now.bytes limits.now.tokens limits.now.depth (font_at «data».now index all_extras) mapper.now order e)) }
-    // And, unless out of memory, it has no answer: no call answers it within these limits.
-    ensures no_answer { IfErr result (λ e. (e ≡ OutOfMemory) ⊎ HasNoAnswerWithin limits.now.bytes limits.now.tokens limits.now.depth (font_at «data».now index all_extras) mapper.now) }
-    // Where a fault stands that is found before memory is taken, the answer isn't out of memory.
-    ensures before_memory { (e : SpecError) → HasOpeningFault (font_at «data».now index all_extras) e → result ≢ Err OutOfMemory }
+    // What is returned is the subset, what is refused has a fault of that name, or every answer passes the bound on bytes.
+    ensures promise { IsPromised (λ v. v.items) limits.now.bytes limits.now.tokens limits.now.depth (font_at «data».now index all_extras) mapper.now result }
 {
     let options = Options::keeping_all(*limits);
     subset_with_options(alloc, data, index, mapper, &options)
@@ -210,21 +182,8 @@ pub fn subset_with_options(
     mapper: &GlyphRemapper,
     options: &Options,
 ) -> Result<Vec<u8>, Error>
-    // What is answered is a subset of the font.
-    ensures ok { IfOk result (λ out. IsSubset options.now.limits.tokens options.now.limits.depth (font_at «data».now index options.now.extras) mapper.now out.items) }
-    // And then no fault stands in the source, the size limits being judged for the answer's order of glyphs.
-    ensures clean { IfOk result (λ out. (s : IsSubset options.now.limits.tokens options.now.limits.depth (font_at «data».now index options.now.extras) mapper.now out.items) × ((e : SpecError) → ¬ (HasFault options.now.limits.tokens options.now.limits.depth (font_at «data».now index options.now.extras) mapper.now s.keeps.order e))) }
-    // Its glyphs stand in the order in which they are found, so that there is one answer, whatever the limits.
-    ensures exact { IfOk result (λ out. IsAnswer options.now.limits.tokens options.now.limits.depth (font_at «data».now index options.now.extras) mapper.now out.items) }
-    ensures same { IfOk result (λ out. IsTheAnswer (font_at «data».now index options.now.extras) mapper.now out.items) }
-    // It has no more bytes than it may have.
-    ensures within { IfOk result (λ out. IsWithin options.now.limits.bytes out.items) }
-    // What is refused has a fault of that name, or the bound on bytes is set and every answer passes it.
-    ensures err { IfErr result (λ e. (e ≡ OutOfMemory) ⊎ ((order : List ℕ) × HasFaultWithin options.now.limits.bytes options.now.limits.tokens options.now.limits.depth (font_at «data».now index options.now.extras) mapper.now order e)) }
-    // And, unless out of memory, it has no answer: no call answers it within these limits.
-    ensures no_answer { IfErr result (λ e. (e ≡ OutOfMemory) ⊎ HasNoAnswerWithin options.now.limits.bytes options.now.limits.tokens options.now.limits.depth (font_at «data».now index options.now.extras) mapper.now) }
-    // Where a fault stands that is found before memory is taken, the answer isn't out of memory.
-    ensures before_memory { (e : SpecError) → HasOpeningFault (font_at «data».now index options.now.extras) e → result ≢ Err OutOfMemory }
+    // What is returned is the subset, what is refused has a fault of that name, or every answer passes the bound on bytes.
+    ensures promise { IsPromised (λ v. v.items) options.now.limits.bytes options.now.limits.tokens options.now.limits.depth (font_at «data».now index options.now.extras) mapper.now result }
     // Without hinting the new font has no instructions, read afresh.
     ensures bare { IfOk result (λ out. OnFalse options.now.extras.hinting (HasNoInstructions (as_font out.items))) }
 {

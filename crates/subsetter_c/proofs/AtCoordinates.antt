@@ -6,17 +6,18 @@ use Rattle.subsetter_base.specs.declared.error.Error.{Error}
 use Rattle.subsetter_base.specs.declared.error.Error.TheVariants.{OutOfMemory}
 use Rattle.subsetter_sfnt.specs.Read.{Font}
 use Rattle.subsetter.specs.Answer.{IsAnswer}
-use Rattle.subsetter.specs.Bound.{IsWithin, in_font}
+use Rattle.subsetter.specs.Bound.{in_font}
 use Rattle.subsetter.specs.Fault.{in_opening}
 use Rattle.cid_embed.specs.Embed.{numbering, IsEmbedded}
 use Rattle.cid_embed.specs.declared.embedding.Embedded.{Embedded}
-use Rattle.cid_embed_at.specs.Embed.{IsEmbeddingAnswerAt, HasEmbedFaultAt, HasNoEmbeddingAt}
-use Rattle.cid_embed_at.proofs.AtPlace.{IsUnnumbered, opening_fault, opening_final}
+use Rattle.cid_embed_at.specs.Embed.{IsEmbeddingAnswerAt, HasEmbedFaultAt, HasNoEmbeddingAt, IsEmbedPromisedAt}
+use Rattle.cid_embed_at.proofs.AtPlace.{IsUnnumbered, opening_fault, opening_final, one_font}
 use Rattle.subsetter_variable.specs.Afresh.{HasGlyphsDrawn}
 use Rattle.subsetter_variable.specs.Blended.{HasGlyphsBlended}
 use Rattle.subsetter_variable.specs.DefaultLocation.{IsAtDefault, IsCff2Font}
 use Rattle.subsetter_variable.specs.Subset.{whole, HasOpeningFaultAt, IsAnswerAt, HasFaultAt, HasNoAnswerAt, IsTheAnswerAt, in_static}
-use Rattle.subsetter_variable.proofs.Static.{one_static, closed}
+use Rattle.subsetter_variable.specs.Promise.{IsPromisedAt}
+use Rattle.subsetter_variable.proofs.Static.{one_static, closed, answers_are_one}
 use Rattle.subsetter_c.specs.Answers.Embedding.{lists_of}
 use Rattle.subsetter_c.specs.Settings.{IsSoundSubsetAt, HasCallFaultAt, IsRefusalAt, in_numbering, in_subset, IsSoundEmbeddingAt, IsEmbeddingRefusalAt}
 use Rattle.subsetter_c.proofs.AnswersLaws.Bytes.{wanting, no_room, failed}
@@ -45,21 +46,24 @@ module _ (bound : Option ℕ) (tokens depth : ℕ) (font : Font) (settings : Lis
     there : (P : List (Tag × ℤ) → List ℕ → Type 0) → P given mapper → P settings (numbering glyphs)
     there P p = subst (λ (l : List ℕ). P settings l) m (subst (λ (s : List (Tag × ℤ)). P s mapper) g p)
 
-    pub subset_refused : (r : Result (Vec ℕ Global) Error) → IfErr r (λ e. (e ≡ OutOfMemory) ⊎ ((order : List ℕ) × HasFaultAt bound tokens depth font given mapper order e)) → IfErr r (λ e. (e ≡ OutOfMemory) ⊎ HasNoAnswerAt bound tokens depth font given mapper) → ((why : Error) → HasOpeningFaultAt font why → r ≡ Err OutOfMemory → ⊥) → IfErr r (IsRefusalAt bound tokens depth font settings glyphs)
-    subset_refused (Ok v) h none before = h
-    subset_refused (Err e) (inl memory) none before = inl (wanting (HasOpeningFaultAt font) e memory before)
-    subset_refused (Err e) (inr fault) (inl memory) before = inl (wanting (HasOpeningFaultAt font) e memory before)
-    subset_refused (Err e) (inr fault) (inr none) before = inr (in_subset fault.0 (there (λ s l. HasFaultAt bound tokens depth font s l fault.0 e) fault.1), there (λ s l. HasNoAnswerAt bound tokens depth font s l) none)
+    refused_by : (r : Result (Vec ℕ Global) Error) → IfErr r (λ e. (e ≡ OutOfMemory) ⊎ ((order : List ℕ) × HasFaultAt bound tokens depth font given mapper order e)) → IfErr r (λ e. (e ≡ OutOfMemory) ⊎ HasNoAnswerAt bound tokens depth font given mapper) → ((why : Error) → HasOpeningFaultAt font why → r ≡ Err OutOfMemory → ⊥) → IfErr r (IsRefusalAt bound tokens depth font settings glyphs)
+    refused_by (Ok v) h none before = h
+    refused_by (Err e) (inl memory) none before = inl (wanting (HasOpeningFaultAt font) e memory before)
+    refused_by (Err e) (inr fault) (inl memory) before = inl (wanting (HasOpeningFaultAt font) e memory before)
+    refused_by (Err e) (inr fault) (inr none) before = inr (in_subset fault.0 (there (λ s l. HasFaultAt bound tokens depth font s l fault.0 e) fault.1), there (λ s l. HasNoAnswerAt bound tokens depth font s l) none)
 
-    pub subset_sound : (r : Result (Vec ℕ Global) Error) → IfOk r (λ v. IsAnswerAt tokens depth font given mapper v.items) → IfOk r (λ v. IsTheAnswerAt font given mapper v.items) → IfOk r (λ v. (IsAtDefault (whole font) given → ⊥) → HasGlyphsDrawn (whole font) given mapper v.items) → IfOk r (λ v. IsCff2Font (whole font) → HasGlyphsBlended (whole font) given mapper v.items) → IfOk r (λ v. IsWithin bound v.items) → IfOk r (λ v. IsSoundSubsetAt bound tokens depth font settings glyphs v.items)
-    subset_sound (Ok v) exact same drawn blended within = record {
-      answer = there (λ s l. IsAnswerAt tokens depth font s l v.items) exact;
-      same = there (λ s l. IsTheAnswerAt font s l v.items) same;
+    pub subset_refused : (r : Result (Vec ℕ Global) Error) → IsPromisedAt (λ v. v.items) bound tokens depth font given mapper r → IfErr r (IsRefusalAt bound tokens depth font settings glyphs)
+    subset_refused r p = refused_by r p.err p.no_answer p.before_memory
+
+    pub subset_sound : (r : Result (Vec ℕ Global) Error) → IsPromisedAt (λ v. v.items) bound tokens depth font given mapper r → IfOk r (λ v. (IsAtDefault (whole font) given → ⊥) → HasGlyphsDrawn (whole font) given mapper v.items) → IfOk r (λ v. IsCff2Font (whole font) → HasGlyphsBlended (whole font) given mapper v.items) → IfOk r (λ v. IsSoundSubsetAt bound tokens depth font settings glyphs v.items)
+    subset_sound (Ok v) p drawn blended = record {
+      answer = there (λ s l. IsAnswerAt tokens depth font s l v.items) p.exact;
+      same = there (λ s l. IsTheAnswerAt font s l v.items) (answers_are_one tokens depth font given mapper v.items p.exact);
       drawn = there (λ s l. (IsAtDefault (whole font) s → ⊥) → HasGlyphsDrawn (whole font) s l v.items) drawn;
       drawn_cff = there (λ s l. IsCff2Font (whole font) → HasGlyphsBlended (whole font) s l v.items) blended;
-      within = within;
+      within = p.within;
     }
-    subset_sound (Err e) exact same drawn blended within = exact
+    subset_sound (Err e) p drawn blended = tt
 
 -- ---- with CIDs and widths
 
@@ -79,21 +83,23 @@ module _ (bound : Option ℕ) (tokens depth : ℕ) (font : Font) (settings : Lis
       alike e.font.items e.cids.items e.widths.items other.font.items other.cids.items other.widths.items fonts cids widths
 
   module _ (given : List (Tag × ℤ)) (g : given ≡ settings) where
-    pub embedding_sound : (r : Result Embedded Error) → IfOk r (λ e. IsEmbeddingAnswerAt tokens depth font given glyphs e) → IfOk r (λ e. IsTheAnswerAt font given (numbering glyphs) e.font.items) → IfOk r (λ e. (IsAtDefault (whole font) given → ⊥) → HasGlyphsDrawn (whole font) given (numbering glyphs) e.font.items) → IfOk r (λ e. IsCff2Font (whole font) → HasGlyphsBlended (whole font) given (numbering glyphs) e.font.items) → IfOk r (λ e. IsWithin bound e.font.items) → IfOk r (λ e. IsSoundEmbeddingAt bound tokens depth font settings glyphs e)
-    embedding_sound (Ok e) ok same drawn blended within =
-        let answer : IsEmbeddingAnswerAt tokens depth font settings glyphs e = subst (λ (s : List (Tag × ℤ)). IsEmbeddingAnswerAt tokens depth font s glyphs e) g ok in
-        let one : IsTheAnswerAt font settings (numbering glyphs) e.font.items = subst (λ (s : List (Tag × ℤ)). IsTheAnswerAt font s (numbering glyphs) e.font.items) g same in
+    pub embedding_sound : (r : Result Embedded Error) → IsEmbedPromisedAt bound tokens depth font given glyphs r → IfOk r (λ e. (IsAtDefault (whole font) given → ⊥) → HasGlyphsDrawn (whole font) given (numbering glyphs) e.font.items) → IfOk r (λ e. IsCff2Font (whole font) → HasGlyphsBlended (whole font) given (numbering glyphs) e.font.items) → IfOk r (λ e. IsSoundEmbeddingAt bound tokens depth font settings glyphs e)
+    embedding_sound (Ok e) p drawn blended =
+        let answer : IsEmbeddingAnswerAt tokens depth font settings glyphs e = subst (λ (s : List (Tag × ℤ)). IsEmbeddingAnswerAt tokens depth font s glyphs e) g p.exact in
         record {
           answer = answer;
-          same = λ more deeper other b. same_lists more deeper e other answer one b;
+          same = λ more deeper other b. same_lists more deeper e other answer (one_font tokens depth font settings glyphs e answer) b;
           drawn = subst (λ (s : List (Tag × ℤ)). (IsAtDefault (whole font) s → ⊥) → HasGlyphsDrawn (whole font) s (numbering glyphs) e.font.items) g drawn;
           drawn_cff = subst (λ (s : List (Tag × ℤ)). IsCff2Font (whole font) → HasGlyphsBlended (whole font) s (numbering glyphs) e.font.items) g blended;
-          within = within;
+          within = p.within;
         }
-    embedding_sound (Err why) ok same drawn blended within = ok
+    embedding_sound (Err why) p drawn blended = tt
 
-    pub embedding_refused : (r : Result Embedded Error) → IfErr r (λ why. (why ≡ OutOfMemory) ⊎ ((order : List ℕ) × HasEmbedFaultAt bound tokens depth font given glyphs order why)) → IfErr r (λ why. (why ≡ OutOfMemory) ⊎ HasNoEmbeddingAt bound tokens depth font given glyphs) → ((why : Error) → HasOpeningFaultAt font why → r ≡ Err OutOfMemory → ⊥) → IfErr r (IsEmbeddingRefusalAt bound tokens depth font settings glyphs)
-    embedding_refused (Ok e) fault none before = fault
-    embedding_refused (Err why) (inl memory) none before = inl (wanting (HasOpeningFaultAt font) why memory before)
-    embedding_refused (Err why) (inr fault) (inl memory) before = inl (wanting (HasOpeningFaultAt font) why memory before)
-    embedding_refused (Err why) (inr fault) (inr none) before = inr ((fault.0, subst (λ (s : List (Tag × ℤ)). HasEmbedFaultAt bound tokens depth font s glyphs fault.0 why) g fault.1), subst (λ (s : List (Tag × ℤ)). HasNoEmbeddingAt bound tokens depth font s glyphs) g none)
+    embedding_refused_by : (r : Result Embedded Error) → IfErr r (λ why. (why ≡ OutOfMemory) ⊎ ((order : List ℕ) × HasEmbedFaultAt bound tokens depth font given glyphs order why)) → IfErr r (λ why. (why ≡ OutOfMemory) ⊎ HasNoEmbeddingAt bound tokens depth font given glyphs) → ((why : Error) → HasOpeningFaultAt font why → r ≡ Err OutOfMemory → ⊥) → IfErr r (IsEmbeddingRefusalAt bound tokens depth font settings glyphs)
+    embedding_refused_by (Ok e) fault none before = fault
+    embedding_refused_by (Err why) (inl memory) none before = inl (wanting (HasOpeningFaultAt font) why memory before)
+    embedding_refused_by (Err why) (inr fault) (inl memory) before = inl (wanting (HasOpeningFaultAt font) why memory before)
+    embedding_refused_by (Err why) (inr fault) (inr none) before = inr ((fault.0, subst (λ (s : List (Tag × ℤ)). HasEmbedFaultAt bound tokens depth font s glyphs fault.0 why) g fault.1), subst (λ (s : List (Tag × ℤ)). HasNoEmbeddingAt bound tokens depth font s glyphs) g none)
+
+    pub embedding_refused : (r : Result Embedded Error) → IsEmbedPromisedAt bound tokens depth font given glyphs r → IfErr r (IsEmbeddingRefusalAt bound tokens depth font settings glyphs)
+    embedding_refused r p = embedding_refused_by r p.err p.no_answer p.before_memory

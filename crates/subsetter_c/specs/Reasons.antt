@@ -11,7 +11,7 @@ use Rattle.font_reasons.specs.Texts.{reason_text}
 use Rattle.font_reasons.specs.declared.explained.Call.{Call}
 use Rattle.font_reasons.specs.declared.explained.Call.TheVariants.{Subset, SubsetAt, Embed, EmbedAt, PdfFont, GlyphsOf, Advances}
 use Rattle.font_reasons.specs.declared.reason.Reason.{Reason}
-use Rattle.subsetter_c.specs.Answers.Status.{no_cmap, not_permitted}
+use Rattle.subsetter_c.specs.Answers.Status.{bitmaps_alone, no_cmap, not_permitted}
 
 -- the calls are numbered from 0 on
 abbrev pub call_named : ℕ → Call
@@ -19,12 +19,12 @@ call_named n =
     if n == 0 then Subset else if n == 1 then SubsetAt else if n == 2 then Embed else if n == 3 then EmbedAt
     else if n == 4 then PdfFont else if n == 5 then GlyphsOf else Advances
 
--- the error whose status it is, for a missing table too; a font doesn't show why memory ran out
+-- the error whose status it is, for missing tables too; a font doesn't show why memory ran out
 abbrev pub error_of : ℕ → Option Error
 error_of n =
     if n == 1 then Some UnknownKind else if n == 2 then Some MalformedFont else if n == 3 then Some Unimplemented
     else if n == 4 then Some SubsetError else if n == 5 then Some OverflowError else if n == 6 then Some CFFError
-    else if n == no_cmap then Some MalformedFont else None
+    else if n == no_cmap then Some MalformedFont else if n == bitmaps_alone then Some UnknownKind else None
 
 abbrev pub reason_by : Call → ℕ → Font → ℕ → ℕ → List ℕ → Option Reason
 reason_by call status font tokens depth glyphs =

@@ -1,18 +1,17 @@
 //! The glyphs of characters.
 
-ghost use Rattle.std.specs.Prelude.{◌≡◌, map, IfOk, IfErr, IfSome, None, codes, true};
+ghost use Rattle.std.specs.Prelude.{◌≡◌, map, IfOk, IfErr, IfSome, None, Err, codes, true};
 ghost use Rattle.std.specs.Option.{option_and_then, option_map};
 ghost use Rattle.subsetter_base.specs.declared.error.Error.{Error as SpecError};
 ghost use Rattle.subsetter_base.specs.declared.error.Error.TheVariants.{OutOfMemory};
 ghost use Rattle.subsetter_sfnt.specs.Extras.{all_extras};
 ghost use Rattle.subsetter_sfnt.specs.FontAt.{font_at};
+ghost use Rattle.subsetter_sfnt.specs.Plain.{opened};
 ghost use Rattle.subsetter_sfnt.specs.Read.{table_in};
-ghost use Rattle.subsetter_variable.specs.Subset.{HasOpeningFaultAt};
 ghost use Rattle.text_glyphs.specs.Choice.{character_glyph};
 ghost use Rattle.text_glyphs.specs.Faces.{face_source};
 ghost use Rattle.text_glyphs.specs.Reading.{source_of};
 ghost use Rattle.text_glyphs.specs.View.{source_view};
-ghost use Rattle.pdf_font.specs.Opened.{IsOpened};
 ghost use Rattle.subsetter_pdf_c.specs.Entries.{are_scalars};
 ghost use Rattle.subsetter_c.specs.Answers.Handed.{IsHandedOver, IsNothingHanded};
 ghost use Rattle.subsetter_c.specs.Answers.Status.{no_cmap};
@@ -24,17 +23,7 @@ use subsetter::{Error, Extras, Tag};
 use subsetter_pdf_c::characters_of;
 use subsetter_sfnt::face::Face;
 use subsetter_sfnt::parse::parse;
-use subsetter_variable::check_opening_at;
 use text_glyphs::{TextSource, find_source, glyphs_of};
-
-/// The face of a font that can be opened.
-fn opened_face(font: &[u8], index: u32) -> Result<Face<'_>, Error>
-    ensures ok { IfOk result (λ face. IsOpened (font_at font.now index all_extras) face) }
-    ensures err { IfErr result (λ e. HasOpeningFaultAt (font_at font.now index all_extras) e) }
-{
-    check_opening_at(font, index, Extras::ALL)?;
-    parse(font, index, Extras::ALL)
-}
 
 /// The tables of a face by which a text is read.
 fn source_by<'a>(face: &Face<'a>) -> Option<TextSource<'a>>
@@ -44,13 +33,13 @@ fn source_by<'a>(face: &Face<'a>) -> Option<TextSource<'a>>
     find_source(cmap)
 }
 
-/// The tables of a font by which a text is read, if it has them.
+/// The tables of a font by which a text is read, if it has them. It needs no outlines.
 pub fn source_for(font: &[u8], index: u32) -> Result<Option<TextSource<'_>>, Error>
     ensures ok { IfOk result (λ found. face_source (font_at font.now index all_extras) ≡ option_map source_view found) }
-    ensures opens { IfOk result (λ found. (e : SpecError) → ¬ (HasOpeningFaultAt (font_at font.now index all_extras) e)) }
-    ensures err { IfErr result (λ e. HasOpeningFaultAt (font_at font.now index all_extras) e) }
+    ensures opens { IfOk result (λ found. (e : SpecError) → ¬ (opened (font_at font.now index all_extras) ≡ Err e)) }
+    ensures err { IfErr result (λ e. opened (font_at font.now index all_extras) ≡ Err e) }
 {
-    let face = opened_face(font, index)?;
+    let face = parse(font, index, Extras::ALL)?;
     Ok(source_by(&face))
 }
 

@@ -32,7 +32,7 @@ fn call_of(number: u32) -> Option<Call>
     }
 }
 
-/// The error of a status, if it is that of one, or of a missing table.
+/// The error of a status, if it is that of one, or of missing tables.
 fn error_of(status: u32) -> Option<Error>
     ensures { result ≡ error_of status }
 {
@@ -44,6 +44,7 @@ fn error_of(status: u32) -> Option<Error>
         5 => Some(Error::OverflowError),
         6 => Some(Error::CFFError),
         13 => Some(Error::MalformedFont),
+        14 => Some(Error::UnknownKind),
         _ => None,
     }
 }

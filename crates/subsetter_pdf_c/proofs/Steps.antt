@@ -12,13 +12,16 @@ use Rattle.pdf_codes.specs.Shown.{use_of, uses_of, texts_of}
 use Rattle.pdf_codes.specs.declared.shown.Shown.{Shown}
 use Rattle.pdf_objects.specs.Glyphs.{IsSheetOf as IsSheetOfView, IsTooLargeFor as IsTooLargeForView}
 use Rattle.pdf_objects.specs.declared.view.FontView.{FontView}
+use Rattle.pdf_sheet.specs.File.{AreInTable, body_of, file_of}
+use Rattle.pdf_sheet.specs.Lines.{AreTooLarge, lines_values}
 use Rattle.pdf_sheet.specs.declared.frame.Layout.{Layout}
+use Rattle.pdf_sheet.specs.declared.lines.SheetLine.{SheetLine}
 use Rattle.pdf_text.specs.Dictionaries.Widths.{HasManyColumns}
 use Rattle.pdf_text.specs.Objects.{font_objects, most_objects, offsets_from, AreFontObjectsAt}
 use Rattle.pdf_text.specs.declared.objects.FontObjects.{FontObjects}
 use Rattle.subsetter_pdf_c.specs.Entries.{AreTexts, are_ascending, are_scalars, are_texts, text_between, texts_from, uses_with}
 use Rattle.subsetter_pdf_c.specs.Made.{IsViewOf}
-use Rattle.subsetter_pdf_c.specs.Written.{AreObjectsOf, HaveNoNumbers, IsSheetOf, IsTooLargeFor}
+use Rattle.subsetter_pdf_c.specs.Written.{AreLinesOf, AreObjectsOf, AreTooLargeFor, HaveNoNumbers, IsSheetOf, IsTooLargeFor}
 use Rattle.subsetter_pdf_c.specs.declared.made.PdfMade.{PdfMade}
 
 -- each number of such a text is a character
@@ -90,6 +93,18 @@ module _ (made : PdfMade) (glyph_map : List ℕ) (w : FontView) (is : IsViewOf m
   pub objects_refused : (first : ℕ) (answer : Result FontObjects Error) → IfErr answer (λ e. (e ≡ OutOfMemory) ⊎ ((e ≡ OverflowError) × ((2 ^ 32 ≤ first + most_objects w.values) ⊎ HasManyColumns w.values.columns))) → IfErr answer (λ e. (e ≡ OutOfMemory) ⊎ ((e ≡ OverflowError) × HaveNoNumbers made glyph_map first))
   objects_refused first (Ok o) h = tt
   objects_refused first (Err e) h = objects_refused_by first e h
+
+  pub lines_made : (ls : List SheetLine) (answer : Result (Vec ℕ Global) Error) → IfOk answer (λ file. file.items ≡ file_of (lines_values w.values ls)) → IfOk answer (λ file. AreInTable file.items (length (body_of (lines_values w.values ls))) (lines_values w.values ls)) → IfOk answer (λ file. AreLinesOf made glyph_map ls file.items)
+  lines_made ls (Ok file) whole at = record { view = w; is = is; whole = whole; at = at }
+  lines_made ls (Err e) whole at = tt
+
+  lines_refused_by : (ls : List SheetLine) (e : Error) → (e ≡ OutOfMemory) ⊎ ((e ≡ OverflowError) × AreTooLarge w.values ls) → (e ≡ OutOfMemory) ⊎ ((e ≡ OverflowError) × AreTooLargeFor made glyph_map ls)
+  lines_refused_by ls e (inl p) = inl p
+  lines_refused_by ls e (inr p) = inr (p.0, record { view = w; is = is; large = p.1 })
+
+  pub lines_refused : (ls : List SheetLine) (answer : Result (Vec ℕ Global) Error) → IfErr answer (λ e. (e ≡ OutOfMemory) ⊎ ((e ≡ OverflowError) × AreTooLarge w.values ls)) → IfErr answer (λ e. (e ≡ OutOfMemory) ⊎ ((e ≡ OverflowError) × AreTooLargeFor made glyph_map ls))
+  lines_refused ls (Ok file) h = tt
+  lines_refused ls (Err e) h = lines_refused_by ls e h
 
 module _ (made : PdfMade) (w : FontView) (is : IsViewOf made [] w) where
   pub sheet_made : (ts : List (List ℕ)) (layout : Layout) (answer : Result (Vec ℕ Global) Error) → IfOk answer (λ file. IsSheetOfView w ts layout file.items) → IfOk answer (λ file. IsSheetOf made ts layout file.items)

@@ -1,9 +1,12 @@
--- What is written of a font that C holds: its objects, also as data, and a sheet.
-use Rattle.std.specs.Prelude.{◌≡◌, ◌≤◌, ◌⊎◌, ◌+◌, ◌^◌, ℕ, List, [], map, Option, Some, None}
+-- What is written of a font that C holds: its objects, also as data, and sheets.
+use Rattle.std.specs.Prelude.{◌≡◌, ◌≤◌, ◌⊎◌, ◌+◌, ◌^◌, ℕ, List, [], length, map, Option, Some, None}
 use Rattle.std.specs.List.{concat}
 use Rattle.pdf_objects.specs.Glyphs.{IsSheetOf as IsSheetOfView, IsTooLargeFor as IsTooLargeForView}
 use Rattle.pdf_objects.specs.declared.view.FontView.{FontView}
+use Rattle.pdf_sheet.specs.File.{AreInTable, body_of, file_of}
+use Rattle.pdf_sheet.specs.Lines.{AreTooLarge, lines_values}
 use Rattle.pdf_sheet.specs.declared.frame.Layout.{Layout}
+use Rattle.pdf_sheet.specs.declared.lines.SheetLine.{SheetLine}
 use Rattle.pdf_text.specs.Dictionaries.Widths.{HasManyColumns}
 use Rattle.pdf_text.specs.Objects.{font_objects, most_objects, offsets_from, AreFontObjectsAt}
 use Rattle.pdf_text.specs.Parts.{Part, part_count, parts_of as parts_of_values, HasNoParts}
@@ -100,3 +103,17 @@ pub record IsTooLargeFor (made : PdfMade) (texts : List (List ℕ)) (layout : La
   pub view : FontView
   pub is : IsViewOf made [] view
   pub large : IsTooLargeForView view texts layout
+
+-- ---- lines, with these bytes of CIDToGIDMap
+
+pub record AreLinesOf (made : PdfMade) (glyph_map : List ℕ) (lines : List SheetLine) (file : List ℕ) : Type 0 where
+  pub view : FontView
+  pub is : IsViewOf made glyph_map view
+  pub whole : file ≡ file_of (lines_values view.values lines)
+  pub at : AreInTable file (length (body_of (lines_values view.values lines))) (lines_values view.values lines)
+
+-- they have too many objects, bytes or columns
+pub record AreTooLargeFor (made : PdfMade) (glyph_map : List ℕ) (lines : List SheetLine) : Type 0 where
+  pub view : FontView
+  pub is : IsViewOf made glyph_map view
+  pub large : AreTooLarge view.values lines

@@ -23,4 +23,4 @@ pub use parts::{PdfPart, part_count, parts_of};
 pub use pdf_text::{PartsError, StringRange};
 pub use texts::{characters_in, ends_of};
 pub use view::view_of;
-pub use written::{sheet_of, write_objects};
+pub use written::{lines_of, sheet_of, write_objects};

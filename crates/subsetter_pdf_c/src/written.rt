@@ -1,16 +1,16 @@
-//! The objects of a font that C holds, and a sheet.
+//! The objects of a font that C holds, and sheets.
 
 ghost use Rattle.std.specs.Prelude.{◌≡◌, ◌⊎◌, length, IfOk, IfErr};
 ghost use Rattle.subsetter_base.specs.declared.error.Error.TheVariants.{OutOfMemory, OverflowError};
 ghost use Rattle.pdf_codes.specs.Shown.{texts_of};
 ghost use Rattle.subsetter_pdf_c.specs.Entries.{AreTexts, texts_from};
-ghost use Rattle.subsetter_pdf_c.specs.Written.{AreObjectsOf, HaveNoNumbers, IsSheetOf, IsTooLargeFor};
+ghost use Rattle.subsetter_pdf_c.specs.Written.{AreLinesOf, AreObjectsOf, AreTooLargeFor, HaveNoNumbers, IsSheetOf, IsTooLargeFor};
 
 use crate::entries::{characters_of, shown_of};
 use crate::made::PdfMade;
 use crate::view::view_of;
 use pdf_codes::Shown;
-use pdf_sheet::Layout;
+use pdf_sheet::{Layout, SheetLine};
 use pdf_text::FontObjects;
 use std::alloc::Global;
 use subsetter_base::Error;
@@ -71,4 +71,21 @@ pub fn sheet_of(
     let characters = characters_of(alloc, text)?;
     let shown = shown_of(alloc, glyphs, &characters, ends)?;
     write_sheet(alloc, made, &shown, layout)
+}
+
+/// A whole PDF that shows lines of a font with these bytes of CIDToGIDMap: as `pdf_sheet::write_lines` writes it.
+///
+/// # Errors
+///
+/// Those of [`sheet_of`].
+pub fn lines_of(
+    alloc: Global,
+    made: &PdfMade,
+    cid_to_gid_map: &'static [u8],
+    lines: &[SheetLine<'_>],
+) -> Result<Vec<u8>, Error>
+    ensures ok { IfOk result (λ file. AreLinesOf made.now cid_to_gid_map.now lines.now file.items) }
+    ensures err { IfErr result (λ e. (e ≡ OutOfMemory) ⊎ ((e ≡ OverflowError) × AreTooLargeFor made.now cid_to_gid_map.now lines.now)) }
+{
+    pdf_sheet::write_lines(alloc, view_of(made, cid_to_gid_map).values, lines)
 }

@@ -9,9 +9,10 @@ use Rattle.subsetter_sfnt.specs.FontAt.{font_at}
 use Rattle.subsetter_sfnt.specs.Plain.{opened}
 use Rattle.subsetter_sfnt.specs.Read.{Font, stored}
 use Rattle.subsetter_sfnt.proofs.Laws.Fault.{opened_refused}
-use Rattle.subsetter.specs.Answer.{IsAnswer, IsTheAnswer}
+use Rattle.subsetter.specs.Answer.{IsAnswer}
+use Rattle.subsetter.specs.Promise.{IsPromised}
+use Rattle.subsetter.proofs.TwoLimits.{one_answer}
 use Rattle.subsetter.specs.Bound.{IsWithin, HasFaultWithin, HasNoAnswerWithin, in_font, beyond}
-use Rattle.subsetter.specs.Subset.{IsSubset}
 use Rattle.subsetter_instance.specs.Fault.{HasInstanceFault, in_place}
 use Rattle.subsetter_instance.specs.Instance.{IsInstance}
 use Rattle.subsetter_instance.proofs.FaultLaws.Place.{place_clean}
@@ -20,7 +21,8 @@ use Rattle.subsetter_cff_instance.specs.Fault.{HasCffInstanceFault}
 use Rattle.subsetter_cff_instance.proofs.SameLaws.{one_instance}
 use Rattle.subsetter_variable.specs.DefaultLocation.{IsAtDefault, HasNoLocation, no_outlines, no_move, IsCff2Font, IsStaticFile, HasStaticFault}
 use Rattle.subsetter_variable.proofs.Unopened.{no_glyf, nothing_stored, same_stored}
-use Rattle.subsetter_variable.specs.Subset.{whole, HasOpeningFaultAt, IsStatic, IsSubsetAt, HasFaultAt, IsAnswerAt, HasNoAnswerAt, IsTheAnswerAt, as_it_is, instanced, cff_instanced, in_instance, in_cff_instance, in_static}
+use Rattle.subsetter_variable.specs.Subset.{whole, HasOpeningFaultAt, IsStatic, HasFaultAt, IsAnswerAt, HasNoAnswerAt, as_it_is, instanced, cff_instanced, in_instance, in_cff_instance, in_static}
+use Rattle.subsetter_variable.specs.Promise.{IsPromisedAt, AnswersAreCleanAt, AnswersAreOneAt}
 
 -- ---- there is one static font
 
@@ -126,54 +128,51 @@ module _ (bound : Option ℕ) (tokens depth : ℕ) (font : Font) (settings : Lis
 
 -- ---- the static font
 
-module _ (bound : Option ℕ) (tokens depth : ℕ) (font : Font) (settings : List (Tag × ℤ)) (glyphs : List ℕ) (static : Font) (is : IsStatic font settings glyphs static) where
-  the_answer : (out : List ℕ) → IsTheAnswer static glyphs out → IsTheAnswerAt font settings glyphs out
-  the_answer out h more deeper other a = h more deeper other (subst (λ (s : Font). IsAnswer more deeper s glyphs other) (one_static font settings glyphs a.static static a.is_static is) a.answer)
+module _ (font : Font) (settings : List (Tag × ℤ)) (glyphs : List ℕ) (static : Font) (is : IsStatic font settings glyphs static) where
+  -- an answer for another static font is one for this one
+  same_static : (tokens depth : ℕ) (out : List ℕ) (other : Font) → IsStatic font settings glyphs other → IsAnswer tokens depth other glyphs out → IsAnswer tokens depth static glyphs out
+  same_static tokens depth out other it a = subst (λ (s : Font). IsAnswer tokens depth s glyphs out) (one_static font settings glyphs other static it is) a
 
-  no_answer : HasNoAnswerWithin bound tokens depth static glyphs → HasNoAnswerAt bound tokens depth font settings glyphs
-  no_answer h out within a = h out within (subst (λ (s : Font). IsAnswer tokens depth s glyphs out) (one_static font settings glyphs a.static static a.is_static is) a.answer)
+  module _ (bound : Option ℕ) (tokens depth : ℕ) where
+    no_answer : HasNoAnswerWithin bound tokens depth static glyphs → HasNoAnswerAt bound tokens depth font settings glyphs
+    no_answer h out within a = h out within (same_static tokens depth out a.static a.is_static a.answer)
 
-  too_long : (most : ℕ) (out : List ℕ) → bound ≡ Some most → IsWithin bound out → most < length out → ⊥
-  too_long most out set within longer = let fits = subst (λ (b : Option ℕ). IsWithin b out) set within in omega arith
+    too_long : (most : ℕ) (out : List ℕ) → bound ≡ Some most → IsWithin bound out → most < length out → ⊥
+    too_long most out set within longer = let fits = subst (λ (b : Option ℕ). IsWithin b out) set within in omega arith
 
-  -- no fault stands in the static font where it has an answer within the bound
-  no_fault_within : (out : List ℕ) (a : IsAnswer tokens depth static glyphs out) → IsWithin bound out → (e : Error) → HasFaultWithin bound tokens depth static glyphs a.subset.keeps.order e → ⊥
-  no_fault_within out a within e (in_font f) = a.clean e f
-  no_fault_within out a within e (beyond b) = too_long b.most out b.is_set within (b.longer out a)
-
-  module _ {X : Type 0} (view : X → List ℕ) where
-    pub ok_at : (r : Result X Error) → IfOk r (λ v. IsSubset tokens depth static glyphs (view v)) → IfOk r (λ v. IsSubsetAt tokens depth font settings glyphs (view v))
-    ok_at (Ok v) s = record { static = static; is_static = is; subset = s }
-    ok_at (Err e) h = tt
-
-    pub same_at : (r : Result X Error) → IfOk r (λ v. IsTheAnswer static glyphs (view v)) → IfOk r (λ v. IsTheAnswerAt font settings glyphs (view v))
-    same_at (Ok v) h = the_answer (view v) h
-    same_at (Err e) h = tt
-
-    pub err_at : (r : Result X Error) → IfErr r (λ e. (e ≡ OutOfMemory) ⊎ ((order : List ℕ) × HasFaultWithin bound tokens depth static glyphs order e)) → IfErr r (λ e. (e ≡ OutOfMemory) ⊎ ((order : List ℕ) × HasFaultAt bound tokens depth font settings glyphs order e))
-    err_at (Ok v) h = tt
-    err_at (Err e) (inl m) = inl m
-    err_at (Err e) (inr f) = inr (f.0, in_static static is f.1)
-
-    pub no_answer_at : (r : Result X Error) → IfErr r (λ e. (e ≡ OutOfMemory) ⊎ HasNoAnswerWithin bound tokens depth static glyphs) → IfErr r (λ e. (e ≡ OutOfMemory) ⊎ HasNoAnswerAt bound tokens depth font settings glyphs)
-    no_answer_at (Ok v) h = tt
-    no_answer_at (Err e) (inl m) = inl m
-    no_answer_at (Err e) (inr n) = inr (no_answer n)
+    -- no fault stands in the static font where it has an answer within the bound
+    no_fault_within : (out : List ℕ) (a : IsAnswer tokens depth static glyphs out) → IsWithin bound out → (e : Error) → HasFaultWithin bound tokens depth static glyphs a.subset.keeps.order e → ⊥
+    no_fault_within out a within e (in_font f) = a.clean e f
+    no_fault_within out a within e (beyond b) = too_long b.most out b.is_set within (b.longer out a)
 
     module _ (made : (e : Error) → HasStaticFault (whole font) settings glyphs tokens depth e → ⊥) where
-      pub exact_at : (r : Result X Error) → IfOk r (λ v. IsAnswer tokens depth static glyphs (view v)) → IfOk r (λ v. IsAnswerAt tokens depth font settings glyphs (view v))
-      exact_at (Ok v) a = record { static = static; is_static = is; made = λ e not f. made e (inl (not, f)); cff_made = λ e c f. made e (inr (c, f)); answer = a }
-      exact_at (Err e) h = tt
+      answer : (out : List ℕ) → IsAnswer tokens depth static glyphs out → IsAnswerAt tokens depth font settings glyphs out
+      answer out a = record { static = static; is_static = is; made = λ e not f. made e (inl (not, f)); cff_made = λ e c f. made e (inr (c, f)); answer = a }
 
       no_fault : (out : List ℕ) (a : IsAnswer tokens depth static glyphs out) → IsWithin bound out → (e : Error) → HasFaultAt bound tokens depth font settings glyphs a.subset.keeps.order e → ⊥
       no_fault out a within e (in_instance not f) = made e (inl (not, f))
       no_fault out a within e (in_cff_instance c f) = made e (inr (c, f))
       no_fault out a within e (in_static other it f) = no_fault_within out a within e (subst (λ (s : Font). HasFaultWithin bound tokens depth s glyphs a.subset.keeps.order e) (one_static font settings glyphs other static it is) f)
 
-      pub clean_at : (r : Result X Error) → IfOk r (λ v. IsAnswer tokens depth static glyphs (view v)) → IfOk r (λ v. IsWithin bound (view v))
-          → IfOk r (λ v. (s : IsSubsetAt tokens depth font settings glyphs (view v)) × ((e : Error) → HasFaultAt bound tokens depth font settings glyphs s.subset.keeps.order e → ⊥))
-      clean_at (Ok v) a within = (record { static = static; is_static = is; subset = a.subset }, no_fault (view v) a within)
-      clean_at (Err e) h within = tt
+      -- what is promised of the static font is promised of the font
+      pub promised_at : {X : Type 0} (view : X → List ℕ) (r : Result X Error) → ((e : Error) → HasOpeningFaultAt font e → r ≡ Err OutOfMemory → ⊥) → IsPromised view bound tokens depth static glyphs r → IsPromisedAt view bound tokens depth font settings glyphs r
+      promised_at view (Ok v) early p = record { exact = answer (view v) p.exact; within = p.within; err = tt; no_answer = tt; before_memory = early }
+      promised_at view (Err e) early p = record { exact = tt; within = tt; err = elim p.err [ inl m ↦ inl m | inr f ↦ inr (f.0, in_static static is f.1) ]; no_answer = elim p.no_answer [ inl m ↦ inl m | inr n ↦ inr (no_answer n) ]; before_memory = early }
+
+-- of an answer within the bound nothing is a fault
+pub answers_are_clean : AnswersAreCleanAt
+answers_are_clean bound tokens depth font settings glyphs out a within = (record { static = a.static; is_static = a.is_static; subset = a.answer.subset }, no_fault font settings glyphs a.static a.is_static bound tokens depth made out a.answer within)
+  where
+    made : (e : Error) → HasStaticFault (whole font) settings glyphs tokens depth e → ⊥
+    made e (inl f) = a.made e f.0 f.1
+    made e (inr f) = a.cff_made e f.0 f.1
+
+pub answers_are_one : AnswersAreOneAt
+answers_are_one tokens depth font settings glyphs out a more deeper other b = one_answer a.static glyphs tokens depth more deeper out other a.answer (same_static font settings glyphs a.static a.is_static more deeper other b.static b.is_static b.answer)
+
+-- the promise where there is no static font
+pub unmade_promise : (bound : Option ℕ) (tokens depth : ℕ) (font : Font) (settings : List (Tag × ℤ)) (glyphs : List ℕ) {X : Type 0} (view : X → List ℕ) (e : Error) → NotMade bound tokens depth font settings glyphs e → ((why : Error) → HasOpeningFaultAt font why → ⊥) → IsPromisedAt view bound tokens depth font settings glyphs (Err e)
+unmade_promise bound tokens depth font settings glyphs view e not opens = record { exact = tt; within = tt; err = unmade bound tokens depth font settings glyphs e not; no_answer = unmade_final bound tokens depth font settings glyphs e not; before_memory = λ why f k. opens why f }
 
 -- ---- a font that can't be opened is at its default
 

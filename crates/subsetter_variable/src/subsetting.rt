@@ -1,10 +1,8 @@
 //! Subsetting a font at user coordinates.
 
-ghost use Rattle.std.specs.Prelude.{◌≡◌, ◌≢◌, ◌⊎◌, ℕ, List, IfOk, IfErr, OnOk, None, Err};
+ghost use Rattle.std.specs.Prelude.{IfOk, IfErr, OnOk, None};
 ghost use Rattle.std.specs.Bool.{OnFalse};
-ghost use Rattle.subsetter_base.specs.declared.error.Error.TheVariants.{OutOfMemory};
 ghost use Rattle.subsetter_base.specs.declared.error.Error.{Error as SpecError};
-ghost use Rattle.subsetter.specs.Bound.{IsWithin};
 ghost use Rattle.subsetter.specs.Glyf.BareOutlines.Instructions.{HasNoInstructions};
 ghost use Rattle.subsetter.specs.Limits.{token_limit, depth_limit};
 ghost use Rattle.subsetter_sfnt.specs.Extras.{all_extras};
@@ -13,7 +11,8 @@ ghost use Rattle.subsetter_sfnt.specs.Read.{as_font};
 ghost use Rattle.subsetter_variable.specs.Afresh.{HasGlyphsDrawn};
 ghost use Rattle.subsetter_variable.specs.Blended.{HasGlyphsBlended};
 ghost use Rattle.subsetter_variable.specs.DefaultLocation.{IsAtDefault, IsCff2Font};
-ghost use Rattle.subsetter_variable.specs.Subset.{HasOpeningFaultAt, IsSubsetAt, HasFaultAt, IsAnswerAt, HasNoAnswerAt, IsTheAnswerAt};
+ghost use Rattle.subsetter_variable.specs.Promise.{IsPromisedAt};
+ghost use Rattle.subsetter_variable.specs.Subset.{HasOpeningFaultAt};
 
 use crate::default_location::{is_cff2_font, static_font};
 use std::alloc::Global;
@@ -73,26 +72,15 @@ pub fn subset_with_variations(
     coordinates: &[(Tag, i32)],
     mapper: &GlyphRemapper,
 ) -> Result<Vec<u8>, Error>
-    // What is answered is a subset of the font as it is, at its default, or else of an instance of it; of a font with outlines in CFF2
-    // alone it is one of the font with outlines in `CFF ` that is made of it.
-    ensures ok { IfOk result (λ out. IsSubsetAt token_limit depth_limit (font_at «data».now index all_extras) coordinates.now mapper.now out.items) }
+    // What is returned is a subset of the font as it is, at its default, or else of an instance of it; of a font with outlines in CFF2
+    // alone it is one of the font with outlines in `CFF ` that is made of it. What is refused has a fault of that name.
+    ensures promise { IsPromisedAt (λ v. v.items) None token_limit depth_limit (font_at «data».now index all_extras) coordinates.now mapper.now result }
     // Elsewhere than at its default the new font has the mapper's glyphs and no other, in order, each exactly as it is drawn at
     // these coordinates, read afresh.
     ensures drawn { IfOk result (λ out. ¬ (IsAtDefault (font_at «data».now index all_extras) coordinates.now) → HasGlyphsDrawn (font_at «data».now index all_extras) coordinates.now mapper.now out.items) }
     // Of outlines in CFF2 alone the new font has the mapper's glyphs and no other, in order, each with the outline that these have at
     // the coordinates, each coordinate and each edge of a stem rounded once, read afresh.
     ensures drawn_cff { IfOk result (λ out. IsCff2Font (font_at «data».now index all_extras) → HasGlyphsBlended (font_at «data».now index all_extras) coordinates.now mapper.now out.items) }
-    // And then no fault stands, the size limits being judged for the answer's order of glyphs.
-    ensures clean { IfOk result (λ out. (s : IsSubsetAt token_limit depth_limit (font_at «data».now index all_extras) coordinates.now mapper.now out.items) × ((e : SpecError) → ¬ (HasFaultAt None token_limit depth_limit (font_at «data».now index all_extras) coordinates.now mapper.now s.subset.keeps.order e))) }
-    // There is one answer.
-    ensures exact { IfOk result (λ out. IsAnswerAt token_limit depth_limit (font_at «data».now index all_extras) coordinates.now mapper.now out.items) }
-    ensures same { IfOk result (λ out. IsTheAnswerAt (font_at «data».now index all_extras) coordinates.now mapper.now out.items) }
-    // What is refused has a fault of that name.
-    ensures err { IfErr result (λ e. (e ≡ OutOfMemory) ⊎ ((order : List ℕ) × HasFaultAt None token_limit depth_limit (font_at «data».now index all_extras) coordinates.now mapper.now order e)) }
-    // And, unless out of memory, it has no answer: no call answers it within these limits.
-    ensures no_answer { IfErr result (λ e. (e ≡ OutOfMemory) ⊎ HasNoAnswerAt None token_limit depth_limit (font_at «data».now index all_extras) coordinates.now mapper.now) }
-    // Where a fault stands that is found before memory is taken, the answer isn't out of memory.
-    ensures before_memory { (e : SpecError) → HasOpeningFaultAt (font_at «data».now index all_extras) e → result ≢ Err OutOfMemory }
 {
     let limits = Limits::default();
     subset_with_variations_and_limits(alloc, data, index, coordinates, mapper, &limits)
@@ -113,28 +101,15 @@ pub fn subset_with_variations_and_limits(
     mapper: &GlyphRemapper,
     limits: &Limits,
 ) -> Result<Vec<u8>, Error>
-    // What is answered is a subset of the font as it is, at its default, or else of an instance of it; of a font with outlines in CFF2
-    // alone it is one of the font with outlines in `CFF ` that is made of it.
-    ensures ok { IfOk result (λ out. IsSubsetAt limits.now.tokens limits.now.depth (font_at «data».now index all_extras) coordinates.now mapper.now out.items) }
+    // What is returned is a subset of the font as it is, at its default, or else of an instance of it; of a font with outlines in CFF2
+    // alone it is one of the font with outlines in `CFF ` that is made of it. What is refused has a fault of that name.
+    ensures promise { IsPromisedAt (λ v. v.items) limits.now.bytes limits.now.tokens limits.now.depth (font_at «data».now index all_extras) coordinates.now mapper.now result }
     // Elsewhere than at its default the new font has the mapper's glyphs and no other, in order, each exactly as it is drawn at
     // these coordinates, read afresh.
     ensures drawn { IfOk result (λ out. ¬ (IsAtDefault (font_at «data».now index all_extras) coordinates.now) → HasGlyphsDrawn (font_at «data».now index all_extras) coordinates.now mapper.now out.items) }
     // Of outlines in CFF2 alone the new font has the mapper's glyphs and no other, in order, each with the outline that these have at
     // the coordinates, each coordinate and each edge of a stem rounded once, read afresh.
     ensures drawn_cff { IfOk result (λ out. IsCff2Font (font_at «data».now index all_extras) → HasGlyphsBlended (font_at «data».now index all_extras) coordinates.now mapper.now out.items) }
-    // And then no fault stands, the size limits being judged for the answer's order of glyphs.
-    ensures clean { IfOk result (λ out. (s : IsSubsetAt limits.now.tokens limits.now.depth (font_at «data».now index all_extras) coordinates.now mapper.now out.items) × ((e : SpecError) → ¬ (HasFaultAt limits.now.bytes limits.now.tokens limits.now.depth (font_at «data».now index all_extras) coordinates.now mapper.now s.subset.keeps.order e))) }
-    // There is one answer, whatever the limits.
-    ensures exact { IfOk result (λ out. IsAnswerAt limits.now.tokens limits.now.depth (font_at «data».now index all_extras) coordinates.now mapper.now out.items) }
-    ensures same { IfOk result (λ out. IsTheAnswerAt (font_at «data».now index all_extras) coordinates.now mapper.now out.items) }
-    // It has no more bytes than it may have.
-    ensures within { IfOk result (λ out. IsWithin limits.now.bytes out.items) }
-    // What is refused has a fault of that name, or the bound on bytes is set and every answer passes it.
-    ensures err { IfErr result (λ e. (e ≡ OutOfMemory) ⊎ ((order : List ℕ) × HasFaultAt limits.now.bytes limits.now.tokens limits.now.depth (font_at «data».now index all_extras) coordinates.now mapper.now order e)) }
-    // And, unless out of memory, it has no answer: no call answers it within these limits.
-    ensures no_answer { IfErr result (λ e. (e ≡ OutOfMemory) ⊎ HasNoAnswerAt limits.now.bytes limits.now.tokens limits.now.depth (font_at «data».now index all_extras) coordinates.now mapper.now) }
-    // Where a fault stands that is found before memory is taken, the answer isn't out of memory.
-    ensures before_memory { (e : SpecError) → HasOpeningFaultAt (font_at «data».now index all_extras) e → result ≢ Err OutOfMemory }
 {
     let options = Options::keeping_all(*limits);
     subset_with_variations_and_options(alloc, data, index, coordinates, mapper, &options)
@@ -154,28 +129,15 @@ pub fn subset_with_variations_and_options(
     mapper: &GlyphRemapper,
     options: &Options,
 ) -> Result<Vec<u8>, Error>
-    // What is answered is a subset of the font as it is, at its default, or else of an instance of it; of a font with outlines in CFF2
-    // alone it is one of the font with outlines in `CFF ` that is made of it.
-    ensures ok { IfOk result (λ out. IsSubsetAt options.now.limits.tokens options.now.limits.depth (font_at «data».now index options.now.extras) coordinates.now mapper.now out.items) }
+    // What is returned is a subset of the font as it is, at its default, or else of an instance of it; of a font with outlines in CFF2
+    // alone it is one of the font with outlines in `CFF ` that is made of it. What is refused has a fault of that name.
+    ensures promise { IsPromisedAt (λ v. v.items) options.now.limits.bytes options.now.limits.tokens options.now.limits.depth (font_at «data».now index options.now.extras) coordinates.now mapper.now result }
     // Elsewhere than at its default the new font has the mapper's glyphs and no other, in order, each exactly as it is drawn at
     // these coordinates, read afresh.
     ensures drawn { IfOk result (λ out. ¬ (IsAtDefault (font_at «data».now index all_extras) coordinates.now) → HasGlyphsDrawn (font_at «data».now index all_extras) coordinates.now mapper.now out.items) }
     // Of outlines in CFF2 alone the new font has the mapper's glyphs and no other, in order, each with the outline that these have at
     // the coordinates, each coordinate and each edge of a stem rounded once, read afresh.
     ensures drawn_cff { IfOk result (λ out. IsCff2Font (font_at «data».now index all_extras) → HasGlyphsBlended (font_at «data».now index all_extras) coordinates.now mapper.now out.items) }
-    // And then no fault stands, the size limits being judged for the answer's order of glyphs.
-    ensures clean { IfOk result (λ out. (s : IsSubsetAt options.now.limits.tokens options.now.limits.depth (font_at «data».now index options.now.extras) coordinates.now mapper.now out.items) × ((e : SpecError) → ¬ (HasFaultAt options.now.limits.bytes options.now.limits.tokens options.now.limits.depth (font_at «data».now index options.now.extras) coordinates.now mapper.now s.subset.keeps.order e))) }
-    // There is one answer, whatever the limits.
-    ensures exact { IfOk result (λ out. IsAnswerAt options.now.limits.tokens options.now.limits.depth (font_at «data».now index options.now.extras) coordinates.now mapper.now out.items) }
-    ensures same { IfOk result (λ out. IsTheAnswerAt (font_at «data».now index options.now.extras) coordinates.now mapper.now out.items) }
-    // It has no more bytes than it may have.
-    ensures within { IfOk result (λ out. IsWithin options.now.limits.bytes out.items) }
-    // What is refused has a fault of that name, or the bound on bytes is set and every answer passes it.
-    ensures err { IfErr result (λ e. (e ≡ OutOfMemory) ⊎ ((order : List ℕ) × HasFaultAt options.now.limits.bytes options.now.limits.tokens options.now.limits.depth (font_at «data».now index options.now.extras) coordinates.now mapper.now order e)) }
-    // And, unless out of memory, it has no answer: no call answers it within these limits.
-    ensures no_answer { IfErr result (λ e. (e ≡ OutOfMemory) ⊎ HasNoAnswerAt options.now.limits.bytes options.now.limits.tokens options.now.limits.depth (font_at «data».now index options.now.extras) coordinates.now mapper.now) }
-    // Where a fault stands that is found before memory is taken, the answer isn't out of memory.
-    ensures before_memory { (e : SpecError) → HasOpeningFaultAt (font_at «data».now index options.now.extras) e → result ≢ Err OutOfMemory }
     // Without hinting the new font has no instructions, read afresh.
     ensures bare { IfOk result (λ out. OnFalse options.now.extras.hinting (HasNoInstructions (as_font out.items))) }
 {

@@ -6,7 +6,7 @@ import sfnt
 from reading import Line
 
 STATUS = ["DONE", "UNKNOWN_KIND", "MALFORMED_FONT", "UNIMPLEMENTED", "SUBSET_ERROR", "OVERFLOW_ERROR", "CFF_ERROR", "OUT_OF_MEMORY",
-          "BUFFER_TOO_SMALL", "NO_DEPTH", "UNKNOWN_OPTION"]
+          "BUFFER_TOO_SMALL", "NO_DEPTH", "UNKNOWN_OPTION", "NOT_PERMITTED", "INVALID_TEXT", "NO_CMAP", "BITMAPS_ALONE"]
 DROP = {"hinting": 1, "names": 2, "glyph_names": 4}
 # What a row has behind its name, each with what it is where the line doesn't give it (None: the line has to).
 SUBSET, LIMITS, BOUND = ["font", "face", "glyphs"], ["tokens", "depth"], ["most"]
@@ -16,10 +16,10 @@ ROWS = {"subset": SUBSET + NEW, "limits": SUBSET + LIMITS + NEW, "options": SUBS
         "embed_options": SUBSET + LIMITS + ["drop"] + EMBEDDED, "embed_bounded_options": SUBSET + LIMITS + ["drop"] + BOUND + EMBEDDED,
         "subset_at": SUBSET + ["at"] + LIMITS + ["drop"] + BOUND + NEW, "embed_at": SUBSET + ["at"] + LIMITS + ["drop"] + BOUND + EMBEDDED,
         "instance": SUBSET + ["at", "steps"], "advances": SUBSET + ["at", "tokens", "status", "units", "widths", "heights"],
-        "kinds": SUBSET + ["status", "kinds"]}
+        "kinds": SUBSET + ["status", "kinds", "pdf"]}
 DEFAULTS = {"font": None, "face": "0", "glyphs": "-", "tokens": "0", "depth": "0", "drop": "0", "most": "0", "at": "-", "steps": None,
             "status": "DONE", "new": "-", "cids": "-", "widths": "-", "units": "-", "heights": "-",
-            "kinds": "-"}
+            "kinds": "-", "pdf": "DONE"}
 # Rows that are as they are in today's file, but for words `TAG=VALUE` with values in units of the axis.
 PLAIN = {"nearest", "axes", "scalar", "numbers", "deltas", "tuple", "moved", "advance", "read", "written", "fits", "coordinates"}
 
@@ -148,10 +148,11 @@ class Library:
         return " ".join([kind, name, *given.values()])
 
     def gives(self, line, name, given, like):
-        """The status of a row by its number, and its new font."""
-        if given["status"] not in STATUS:
-            line.fails(f"there is no status {given['status']}")
-        given["status"] = str(STATUS.index(given["status"]))
+        """The statuses of a row by their numbers, and its new font."""
+        for key in given.keys() & {"status", "pdf"}:
+            if given[key] not in STATUS:
+                line.fails(f"there is no status {given[key]}")
+            given[key] = str(STATUS.index(given[key]))
         if "new" not in given:
             return
         is_made = like is not None or line.children != []

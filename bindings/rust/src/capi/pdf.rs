@@ -18,6 +18,7 @@ use crate::proved::pdf_font::{
     self as proved, Bounds, Direction, ProgramChoice, ProgramKind, Rights, Usage,
 };
 use crate::proved::pdf_objects::{part_count, write_objects, write_sheet, FontView, Layout};
+use crate::proved::pdf_sheet::{write_lines, SheetLine};
 use crate::proved::pdf_text::{DefaultColumn, Descriptor, FontColumns, FontValues, OwnCmap};
 use crate::proved::subsetter as subsetting;
 use crate::proved::subsetter_variable::check_opening_at;
@@ -472,6 +473,21 @@ impl<'a> FontParts<'a> {
         let shown = entries.shown(&characters)?;
         let layout = if is_grid { Layout::Grid } else { Layout::Line };
         let made = write_sheet(Global, self.view(), &shown, layout);
+        Ok(made.map_err(refused)?.into_inner())
+    }
+
+    /// A whole PDF of runs, each by its operators, and how far the pen goes on.
+    ///
+    /// # Errors
+    ///
+    /// Those of [`Text::sheet`](crate::pdf::Text::sheet) after those of the font.
+    pub fn text_sheet<'b>(
+        &self,
+        runs: impl ExactSizeIterator<Item = (&'b [u8], u32)>,
+    ) -> Result<Vec<u8>, Error> {
+        let mut lines = with_room(runs.len())?;
+        lines.extend(runs.map(|(operators, advance)| SheetLine { operators, advance }));
+        let made = write_lines(Global, self.view().values, &lines);
         Ok(made.map_err(refused)?.into_inner())
     }
 }

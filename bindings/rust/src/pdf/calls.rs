@@ -119,6 +119,7 @@ impl FontError {
                 Self::NotPermitted(Permission::of(permission))
             }
             proved::FontError::TextTooLong => Self::TextTooLong,
+            proved::FontError::BitmapsAlone => Self::BitmapsAlone,
         }
     }
 }
@@ -128,7 +129,7 @@ impl std::error::Error for FontError {
     fn source(&self) -> Option<&(dyn std::error::Error + 'static)> {
         match self {
             Self::Subset(error) => Some(error),
-            Self::NotPermitted(_) | Self::TextTooLong | Self::NoCmap => None,
+            Self::NotPermitted(_) | Self::TextTooLong | Self::NoCmap | Self::BitmapsAlone => None,
         }
     }
 }

@@ -17,6 +17,8 @@ pub enum FontError {
     TextTooLong,
     /// The font has no table by which characters have glyphs.
     NoCmap,
+    /// The font has bitmaps (`CBDT`, `sbix` or `EBDT`) and no outlines.
+    BitmapsAlone,
 }
 
 impl From<Error> for FontError {
@@ -32,6 +34,7 @@ impl fmt::Display for FontError {
             Self::NotPermitted(_) => f.write_str("embedding not permitted"),
             Self::TextTooLong => f.write_str("text too long"),
             Self::NoCmap => f.write_str("no usable cmap in font"),
+            Self::BitmapsAlone => f.write_str("bitmaps alone in font"),
         }
     }
 }

@@ -37,7 +37,6 @@ pub mod cmap;
 #[cfg(feature = "variable-fonts")]
 pub mod font_advances;
 pub mod font_reasons;
-#[cfg(feature = "variable-fonts")]
 pub mod glyph_kinds;
 #[cfg(feature = "program")]
 pub mod glyph_names;

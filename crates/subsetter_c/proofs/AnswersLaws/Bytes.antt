@@ -12,7 +12,9 @@ use Rattle.subsetter.specs.Answer.{IsAnswer, HasNoAnswer, IsTheAnswer}
 use Rattle.subsetter_sfnt.specs.Fault.{HasOpeningFault}
 use Rattle.subsetter.specs.Bound.{IsWithin, HasFaultWithin, HasNoAnswerWithin, in_font}
 use Rattle.subsetter.specs.Fault.{in_opening}
+use Rattle.subsetter.specs.Promise.{IsPromised}
 use Rattle.subsetter.proofs.Headline.{not_memory}
+use Rattle.subsetter.proofs.TwoLimits.{one_answer}
 use Rattle.cid_embed.specs.Embed.{numbering, HasMapperFault, all_asked, unopened}
 use Rattle.subsetter_variable.specs.Subset.{HasOpeningFaultAt}
 use Rattle.subsetter_c.specs.Answers.Handed.{begun_with, IsHandedOver, whole, short, refused, IsAnswered, IsSoundSubset, IsOutOfMemory, IsRefusal, in_numbering, in_subset}
@@ -62,20 +64,23 @@ module _ (bound : Option ℕ) (tokens depth : ℕ) (font : Font) (glyphs : List 
   mapper_refused e (inr (all_asked all)) before = inr (in_numbering all, λ out within a. no_room all out a)
   mapper_refused e (inr (unopened fault)) before = inr (in_subset [] (in_font (in_opening fault)), λ out within a. a.clean e (in_opening fault))
 
-  pub subset_refused : (mapper : List ℕ) (r : Result (Vec ℕ Global) Error) → mapper ≡ numbering glyphs → IfErr r (λ e. (e ≡ OutOfMemory) ⊎ ((order : List ℕ) × HasFaultWithin bound tokens depth font mapper order e)) → IfErr r (λ e. (e ≡ OutOfMemory) ⊎ HasNoAnswerWithin bound tokens depth font mapper) → ((why : Error) → HasOpeningFault font why → r ≡ Err OutOfMemory → ⊥) → IfErr r (IsRefusal bound tokens depth font glyphs)
-  subset_refused mapper (Ok v) m h none before = h
-  subset_refused mapper (Err e) m (inl memory) none before = inl (wanting (HasOpeningFault font) e memory before)
-  subset_refused mapper (Err e) m (inr fault) (inl memory) before = inl (wanting (HasOpeningFault font) e memory before)
-  subset_refused mapper (Err e) m (inr fault) (inr none) before =
+  refused_by : (mapper : List ℕ) (r : Result (Vec ℕ Global) Error) → mapper ≡ numbering glyphs → IfErr r (λ e. (e ≡ OutOfMemory) ⊎ ((order : List ℕ) × HasFaultWithin bound tokens depth font mapper order e)) → IfErr r (λ e. (e ≡ OutOfMemory) ⊎ HasNoAnswerWithin bound tokens depth font mapper) → ((why : Error) → HasOpeningFault font why → r ≡ Err OutOfMemory → ⊥) → IfErr r (IsRefusal bound tokens depth font glyphs)
+  refused_by mapper (Ok v) m h none before = h
+  refused_by mapper (Err e) m (inl memory) none before = inl (wanting (HasOpeningFault font) e memory before)
+  refused_by mapper (Err e) m (inr fault) (inl memory) before = inl (wanting (HasOpeningFault font) e memory before)
+  refused_by mapper (Err e) m (inr fault) (inr none) before =
       inr (in_subset fault.0 (subst (λ (l : List ℕ). HasFaultWithin bound tokens depth font l fault.0 e) m fault.1), subst (HasNoAnswerWithin bound tokens depth font) m none)
 
-  pub subset_sound : (mapper : List ℕ) (r : Result (Vec ℕ Global) Error) → mapper ≡ numbering glyphs → IfOk r (λ v. IsAnswer tokens depth font mapper v.items) → IfOk r (λ v. IsTheAnswer font mapper v.items) → IfOk r (λ v. IsWithin bound v.items) → IfOk r (λ v. IsSoundSubset bound tokens depth font glyphs v.items)
-  subset_sound mapper (Ok v) m exact same within = record {
-    within = within;
-    answer = subst (λ (l : List ℕ). IsAnswer tokens depth font l v.items) m exact;
-    same = subst (λ (l : List ℕ). IsTheAnswer font l v.items) m same;
+  pub subset_refused : (mapper : List ℕ) (r : Result (Vec ℕ Global) Error) → mapper ≡ numbering glyphs → IsPromised (λ v. v.items) bound tokens depth font mapper r → IfErr r (IsRefusal bound tokens depth font glyphs)
+  subset_refused mapper r m p = refused_by mapper r m p.err p.no_answer p.before_memory
+
+  pub subset_sound : (mapper : List ℕ) (r : Result (Vec ℕ Global) Error) → mapper ≡ numbering glyphs → IsPromised (λ v. v.items) bound tokens depth font mapper r → IfOk r (λ v. IsSoundSubset bound tokens depth font glyphs v.items)
+  subset_sound mapper (Ok v) m p = record {
+    within = p.within;
+    answer = subst (λ (l : List ℕ). IsAnswer tokens depth font l v.items) m p.exact;
+    same = subst (λ (l : List ℕ). IsTheAnswer font l v.items) m (λ more deeper other b. one_answer font mapper tokens depth more deeper v.items other p.exact b);
   }
-  subset_sound mapper (Err e) m exact same within = exact
+  subset_sound mapper (Err e) m p = tt
 
 -- what holds at limits holds at others that equal them
 pub at_limits : (P : Option ℕ → ℕ → ℕ → Type 0) (bound b : Option ℕ) (tokens t depth d : ℕ) → bound ≡ b → tokens ≡ t → depth ≡ d → P bound tokens depth → P b t d

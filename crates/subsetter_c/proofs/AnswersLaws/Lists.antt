@@ -7,8 +7,8 @@ use Rattle.cid_embed.specs.declared.embedding.Embedded.{Embedded}
 use Rattle.subsetter_sfnt.specs.Read.{Font}
 use Rattle.subsetter_sfnt.specs.Fault.{HasOpeningFault}
 use Rattle.subsetter.specs.Answer.{IsAnswer, IsTheAnswer}
-use Rattle.cid_embed.specs.Embed.{numbering, IsEmbedded, HasEmbedFault, HasEmbedFaultWithin, in_font, IsEmbeddingAnswer, HasNoEmbedding, HasNoEmbeddingWithin}
-use Rattle.subsetter.specs.Bound.{IsWithin}
+use Rattle.cid_embed.specs.Embed.{numbering, IsEmbedded, HasEmbedFaultWithin, IsEmbeddingAnswer, HasNoEmbeddingWithin, IsEmbedPromised}
+use Rattle.subsetter.proofs.TwoLimits.{one_answer}
 use Rattle.subsetter_c.specs.Answers.Embedding.{AreHandedOver, whole, short, refused, Buffers, all_begun, lists_of, IsSoundEmbedding, IsEmbeddingRefusal}
 use Rattle.subsetter_c.specs.Answers.Handed.{begun_with}
 use Rattle.subsetter_c.specs.declared.answers.handing.Sizes.{Sizes}
@@ -51,33 +51,19 @@ module _ (bound : Option ℕ) (tokens depth : ℕ) (font : Font) (glyphs : List 
       let widths : e.widths.items ≡ other.widths.items = same_members e.widths.items other.widths.items (a.widths ∙ sym b.embedded.widths) in
       ap (λ x. make_buffers x e.cids.items e.widths.items) (same more deeper other.font.items b.font_is) ∙ ap (λ x. make_buffers other.font.items x e.widths.items) cids ∙ ap (make_buffers other.font.items other.cids.items) widths
 
-  pub embedding_sound : (r : Result Embedded Error) → IfOk r (λ e. (s : IsEmbedded tokens depth font glyphs e) × ((why : Error) → ¬ (HasEmbedFault tokens depth font glyphs s.subset.keeps.order why))) → IfOk r (λ e. IsAnswer tokens depth font (numbering glyphs) e.font.items) → IfOk r (λ e. IsTheAnswer font (numbering glyphs) e.font.items) → IfOk r (λ e. IsWithin bound e.font.items) → IfOk r (IsSoundEmbedding bound tokens depth font glyphs)
-  embedding_sound (Ok e) clean exact same within = record {
-    within = within;
-    answer = record { embedded = clean.0; clean = clean.1; font_is = exact };
-    same = λ more deeper other b. same_lists more deeper e other clean.0 same b;
+  pub embedding_sound : (r : Result Embedded Error) → IsEmbedPromised bound tokens depth font glyphs r → IfOk r (IsSoundEmbedding bound tokens depth font glyphs)
+  embedding_sound (Ok e) p = record {
+    within = p.within;
+    answer = p.exact;
+    same = λ more deeper other b. same_lists more deeper e other p.exact.embedded (λ n d out a. one_answer font (numbering glyphs) tokens depth n d e.font.items out p.exact.font_is a) b;
   }
-  embedding_sound (Err why) clean exact same within = clean
+  embedding_sound (Err why) p = tt
 
-  pub embedding_refused : (r : Result Embedded Error) → IfErr r (λ why. (why ≡ OutOfMemory) ⊎ ((order : List ℕ) × HasEmbedFaultWithin bound tokens depth font glyphs order why)) → IfErr r (λ why. (why ≡ OutOfMemory) ⊎ HasNoEmbeddingWithin bound tokens depth font glyphs) → ((e : Error) → HasOpeningFault font e → r ≡ Err OutOfMemory → ⊥) → IfErr r (IsEmbeddingRefusal bound tokens depth font glyphs)
-  embedding_refused (Ok e) fault none before = fault
-  embedding_refused (Err why) (inl memory) none before = inl (wanting (HasOpeningFault font) why memory before)
-  embedding_refused (Err why) (inr fault) (inl memory) before = inl (wanting (HasOpeningFault font) why memory before)
-  embedding_refused (Err why) (inr fault) (inr none) before = inr (fault, none)
+  refused_by : (r : Result Embedded Error) → IfErr r (λ why. (why ≡ OutOfMemory) ⊎ ((order : List ℕ) × HasEmbedFaultWithin bound tokens depth font glyphs order why)) → IfErr r (λ why. (why ≡ OutOfMemory) ⊎ HasNoEmbeddingWithin bound tokens depth font glyphs) → ((e : Error) → HasOpeningFault font e → r ≡ Err OutOfMemory → ⊥) → IfErr r (IsEmbeddingRefusal bound tokens depth font glyphs)
+  refused_by (Ok e) fault none before = fault
+  refused_by (Err why) (inl memory) none before = inl (wanting (HasOpeningFault font) why memory before)
+  refused_by (Err why) (inr fault) (inl memory) before = inl (wanting (HasOpeningFault font) why memory before)
+  refused_by (Err why) (inr fault) (inr none) before = inr (fault, none)
 
--- ---- where no bound is set
-
-module _ (tokens depth : ℕ) (font : Font) (glyphs : List ℕ) where
-  pub unbounded : (r : Result Embedded Error) → IfOk r (λ e. IsWithin None e.font.items)
-  unbounded (Ok e) = tt
-  unbounded (Err why) = tt
-
-  pub unbounded_fault : (r : Result Embedded Error) → IfErr r (λ why. (why ≡ OutOfMemory) ⊎ ((order : List ℕ) × HasEmbedFault tokens depth font glyphs order why)) → IfErr r (λ why. (why ≡ OutOfMemory) ⊎ ((order : List ℕ) × HasEmbedFaultWithin None tokens depth font glyphs order why))
-  unbounded_fault (Ok e) h = tt
-  unbounded_fault (Err why) (inl memory) = inl memory
-  unbounded_fault (Err why) (inr fault) = inr (fault.0, in_font fault.1)
-
-  pub unbounded_none : (r : Result Embedded Error) → IfErr r (λ why. (why ≡ OutOfMemory) ⊎ HasNoEmbedding tokens depth font glyphs) → IfErr r (λ why. (why ≡ OutOfMemory) ⊎ HasNoEmbeddingWithin None tokens depth font glyphs)
-  unbounded_none (Ok e) h = tt
-  unbounded_none (Err why) (inl memory) = inl memory
-  unbounded_none (Err why) (inr none) = inr (λ e within a. none e a)
+  pub embedding_refused : (r : Result Embedded Error) → IsEmbedPromised bound tokens depth font glyphs r → IfErr r (IsEmbeddingRefusal bound tokens depth font glyphs)
+  embedding_refused r p = refused_by r p.err p.no_answer p.before_memory

@@ -5,7 +5,6 @@ use Rattle.std.specs.Option.{option_map}
 use Rattle.subsetter_base.specs.declared.error.Error.{Error}
 use Rattle.subsetter_base.specs.declared.error.Error.TheVariants.{OutOfMemory}
 use Rattle.subsetter_sfnt.specs.Read.{Font}
-use Rattle.subsetter_variable.specs.Subset.{HasOpeningFaultAt}
 use Rattle.text_glyphs.specs.Faces.{face_source}
 use Rattle.text_glyphs.specs.Reading.{Source, entries_of, missing_in}
 use Rattle.text_glyphs.specs.View.{source_view}
@@ -14,7 +13,7 @@ use Rattle.text_glyphs.specs.declared.reading.ReadText.{ReadText}
 use Rattle.text_glyphs.specs.declared.source.TextSource.{TextSource}
 use Rattle.subsetter_c.specs.Answers.Handed.{begun_with}
 use Rattle.subsetter_c.specs.Answers.Status.{no_cmap}
-use Rattle.subsetter_c.specs.Documents.PdfGlyphs.{IsGlyphRefusal}
+use Rattle.subsetter_c.specs.Documents.PdfGlyphs.{IsGlyphRefusal, IsUnread}
 use Rattle.subsetter_c.specs.Documents.Reading.{IsNothingRead, IsReadBy, IsReadHanded, IsReadMade, IsReadOf, ReadBuffers, read_begun, refused, short, whole}
 use Rattle.subsetter_c.specs.declared.documents.reading.ReadSizes.{ReadSizes}
 
@@ -46,7 +45,7 @@ read_handed Said Named answer before after told status ok err = read_as (λ r. a
     (λ e is. subst (λ (a : Result ReadText Error). IfErr a Named) is err)
 
 -- a text is handed over where there is a source, and nothing where there is none
-module _ (font : Font) (clean : (e : Error) → HasOpeningFaultAt font e → ⊥) (text : List ℕ) (before after : ReadBuffers) (told : ReadSizes) (status : ℕ) where
+module _ (font : Font) (clean : (e : Error) → IsUnread font e → ⊥) (text : List ℕ) (before after : ReadBuffers) (told : ReadSizes) (status : ℕ) where
   pub read_made : (r : Option TextSource) → face_source font ≡ option_map source_view r → (r ≡ None → IsNothingRead no_cmap before after told status) → IfSome r (λ s. IsReadHanded (IsReadBy (source_view s) text) (λ e. e ≡ OutOfMemory) before after told status) → IsReadMade font text before after told status
   read_made None e none some = inl (record { opens = clean; none = e }, none refl)
   read_made (Some s) e none some =

@@ -42,6 +42,10 @@ invalid_text = 12
 abbrev pub no_cmap : ℕ
 no_cmap = 13
 
+-- the font has bitmaps and no outlines
+abbrev pub bitmaps_alone : ℕ
+bitmaps_alone = 14
+
 -- there would be more than 65,535 codes
 abbrev pub overfull : ℕ
 overfull = 15
@@ -63,10 +67,11 @@ status_text status =
     else if status == 7 then error_text OutOfMemory
     else if status == too_small then codes "a buffer is too small"
     else if status == no_depth then codes "the limit of the depth is 0"
-    else if status == unknown_option then codes "unknown option"
+    else if status == unknown_option then codes "wrong option, size or text"
     else if status == not_permitted then codes "embedding not permitted"
     else if status == invalid_text then codes "invalid text"
     else if status == no_cmap then codes "no usable cmap in font"
+    else if status == bitmaps_alone then codes "bitmaps alone in font"
     else if status == overfull then codes "too many codes"
     else if status == invalid_numbers then codes "invalid numbers"
     else codes "unknown status"

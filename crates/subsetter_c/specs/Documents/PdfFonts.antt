@@ -18,14 +18,14 @@ use Rattle.pdf_values.specs.declared.permission.Usage.{Usage}
 use Rattle.pdf_values.specs.declared.permission.Usage.TheVariants.{Unsaid, Installable, Editable, PreviewAndPrint, Restricted}
 use Rattle.pdf_source.specs.declared.choice.FontOptions.{FontOptions}
 use Rattle.pdf_font.specs.First.{CanBeOpened}
-use Rattle.pdf_font.specs.PdfFont.{HasFontFault, HasNoPdfFont, IsPdfFont, font_of}
+use Rattle.pdf_font.specs.PdfFont.{HasFontFault, HasNoPdfFont, IsPdfFont, font_of, has_bitmaps_alone}
 use Rattle.pdf_font.specs.declared.error.FontError.{FontError}
-use Rattle.pdf_font.specs.declared.error.FontError.TheVariants.{Subset, NotPermitted, TextTooLong}
+use Rattle.pdf_font.specs.declared.error.FontError.TheVariants.{Subset, NotPermitted, TextTooLong, BitmapsAlone}
 use Rattle.pdf_font.specs.declared.font.PdfFont.{PdfFont}
 use Rattle.subsetter_pdf_c.specs.declared.made.PdfMade.{PdfMade}
 use Rattle.subsetter_pdf_c.specs.declared.made.PdfNumbers.{PdfNumbers}
 use Rattle.subsetter_c.specs.Documents.PdfOptions.{AreFontOptionsChosen}
-use Rattle.subsetter_c.specs.Answers.Status.{invalid_text, not_permitted, status_of}
+use Rattle.subsetter_c.specs.Answers.Status.{bitmaps_alone, invalid_text, not_permitted, status_of}
 
 -- ---- numbers
 
@@ -138,13 +138,16 @@ abbrev pub refusal_status : FontError → ℕ
 refusal_status (Subset e) = status_of e
 refusal_status (NotPermitted permission) = not_permitted
 refusal_status TextTooLong = invalid_text
+refusal_status BitmapsAlone = bitmaps_alone
 
 -- why there is no font
 pub record IsFontRefused (font : Font) (settings : List (Tag × ℤ)) (options : FontOptions) (us : List Used) (e : FontError) : Type 0 where
   -- memory ran out, or the font or the request has a fault of that name, and then no call answers a font
   pub why : (e ≡ Subset OutOfMemory) ⊎ (((order : List ℕ) × HasFontFault font settings options us order e) × HasNoPdfFont font settings options us)
-  -- a font that can't be opened is refused for that, also without memory
-  pub unopened : (fault : Error) → HasOpeningFaultAt font fault → (d : Error) × (e ≡ Subset d) × HasOpeningFaultAt font d
+  -- a font of bitmaps alone is refused for that, also without memory
+  pub bitmaps : has_bitmaps_alone font ≡ true → e ≡ BitmapsAlone
+  -- and another that can't be opened
+  pub unopened : has_bitmaps_alone font ≡ false → (fault : Error) → HasOpeningFaultAt font fault → (d : Error) × (e ≡ Subset d) × HasOpeningFaultAt font d
   -- then one that `fsType` forbids, unless memory ran out
   pub forbidden : CanBeOpened font → is_permitted (permission (stored font (codes "OS/2"))) options.rights ≡ false → (e ≡ Subset OutOfMemory) ⊎ (e ≡ NotPermitted (permission (stored font (codes "OS/2"))))
   -- then one with a text that is too long

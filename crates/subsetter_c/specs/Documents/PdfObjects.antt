@@ -4,7 +4,8 @@ use Rattle.subsetter_base.specs.declared.error.Error.{Error}
 use Rattle.subsetter_base.specs.declared.error.Error.TheVariants.{OutOfMemory, OverflowError}
 use Rattle.pdf_sheet.specs.declared.frame.Layout.{Layout}
 use Rattle.pdf_sheet.specs.declared.frame.Layout.TheVariants.{Line, Grid}
-use Rattle.subsetter_pdf_c.specs.Written.{AreObjectsOf, HaveNoNumbers, IsSheetOf, IsTooLargeFor}
+use Rattle.pdf_sheet.specs.declared.lines.SheetLine.{SheetLine}
+use Rattle.subsetter_pdf_c.specs.Written.{AreLinesOf, AreObjectsOf, AreTooLargeFor, HaveNoNumbers, IsSheetOf, IsTooLargeFor}
 use Rattle.subsetter_pdf_c.specs.declared.made.PdfMade.{PdfMade}
 use Rattle.subsetter_c.specs.Answers.Status.{status_of}
 use Rattle.subsetter_c.specs.declared.documents.pdf_files.ObjectsMade.{ObjectsMade}
@@ -36,3 +37,7 @@ layout_of n = if n == 0 then Line else Grid
 -- a sheet of a font, and no offsets
 abbrev pub IsSheetWritten : PdfMade → List (List ℕ) → Layout → ObjectsMade → ℕ → Type 0
 IsSheetWritten font texts layout = IsWritten (λ bytes offsets. IsSheetOf font texts layout bytes × (offsets ≡ [])) (λ e. (e ≡ OutOfMemory) ⊎ ((e ≡ OverflowError) × IsTooLargeFor font texts layout))
+
+-- lines of a font with these bytes of CIDToGIDMap, and no offsets
+abbrev pub AreLinesWritten : PdfMade → List ℕ → List SheetLine → ObjectsMade → ℕ → Type 0
+AreLinesWritten font map lines = IsWritten (λ bytes offsets. AreLinesOf font map lines bytes × (offsets ≡ [])) (λ e. (e ≡ OutOfMemory) ⊎ ((e ≡ OverflowError) × AreTooLargeFor font map lines))

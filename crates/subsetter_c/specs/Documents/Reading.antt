@@ -2,14 +2,13 @@
 use Rattle.std.specs.Prelude.{◌≡◌, ◌⊎◌, ◌≤◌, ℕ, List, length, Some}
 use Rattle.subsetter_base.specs.declared.error.Error.{Error}
 use Rattle.subsetter_sfnt.specs.Read.{Font}
-use Rattle.subsetter_variable.specs.Subset.{HasOpeningFaultAt}
 use Rattle.text_glyphs.specs.Faces.{face_source}
 use Rattle.text_glyphs.specs.Reading.{Source, entries_of, missing_in}
 use Rattle.text_glyphs.specs.declared.reading.Entry.{Entry}
 use Rattle.text_glyphs.specs.declared.reading.ReadText.{ReadText}
 use Rattle.subsetter_c.specs.Answers.Handed.{begun_with}
 use Rattle.subsetter_c.specs.Answers.Status.{no_cmap, status_of, too_small}
-use Rattle.subsetter_c.specs.Documents.PdfGlyphs.{HasNoCmap, IsGlyphRefusal}
+use Rattle.subsetter_c.specs.Documents.PdfGlyphs.{HasNoCmap, IsGlyphRefusal, IsUnread}
 use Rattle.subsetter_c.specs.declared.documents.reading.ReadSizes.{ReadSizes}
 
 pub record ReadBuffers : Type 0 where
@@ -51,7 +50,7 @@ pub record IsReadBy (s : Source) (text : List ℕ) (r : ReadText) : Type 0 where
 
 -- the same by the tables of a font
 pub record IsReadOf (font : Font) (text : List ℕ) (r : ReadText) : Type 0 where
-  pub opens : (e : Error) → ¬ (HasOpeningFaultAt font e)
+  pub opens : (e : Error) → ¬ (IsUnread font e)
   pub source : Source
   pub found : face_source font ≡ Some source
   pub are : IsReadBy source text r

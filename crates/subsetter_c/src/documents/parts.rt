@@ -1,18 +1,19 @@
-//! The parts and the objects of a font, handed to C.
+//! The parts, the objects and a sheet of a font, handed to C.
 
 ghost use Rattle.std.specs.Prelude.{◌≡◌, ◌≢◌, Err};
 ghost use Rattle.subsetter_pdf_c.specs.Written.{ArePartsOf, HasNoPartsOf, IsPartCount};
-ghost use Rattle.subsetter_c.specs.Documents.PdfObjects.{AreObjectsWritten, IsNoneWritten};
+ghost use Rattle.subsetter_c.specs.Documents.PdfObjects.{AreLinesWritten, AreObjectsWritten, IsNoneWritten};
 ghost use Rattle.subsetter_c.specs.Documents.Parts.{AreNoParts, ArePartsAnswered, ArePartsHanded, parts_status};
 ghost use Rattle.subsetter_c.specs.Documents.Whole.{own_size};
 ghost use Rattle.subsetter_c.specs.Answers.Status.{unknown_option};
 
 use crate::answers::kept::kept_parts;
 use crate::answers::status::{DONE, INVALID_NUMBERS, UNKNOWN_OPTION, status_of};
-use crate::documents::pdf_files::{ObjectsMade, hand_objects, nothing};
+use crate::documents::pdf_files::{ObjectsMade, hand_file, hand_objects, nothing};
 use crate::documents::whole::{FontMade, SIZE};
+use pdf_sheet::SheetLine;
 use std::alloc::Global;
-use subsetter_pdf_c::{PartsError, PdfPart, part_count, parts_of, write_objects};
+use subsetter_pdf_c::{PartsError, PdfPart, lines_of, part_count, parts_of, write_objects};
 
 /// All parts of a font, which the caller reads, and gives back by `subsetter_free_pdf_parts`.
 #[derive(Drop)]
@@ -107,4 +108,25 @@ pub extern "C" fn subsetter_make_objects(
     }
     let answer = write_objects(alloc, &font.pdf, font.cid_to_gid_map, first);
     hand_objects(answer, made)
+}
+
+/// A whole PDF file that shows lines of a font by their operators, each on a page of its own, in memory of the library.
+///
+/// Status 0: `made` is the file, without offsets. Another status: it is empty. Status 10: the size of the font is unknown.
+/// Status 5 or 7: an error.
+#[unsafe(no_mangle)]
+pub extern "C" fn subsetter_make_text_sheet(
+    alloc: Global,
+    font: &FontMade,
+    lines: &[SheetLine<'_>],
+    made: &mut ObjectsMade,
+) -> u32
+    ensures sized { font.now.size ≢ own_size → IsNoneWritten unknown_option made.new result }
+    ensures made { font.now.size ≡ own_size → AreLinesWritten font.now.pdf font.now.cid_to_gid_map.now lines.now made.new result }
+{
+    if font.size != SIZE {
+        *made = nothing();
+        return UNKNOWN_OPTION;
+    }
+    hand_file(lines_of(alloc, &font.pdf, font.cid_to_gid_map, lines), made)
 }

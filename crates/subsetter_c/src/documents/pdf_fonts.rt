@@ -13,8 +13,9 @@ ghost use Rattle.subsetter_c.specs.Documents.PdfFonts.{AreNumbersOf, IsEmpty, Is
 ghost use Rattle.subsetter_c.specs.Settings.{settings_of};
 
 use crate::answers::kept::{kept_bytes, kept_columns, kept_flags, kept_shorts, kept_words};
-use crate::answers::status::{DONE, INVALID_TEXT, NOT_PERMITTED, status_of};
+use crate::answers::status::{BITMAPS_ALONE, DONE, INVALID_TEXT, NOT_PERMITTED, status_of};
 use crate::settings::{Coordinate, settings_for};
+use glyph_kinds::bitmaps_alone;
 use pdf_font::{
     Column, Columns, FontError, FontOptions, NamedCmap, PdfFont, ProgramKind, Shown, Usage,
     pdf_font,
@@ -238,6 +239,7 @@ pub fn refusal_status(error: FontError) -> u32
         FontError::Subset(error) => status_of(error),
         FontError::NotPermitted(_) => NOT_PERMITTED,
         FontError::TextTooLong => INVALID_TEXT,
+        FontError::BitmapsAlone => BITMAPS_ALONE,
     }
 }
 
@@ -334,6 +336,9 @@ pub fn font_for(
     ensures ok { IfOk result (λ f. IsPdfFont (font_of font.now index options.now) (settings_of coordinates.now) options.now (uses_in glyphs.now text.now ends.now) f) }
     ensures err { IfErr result (λ e. IsFontRefused (font_of font.now index options.now) (settings_of coordinates.now) options.now (uses_in glyphs.now text.now ends.now) e) }
 {
+    if bitmaps_alone(font, index).is_some() {
+        return Err(FontError::BitmapsAlone);
+    }
     let extras = options.extras();
     let ready = match prepare(alloc, font, index, coordinates, text, extras) {
         Ok(ready) => ready,

@@ -7,12 +7,12 @@ ghost use Rattle.subsetter_base.specs.declared.error.Error.{Error as SpecError};
 ghost use Rattle.subsetter_base.specs.declared.error.Error.TheVariants.{OutOfMemory};
 ghost use Rattle.subsetter_sfnt.specs.Extras.{all_extras};
 ghost use Rattle.subsetter_sfnt.specs.FontAt.{font_at};
-ghost use Rattle.subsetter_variable.specs.Subset.{HasOpeningFaultAt};
 ghost use Rattle.text_glyphs.specs.Choice.{character_glyph};
 ghost use Rattle.text_glyphs.specs.Faces.{face_source};
 ghost use Rattle.text_glyphs.specs.View.{source_view};
 ghost use Rattle.subsetter_pdf_c.specs.Entries.{are_scalars};
 ghost use Rattle.subsetter_pdf_c.specs.Texts.{one_each};
+ghost use Rattle.subsetter_c.specs.Documents.PdfGlyphs.{IsUnread};
 ghost use Rattle.subsetter_c.specs.Documents.PdfOptions.{AreFontWordsKnown};
 ghost use Rattle.subsetter_c.specs.Documents.Texts.{IsTextHandedBy, IsTextMade};
 ghost use Rattle.subsetter_c.specs.Documents.Whole.{IsNoWholeMade, own_size};
@@ -64,7 +64,7 @@ fn make_by(
     made: &mut FontMade,
 ) -> u32
     requires found { face_source (font_at font.now index all_extras) ≡ Some (source_view source.now) }
-    requires opens { (e : SpecError) → ¬ (HasOpeningFaultAt (font_at font.now index all_extras) e) }
+    requires opens { (e : SpecError) → ¬ (IsUnread (font_at font.now index all_extras) e) }
     ensures { IsTextHandedBy font.now index (settings_of coordinates.now) text.now options.now made.new result }
 {
     match looked_up(alloc, source, text) {
@@ -98,7 +98,7 @@ fn make_if_mapped(
     made: &mut FontMade,
 ) -> u32
     requires found { face_source (font_at font.now index all_extras) ≡ option_map source_view source }
-    requires opens { (e : SpecError) → ¬ (HasOpeningFaultAt (font_at font.now index all_extras) e) }
+    requires opens { (e : SpecError) → ¬ (IsUnread (font_at font.now index all_extras) e) }
     ensures { IsTextHandedBy font.now index (settings_of coordinates.now) text.now options.now made.new result }
 {
     match source {

@@ -74,12 +74,21 @@ fn no_mapping(font: &[u8], index: u32) -> Option<Reason> {
     no_cmap(font, index).or(no_unicode(font, index))
 }
 
+/// Whether a face with outlines in `glyf` has no `maxp`.
+fn no_maxp(font: &[u8], index: u32) -> Option<Reason> {
+    match table(font, index, Tag::GLYF) {
+        Some(_) => no_table(font, index, Tag::MAXP),
+        None => None,
+    }
+}
+
 /// Whether a face lacks what this call needs and others don't.
 fn lacks(call: Call, font: &[u8], index: u32) -> Option<Reason> {
     match call {
         Call::Subset | Call::SubsetAt => None,
         Call::GlyphsOf => no_mapping(font, index),
-        Call::Embed | Call::EmbedAt | Call::PdfFont | Call::Advances => no_widths(font, index),
+        Call::PdfFont => no_widths(font, index).or(no_maxp(font, index)),
+        Call::Embed | Call::EmbedAt | Call::Advances => no_widths(font, index),
     }
 }
 

@@ -2,7 +2,7 @@
 //! What is wrong with a file as a whole: its first bytes, its table directory, and tables that end past the end of the file.
 
 use crate::proved::font_reasons::reason::Reason;
-use crate::proved::subsetter_base::read::Reader;
+use crate::proved::subsetter_base::read::{number_at, Reader};
 use crate::proved::subsetter_base::Tag;
 use crate::proved::subsetter_sfnt::directory::{find_record, header_offset, kind_at, records};
 use crate::proved::subsetter_sfnt::face::{TableRecord, TTC_TAG};
@@ -11,6 +11,14 @@ use crate::proved::subsetter_sfnt::face::{TableRecord, TTC_TAG};
 const WOFF: u32 = 0x774F4646;
 /// What a WOFF2 begins with: `wOF2`.
 const WOFF2: u32 = 0x774F4632;
+/// What a Type 1 font begins with: `%!`, or the mark of a segment of ASCII.
+const TYPE_1: u16 = 0x2521;
+
+const TYPE_1_SEGMENT: u16 = 0x8001;
+/// MagicNumber of an EOT, low byte first, and its offset in bytes.
+const EOT: u16 = 0x4C50;
+
+const EOT_MAGIC: usize = 34;
 /// The offset of numFonts in the header of a collection, in bytes.
 const NUM_FONTS: usize = 8;
 
@@ -48,6 +56,23 @@ fn no_face(font: &[u8], index: u32) -> Option<Reason> {
     Some(Reason::NoFace(index, count))
 }
 
+/// What a file is that begins as no font does, by the number where EOT has its own.
+fn by_magic(magic: Option<u16>) -> Reason {
+    match magic {
+        Some(EOT) => Reason::Eot,
+        _ => Reason::NotFont,
+    }
+}
+
+/// The same by its first number, too.
+fn other_format(front: Option<u16>, magic: Option<u16>) -> Reason {
+    match front {
+        Some(TYPE_1) => Reason::Type1,
+        Some(TYPE_1_SEGMENT) => Reason::Type1,
+        _ => by_magic(magic),
+    }
+}
+
 /// Whether a file begins as no font does.
 fn not_font(font: &[u8]) -> Option<Reason> {
     if font.len() == 0 {
@@ -55,7 +80,7 @@ fn not_font(font: &[u8]) -> Option<Reason> {
     }
     match kind_at(font, 0) {
         Some(_) => None,
-        None => Some(Reason::NotFont),
+        None => Some(other_format(number_at(font, 0), number_at(font, EOT_MAGIC))),
     }
 }
 

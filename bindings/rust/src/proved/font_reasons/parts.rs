@@ -3,6 +3,7 @@
 
 use crate::proved::font_reasons::file::missing_table;
 use crate::proved::font_reasons::reason::Reason;
+use crate::proved::glyph_kinds::{bitmaps_alone, has_outlines};
 use crate::proved::subsetter_base::Tag;
 use crate::proved::subsetter_sfnt::directory::table;
 use crate::proved::subsetter_sfnt::fields::hhea::number_of_h_metrics;
@@ -98,15 +99,18 @@ pub fn no_metric(font: &[u8], index: u32, glyphs: &[u16]) -> Option<Reason> {
     first_without_metric(hmtx, count, glyphs)
 }
 
+/// That a face has none of the tables that have outlines, but bitmaps in this table, if one is given.
+fn bare_reason(bitmaps: Option<Tag>) -> Reason {
+    match bitmaps {
+        Some(tag) => Reason::BitmapsAlone(tag),
+        None => Reason::NoOutlines,
+    }
+}
+
 /// Whether a face has none of the tables that have outlines.
 pub fn no_outlines(font: &[u8], index: u32) -> Option<Reason> {
-    let outlines = (
-        table(font, index, Tag::GLYF),
-        table(font, index, Tag::CFF),
-        table(font, index, Tag::CFF2),
-    );
-    match outlines {
-        (None, None, None) => Some(Reason::NoOutlines),
-        _ => None,
+    if has_outlines(font, index) {
+        return None;
     }
+    Some(bare_reason(bitmaps_alone(font, index)))
 }

@@ -11,6 +11,10 @@ pub enum Reason {
     Woff,
     /// The file is a WOFF2.
     Woff2,
+    /// The file is a Type 1 font.
+    Type1,
+    /// The file is an Embedded OpenType file.
+    Eot,
     /// The file begins as no font does.
     NotFont,
     /// The file has no bytes.
@@ -25,6 +29,8 @@ pub enum Reason {
     Cut(Tag, u64, u64),
     /// The face has none of the tables that have outlines.
     NoOutlines,
+    /// The face has none of these, and bitmaps in this table.
+    BitmapsAlone(Tag),
     /// The face has no glyph of this number, but this many glyphs.
     NoGlyph(u16, u16),
     /// The face has no table of this tag.
@@ -85,6 +91,7 @@ impl Reason {
         match self {
             Reason::Cut(tag, _, _) => Some(tag),
             Reason::NoTable(tag) => Some(tag),
+            Reason::BitmapsAlone(tag) => Some(tag),
             Reason::NoGlyph(_, _) => Some(Tag::MAXP),
             Reason::NoEntries(_) => Some(Tag::LOCA),
             Reason::Descends(_) => Some(Tag::LOCA),
@@ -173,6 +180,30 @@ impl fmt::Display for GlyphText {
     }
 }
 
+/// The name of a table.
+#[derive(Clone, Copy)]
+struct TableName(Tag);
+
+/// The name of a table, without a blank at its end.
+fn table_name(tag: &Tag) -> &str {
+    let bytes = tag.get();
+    let name = if bytes[3] == b' ' {
+        &bytes[..3]
+    } else {
+        &bytes[..]
+    };
+    match crate::rattle::str::from_utf8(name) {
+        Ok(text) => text,
+        Err(_) => "...",
+    }
+}
+
+impl fmt::Display for TableName {
+    fn fmt(&self, f: &mut fmt::Formatter<'_>) -> fmt::Result {
+        f.write_str(table_name(&self.0))
+    }
+}
+
 /// That a table ends at a byte, past the end of a file of this many.
 #[derive(Clone, Copy)]
 struct CutText(Tag, u64, u64);
@@ -180,9 +211,10 @@ struct CutText(Tag, u64, u64);
 impl fmt::Display for CutText {
     fn fmt(&self, f: &mut fmt::Formatter<'_>) -> fmt::Result {
         let CutText(tag, end, size) = *self;
+        let name = TableName(tag);
         write!(
             f,
-            "the file is cut: table {tag} ends at byte {end}, the file at {size}"
+            "the file is cut: table {name} ends at byte {end}, the file at {size}"
         )
     }
 }
@@ -208,7 +240,8 @@ struct ShortText(Tag, u64, u64);
 impl fmt::Display for ShortText {
     fn fmt(&self, f: &mut fmt::Formatter<'_>) -> fmt::Result {
         let ShortText(tag, size, needed) = *self;
-        write!(f, "{tag}: {size} bytes, needs {needed}")
+        let name = TableName(tag);
+        write!(f, "{name}: {size} bytes, needs {needed}")
     }
 }
 
@@ -219,7 +252,8 @@ struct AxesText(Tag, u16, u16);
 impl fmt::Display for AxesText {
     fn fmt(&self, f: &mut fmt::Formatter<'_>) -> fmt::Result {
         let AxesText(tag, count, axes) = *self;
-        write!(f, "{tag}: axisCount is {count}, that of fvar {axes}")
+        let name = TableName(tag);
+        write!(f, "{name}: axisCount is {count}, that of fvar {axes}")
     }
 }
 
@@ -264,6 +298,8 @@ impl fmt::Display for Reason {
         match *self {
             Reason::Woff => f.write_str("a WOFF file: unpack it first"),
             Reason::Woff2 => f.write_str("a WOFF2 file: unpack it first"),
+            Reason::Type1 => f.write_str("a Type 1 font: convert it to OpenType first"),
+            Reason::Eot => f.write_str("an EOT file: convert it to OpenType first"),
             Reason::NotFont => f.write_str(
                 "not a font: its first bytes are none of TrueType, OpenType, a collection",
             ),
@@ -276,8 +312,15 @@ impl fmt::Display for Reason {
             Reason::CutDirectory => f.write_str("the file is cut in its table directory"),
             Reason::Cut(tag, end, size) => write!(f, "{}", CutText(tag, end, size)),
             Reason::NoOutlines => f.write_str("the face has no table glyf, CFF or CFF2"),
+            Reason::BitmapsAlone(tag) => {
+                write!(
+                    f,
+                    "{}: the face has bitmaps and no outlines",
+                    TableName(tag)
+                )
+            }
             Reason::NoGlyph(glyph, count) => write!(f, "{}", GlyphText(glyph, count)),
-            Reason::NoTable(tag) => write!(f, "the face has no table {tag}"),
+            Reason::NoTable(tag) => write!(f, "the face has no table {}", TableName(tag)),
             Reason::NoEntries(glyph) => {
                 let text = Between("glyph ", u32::from(glyph), ": loca has no entries for it");
                 write!(f, "{text}")
@@ -337,7 +380,9 @@ impl fmt::Display for Reason {
             ),
             Reason::OnlyCff2 => f.write_str("CFF2: its outlines are taken at coordinates alone"),
             Reason::Forbidden(fs_type, bit) => write!(f, "{}", ForbiddenText(fs_type, bit)),
-            Reason::OtherVersion(tag) => write!(f, "{tag}: its major version isn't 1"),
+            Reason::OtherVersion(tag) => {
+                write!(f, "{}: its major version isn't 1", TableName(tag))
+            }
             Reason::AxisSize(size) => {
                 let text = Between("fvar: axisSize is ", u32::from(size), ", needs 20");
                 write!(f, "{text}")

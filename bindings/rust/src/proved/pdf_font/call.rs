@@ -2,6 +2,7 @@
 //! The call.
 
 use crate::proved::cid_embed_at::embed_with_variations_and_options;
+use crate::proved::glyph_kinds::bitmaps_alone;
 use crate::proved::pdf_codes::{glyphs_of, has_long_text, Shown};
 use crate::proved::pdf_font::error::FontError;
 use crate::proved::pdf_font::font::{filled, PdfFont};
@@ -67,6 +68,8 @@ fn made(
 ///
 /// The first of these that comes:
 ///
+/// - `BitmapsAlone`: the font has bitmaps (`CBDT` with `CBLC`, `sbix`, or `EBDT` with `EBLC`) and no outlines (`glyf`, `CFF `,
+///   `CFF2`).
 /// - `Subset`: the font can't be opened.
 /// - `NotPermitted`: `fsType` forbids it, and the caller holds no rights.
 /// - `TextTooLong`: a text has more than 256 UTF-16 units.
@@ -80,6 +83,9 @@ pub fn pdf_font(
     shown: &[Shown<'_>],
     options: &FontOptions,
 ) -> Result<PdfFont, FontError> {
+    if bitmaps_alone(data, index).is_some() {
+        return Err(FontError::BitmapsAlone);
+    }
     let face = match opened_face(data, index, options.extras()) {
         Ok(face) => face,
         Err(error) => return Err(FontError::Subset(error)),

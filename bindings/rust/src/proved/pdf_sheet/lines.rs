@@ -9,8 +9,9 @@ use crate::proved::pdf_text::write_count;
 use crate::proved::subsetter_base::Error;
 use crate::rattle::alloc::Global;
 
-/// A line of a sheet.
+/// A line of a sheet. C has it as it is.
 #[derive(Clone, Copy)]
+#[repr(C)]
 pub struct SheetLine<'a> {
     /// What shows it in a text object, where the font has 36 points.
     pub operators: &'a [u8],

@@ -42,6 +42,7 @@ fn font_for(
         Err(FontError::Subset(error)) => Err(SheetError::Font(error)),
         Err(FontError::NotPermitted(permission)) => Err(SheetError::NotPermitted(permission)),
         Err(FontError::TextTooLong) => Err(SheetError::TextTooLong),
+        Err(FontError::BitmapsAlone) => Err(SheetError::Font(Error::UnknownKind)),
     }
 }
 

@@ -4,8 +4,10 @@ use Rattle.subsetter_sfnt.specs.Read.{Font, table_in}
 use Rattle.subsetter_variable.specs.Afresh.{HasGlyphsDrawn}
 use Rattle.subsetter_variable.specs.Blended.{HasGlyphsBlended}
 use Rattle.subsetter_variable.specs.DefaultLocation.{IsAtDefault, IsCff2Font}
-use Rattle.subsetter_variable.specs.Subset.{IsTheAnswerAt, whole}
+use Rattle.subsetter_variable.specs.Subset.{whole}
 use Rattle.cid_embed.specs.Embed.{numbering}
+use Rattle.cid_embed_at.proofs.AtPlace.{one_font}
+use Rattle.pdf_codes.specs.Codes.{glyphs_of}
 use Rattle.pdf_codes.specs.Shown.{uses_of}
 use Rattle.pdf_source.specs.Made.{made_seen}
 use Rattle.pdf_font.specs.PdfFont.{font_of}
@@ -18,14 +20,14 @@ returns-in_err-embedded-clause-err c =
     let p = err_from_is_err_and c.from_residual-in_err-embedded.result c.from_residual-in_err-embedded.ensures.1 in
     let font : Font = font_of c.args.«data».now c.args.index c.args.options.now in
     let eg = c.deref.ensures.value ∙ c.in_ok-glyphs.ensures.ok in
-    rw (p.1, p.2) (embed_refused font c.args.coordinates.now c.args.options.now (uses_of c.args.shown.now) c.deref.result.now eg c.in_err-embedded.field-0.0 c.in_err-embedded.ensures.err)
+    rw (p.1, p.2) (embed_refused font c.args.coordinates.now c.args.options.now (uses_of c.args.shown.now) c.deref.result.now eg c.in_err-embedded.field-0.0 c.in_err-embedded.ensures.promise.err)
 
 pub returns-in_err-embedded-clause-no_answer : goal.returns-in_err-embedded-clause-no_answer
 returns-in_err-embedded-clause-no_answer c =
     let p = err_from_is_err_and c.from_residual-in_err-embedded.result c.from_residual-in_err-embedded.ensures.1 in
     let font : Font = font_of c.args.«data».now c.args.index c.args.options.now in
     let eg = c.deref.ensures.value ∙ c.in_ok-glyphs.ensures.ok in
-    rw (p.1, p.2) (embed_final font c.args.coordinates.now c.args.options.now (uses_of c.args.shown.now) c.deref.result.now eg c.in_err-embedded.field-0.0 c.in_err-embedded.ensures.no_answer)
+    rw (p.1, p.2) (embed_final font c.args.coordinates.now c.args.options.now (uses_of c.args.shown.now) c.deref.result.now eg c.in_err-embedded.field-0.0 c.in_err-embedded.ensures.promise.no_answer)
 
 pub overflow_cast-requested : goal.overflow_cast-requested
 overflow_cast-requested c =
@@ -34,7 +36,7 @@ overflow_cast-requested c =
     let eg = c.deref.ensures.value ∙ c.in_ok-glyphs.ensures.ok in
     let e = c.in_ok-embedded.embedded in
     let size : c.len-requested.result ≡ length e.widths.items = omega (arith, c.len-requested.ensures, e.widths.ok.0) in
-    let a = at_us font c.args.coordinates.now c.args.options.now (uses_of c.args.shown.now) c.deref.result.now eg e c.in_ok-embedded.ensures.ok in
+    let a = at_us font c.args.coordinates.now c.args.options.now (uses_of c.args.shown.now) c.deref.result.now eg e c.in_ok-embedded.ensures.promise.exact in
     let small : length e.widths.items < 65536 = few font c.args.coordinates.now c.args.options.now (uses_of c.args.shown.now) e a find c.requires.find (length e.widths.items) refl in
     let is = c.len-requested.ensures in
     omega arith
@@ -47,7 +49,7 @@ returns-in_err-new-clause-err c =
     let eg = c.deref.ensures.value ∙ c.in_ok-glyphs.ensures.ok in
     let e = c.in_ok-embedded.embedded in
     let size : c.len-requested.result ≡ length e.widths.items = omega (arith, c.len-requested.ensures, e.widths.ok.0) in
-    let a = at_us font c.args.coordinates.now c.args.options.now (uses_of c.args.shown.now) c.deref.result.now eg e c.in_ok-embedded.ensures.ok in
+    let a = at_us font c.args.coordinates.now c.args.options.now (uses_of c.args.shown.now) c.deref.result.now eg e c.in_ok-embedded.ensures.promise.exact in
     rw (p.1, p.2) (new_refused font c.args.coordinates.now c.args.options.now (uses_of c.args.shown.now) e a find c.requires.find c.len-requested.result size c.in_err-new.field-0.0 (refused font c.args.coordinates.now c.args.options.now (uses_of c.args.shown.now) e a find c.requires.find c.len-requested.result size {X = NewFont} made_seen c.in_err-new.field-0.0 c.in_err-new.ensures))
 
 pub returns-in_err-new-clause-no_answer : goal.returns-in_err-new-clause-no_answer
@@ -58,8 +60,8 @@ returns-in_err-new-clause-no_answer c =
     let eg = c.deref.ensures.value ∙ c.in_ok-glyphs.ensures.ok in
     let e = c.in_ok-embedded.embedded in
     let size : c.len-requested.result ≡ length e.widths.items = omega (arith, c.len-requested.ensures, e.widths.ok.0) in
-    let a = at_us font c.args.coordinates.now c.args.options.now (uses_of c.args.shown.now) c.deref.result.now eg e c.in_ok-embedded.ensures.ok in
-    let same = subst (λ (l : List ℕ). IsTheAnswerAt font c.args.coordinates.now (numbering l) e.font.items) eg c.in_ok-embedded.ensures.same in
+    let a = at_us font c.args.coordinates.now c.args.options.now (uses_of c.args.shown.now) c.deref.result.now eg e c.in_ok-embedded.ensures.promise.exact in
+    let same = one_font c.args.options.now.limits.tokens c.args.options.now.limits.depth font c.args.coordinates.now (glyphs_of (uses_of c.args.shown.now)) e a in
     rw (p.1, p.2) (new_final font c.args.coordinates.now c.args.options.now (uses_of c.args.shown.now) e a find c.requires.find c.len-requested.result size same c.in_err-new.field-0.0 (refused font c.args.coordinates.now c.args.options.now (uses_of c.args.shown.now) e a find c.requires.find c.len-requested.result size {X = NewFont} made_seen c.in_err-new.field-0.0 c.in_err-new.ensures))
 
 pub filled-requires-clause-glyphs : goal.filled-requires-clause-glyphs
@@ -72,7 +74,7 @@ filled-requires-clause-cids c =
     let eg = c.deref.ensures.value ∙ c.in_ok-glyphs.ensures.ok in
     let e = c.in_ok-embedded.embedded in
     let size : c.len-requested.result ≡ length e.widths.items = omega (arith, c.len-requested.ensures, e.widths.ok.0) in
-    let a = at_us font c.args.coordinates.now c.args.options.now (uses_of c.args.shown.now) c.deref.result.now eg e c.in_ok-embedded.ensures.ok in
+    let a = at_us font c.args.coordinates.now c.args.options.now (uses_of c.args.shown.now) c.deref.result.now eg e c.in_ok-embedded.ensures.promise.exact in
     a.answer.embedded.cids
 
 pub filled-requires-clause-some : goal.filled-requires-clause-some
@@ -82,7 +84,7 @@ filled-requires-clause-some c =
     let eg = c.deref.ensures.value ∙ c.in_ok-glyphs.ensures.ok in
     let e = c.in_ok-embedded.embedded in
     let size : c.len-requested.result ≡ length e.widths.items = omega (arith, c.len-requested.ensures, e.widths.ok.0) in
-    let a = at_us font c.args.coordinates.now c.args.options.now (uses_of c.args.shown.now) c.deref.result.now eg e c.in_ok-embedded.ensures.ok in
+    let a = at_us font c.args.coordinates.now c.args.options.now (uses_of c.args.shown.now) c.deref.result.now eg e c.in_ok-embedded.ensures.promise.exact in
     widths_some font c.args.coordinates.now c.args.options.now (uses_of c.args.shown.now) e a find c.requires.find c.len-requested.result size c.in_ok-new.new c.in_ok-new.ensures
 
 pub filled-requires-clause-few : goal.filled-requires-clause-few
@@ -92,7 +94,7 @@ filled-requires-clause-few c =
     let eg = c.deref.ensures.value ∙ c.in_ok-glyphs.ensures.ok in
     let e = c.in_ok-embedded.embedded in
     let size : c.len-requested.result ≡ length e.widths.items = omega (arith, c.len-requested.ensures, e.widths.ok.0) in
-    let a = at_us font c.args.coordinates.now c.args.options.now (uses_of c.args.shown.now) c.deref.result.now eg e c.in_ok-embedded.ensures.ok in
+    let a = at_us font c.args.coordinates.now c.args.options.now (uses_of c.args.shown.now) c.deref.result.now eg e c.in_ok-embedded.ensures.promise.exact in
     let few : length c.in_ok-new.new.profile.widths.items < 65536 = widths_few font c.args.coordinates.now c.args.options.now (uses_of c.args.shown.now) e a find c.requires.find c.len-requested.result size c.in_ok-new.new c.in_ok-new.ensures in
     omega arith
 
@@ -103,11 +105,11 @@ returns-clause-ok c =
     let eg = c.deref.ensures.value ∙ c.in_ok-glyphs.ensures.ok in
     let e = c.in_ok-embedded.embedded in
     let size : c.len-requested.result ≡ length e.widths.items = omega (arith, c.len-requested.ensures, e.widths.ok.0) in
-    let a = at_us font c.args.coordinates.now c.args.options.now (uses_of c.args.shown.now) c.deref.result.now eg e c.in_ok-embedded.ensures.ok in
-    let same = subst (λ (l : List ℕ). IsTheAnswerAt font c.args.coordinates.now (numbering l) e.font.items) eg c.in_ok-embedded.ensures.same in
+    let a = at_us font c.args.coordinates.now c.args.options.now (uses_of c.args.shown.now) c.deref.result.now eg e c.in_ok-embedded.ensures.promise.exact in
+    let same = one_font c.args.options.now.limits.tokens c.args.options.now.limits.depth font c.args.coordinates.now (glyphs_of (uses_of c.args.shown.now)) e a in
     let drawn = subst (λ (l : List ℕ). (IsAtDefault (whole font) c.args.coordinates.now → ⊥) → HasGlyphsDrawn (whole font) c.args.coordinates.now (numbering l) e.font.items) eg c.in_ok-embedded.ensures.drawn in
     let blended = subst (λ (l : List ℕ). IsCff2Font (whole font) → HasGlyphsBlended (whole font) c.args.coordinates.now (numbering l) e.font.items) eg c.in_ok-embedded.ensures.drawn_cff in
-    all_answered font c.args.coordinates.now c.args.options.now (uses_of c.args.shown.now) e a find c.requires.find c.len-requested.result size c.in_ok-new.new c.in_ok-new.ensures c.in_ok-embedded.ensures.within same drawn blended c.args.permission c.deref-3.result.now c.deref-3.ensures.value c.filled.result c.filled.ensures.ok c.filled.ensures.takes
+    all_answered font c.args.coordinates.now c.args.options.now (uses_of c.args.shown.now) e a find c.requires.find c.len-requested.result size c.in_ok-new.new c.in_ok-new.ensures c.in_ok-embedded.ensures.promise.within same drawn blended c.args.permission c.deref-3.result.now c.deref-3.ensures.value c.filled.result c.filled.ensures.ok c.filled.ensures.takes
 
 pub returns-clause-permission : goal.returns-clause-permission
 returns-clause-permission c =
@@ -120,7 +122,7 @@ returns-clause-err c =
     let eg = c.deref.ensures.value ∙ c.in_ok-glyphs.ensures.ok in
     let e = c.in_ok-embedded.embedded in
     let size : c.len-requested.result ≡ length e.widths.items = omega (arith, c.len-requested.ensures, e.widths.ok.0) in
-    let a = at_us font c.args.coordinates.now c.args.options.now (uses_of c.args.shown.now) c.deref.result.now eg e c.in_ok-embedded.ensures.ok in
+    let a = at_us font c.args.coordinates.now c.args.options.now (uses_of c.args.shown.now) c.deref.result.now eg e c.in_ok-embedded.ensures.promise.exact in
     let eh = c.deref-2.ensures.value ∙ c.in_ok-glyphs.ensures.ok in
     filled_refused font c.args.coordinates.now c.args.options.now (uses_of c.args.shown.now) e a find c.requires.find c.len-requested.result size c.deref-2.result.now eh c.filled.result c.filled.ensures.err
 
@@ -131,6 +133,6 @@ returns-clause-no_answer c =
     let eg = c.deref.ensures.value ∙ c.in_ok-glyphs.ensures.ok in
     let e = c.in_ok-embedded.embedded in
     let size : c.len-requested.result ≡ length e.widths.items = omega (arith, c.len-requested.ensures, e.widths.ok.0) in
-    let a = at_us font c.args.coordinates.now c.args.options.now (uses_of c.args.shown.now) c.deref.result.now eg e c.in_ok-embedded.ensures.ok in
+    let a = at_us font c.args.coordinates.now c.args.options.now (uses_of c.args.shown.now) c.deref.result.now eg e c.in_ok-embedded.ensures.promise.exact in
     let eh = c.deref-2.ensures.value ∙ c.in_ok-glyphs.ensures.ok in
     filled_final font c.args.coordinates.now c.args.options.now (uses_of c.args.shown.now) e a find c.requires.find c.len-requested.result size c.deref-2.result.now eh c.filled.result c.filled.ensures.err

@@ -12,9 +12,9 @@ returns-in_err-mapper-clause-err c =
 pub returns-clause-ok : goal.returns-clause-ok
 returns-clause-ok c =
     let font : Font = record { bytes = c.args.font.now; index = c.args.index; extras = c.args.options.now.extras } in
-    subset_sound c.args.options.now.limits.bytes c.args.options.now.limits.tokens c.args.options.now.limits.depth font c.args.glyphs.now c.in_ok-mapper.mapper c.subset_with_options.result c.in_ok-mapper.ensures.ok c.subset_with_options.ensures.exact c.subset_with_options.ensures.same c.subset_with_options.ensures.within
+    subset_sound c.args.options.now.limits.bytes c.args.options.now.limits.tokens c.args.options.now.limits.depth font c.args.glyphs.now c.in_ok-mapper.mapper c.subset_with_options.result c.in_ok-mapper.ensures.ok c.subset_with_options.ensures.promise
 
 pub returns-clause-err : goal.returns-clause-err
 returns-clause-err c =
     let font : Font = record { bytes = c.args.font.now; index = c.args.index; extras = c.args.options.now.extras } in
-    subset_refused c.args.options.now.limits.bytes c.args.options.now.limits.tokens c.args.options.now.limits.depth font c.args.glyphs.now c.in_ok-mapper.mapper c.subset_with_options.result c.in_ok-mapper.ensures.ok c.subset_with_options.ensures.err c.subset_with_options.ensures.no_answer c.subset_with_options.ensures.before_memory
+    subset_refused c.args.options.now.limits.bytes c.args.options.now.limits.tokens c.args.options.now.limits.depth font c.args.glyphs.now c.in_ok-mapper.mapper c.subset_with_options.result c.in_ok-mapper.ensures.ok c.subset_with_options.ensures.promise

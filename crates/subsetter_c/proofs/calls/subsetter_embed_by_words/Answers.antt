@@ -21,7 +21,7 @@ returns-in-Some c =
     inr (
       c.in-Some.ensures.0,
       at_asked (λ b t d x. IsEmbeddingHanded b t d (font x) glyphs before after c.hand_embedded.new.told c.hand_embedded.result) c.args.options.now c.in-Some.options c.in-Some.ensures.1
-          (answer_handed (IsSoundEmbedding bound tokens depth asked glyphs) (IsEmbeddingRefusal bound tokens depth asked glyphs) answer before after c.hand_embedded.new.told c.hand_embedded.result (embedding_sound bound tokens depth asked glyphs answer of.clean of.exact of.same of.within) (embedding_refused bound tokens depth asked glyphs answer of.err of.no_answer of.before_memory) c.hand_embedded.ensures),
+          (answer_handed (IsSoundEmbedding bound tokens depth asked glyphs) (IsEmbeddingRefusal bound tokens depth asked glyphs) answer before after c.hand_embedded.new.told c.hand_embedded.result (embedding_sound bound tokens depth asked glyphs answer of.promise) (embedding_refused bound tokens depth asked glyphs answer of.promise) c.hand_embedded.ensures),
     )
 
 pub returns-in-None : goal.returns-in-None

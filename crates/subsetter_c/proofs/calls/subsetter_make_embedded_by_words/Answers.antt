@@ -21,7 +21,7 @@ returns-in-Some c =
     inr (
       c.in-Some.ensures.0,
       at_asked (λ b t d x. IsEmbeddingMade b t d (font x) glyphs (lists_in c.make_embedded.new.made) c.make_embedded.result) c.args.options.now c.in-Some.options c.in-Some.ensures.1
-          (embedding_made (IsSoundEmbedding bound tokens depth asked glyphs) (IsEmbeddingRefusal bound tokens depth asked glyphs) answer (lists_in c.make_embedded.new.made) c.make_embedded.result (embedding_sound bound tokens depth asked glyphs answer of.clean of.exact of.same of.within) (embedding_refused bound tokens depth asked glyphs answer of.err of.no_answer of.before_memory) c.make_embedded.ensures),
+          (embedding_made (IsSoundEmbedding bound tokens depth asked glyphs) (IsEmbeddingRefusal bound tokens depth asked glyphs) answer (lists_in c.make_embedded.new.made) c.make_embedded.result (embedding_sound bound tokens depth asked glyphs answer of.promise) (embedding_refused bound tokens depth asked glyphs answer of.promise) c.make_embedded.ensures),
     )
 
 pub returns-in-None : goal.returns-in-None

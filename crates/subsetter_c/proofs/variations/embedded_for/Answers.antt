@@ -15,10 +15,10 @@ pub returns-clause-ok : goal.returns-clause-ok
 returns-clause-ok c =
     let font : Font = record { bytes = c.args.font.now; index = c.args.index; extras = c.args.options.now.extras } in
     let of = c.embed_with_variations_and_options.ensures in
-    embedding_sound c.args.options.now.limits.bytes c.args.options.now.limits.tokens c.args.options.now.limits.depth font (settings_of c.args.coordinates.now) c.args.glyphs.now c.deref.result.now (c.deref.ensures.value ∙ c.in_ok-settings.ensures.ok) c.embed_with_variations_and_options.result of.ok of.same of.drawn of.drawn_cff of.within
+    embedding_sound c.args.options.now.limits.bytes c.args.options.now.limits.tokens c.args.options.now.limits.depth font (settings_of c.args.coordinates.now) c.args.glyphs.now c.deref.result.now (c.deref.ensures.value ∙ c.in_ok-settings.ensures.ok) c.embed_with_variations_and_options.result of.promise of.drawn of.drawn_cff
 
 pub returns-clause-err : goal.returns-clause-err
 returns-clause-err c =
     let font : Font = record { bytes = c.args.font.now; index = c.args.index; extras = c.args.options.now.extras } in
     let of = c.embed_with_variations_and_options.ensures in
-    embedding_refused c.args.options.now.limits.bytes c.args.options.now.limits.tokens c.args.options.now.limits.depth font (settings_of c.args.coordinates.now) c.args.glyphs.now c.deref.result.now (c.deref.ensures.value ∙ c.in_ok-settings.ensures.ok) c.embed_with_variations_and_options.result of.err of.no_answer of.before_memory
+    embedding_refused c.args.options.now.limits.bytes c.args.options.now.limits.tokens c.args.options.now.limits.depth font (settings_of c.args.coordinates.now) c.args.glyphs.now c.deref.result.now (c.deref.ensures.value ∙ c.in_ok-settings.ensures.ok) c.embed_with_variations_and_options.result of.promise

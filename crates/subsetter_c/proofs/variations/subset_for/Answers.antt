@@ -21,10 +21,10 @@ pub returns-clause-ok : goal.returns-clause-ok
 returns-clause-ok c =
     let font : Font = record { bytes = c.args.font.now; index = c.args.index; extras = c.args.options.now.extras } in
     let of = c.subset_with_variations_and_options.ensures in
-    subset_sound c.args.options.now.limits.bytes c.args.options.now.limits.tokens c.args.options.now.limits.depth font (settings_of c.args.coordinates.now) c.args.glyphs.now c.deref.result.now c.in_ok-mapper.mapper (c.deref.ensures.value ∙ c.in_ok-settings.ensures.ok) c.in_ok-mapper.ensures.ok c.subset_with_variations_and_options.result of.exact of.same of.drawn of.drawn_cff of.within
+    subset_sound c.args.options.now.limits.bytes c.args.options.now.limits.tokens c.args.options.now.limits.depth font (settings_of c.args.coordinates.now) c.args.glyphs.now c.deref.result.now c.in_ok-mapper.mapper (c.deref.ensures.value ∙ c.in_ok-settings.ensures.ok) c.in_ok-mapper.ensures.ok c.subset_with_variations_and_options.result of.promise of.drawn of.drawn_cff
 
 pub returns-clause-err : goal.returns-clause-err
 returns-clause-err c =
     let font : Font = record { bytes = c.args.font.now; index = c.args.index; extras = c.args.options.now.extras } in
     let of = c.subset_with_variations_and_options.ensures in
-    subset_refused c.args.options.now.limits.bytes c.args.options.now.limits.tokens c.args.options.now.limits.depth font (settings_of c.args.coordinates.now) c.args.glyphs.now c.deref.result.now c.in_ok-mapper.mapper (c.deref.ensures.value ∙ c.in_ok-settings.ensures.ok) c.in_ok-mapper.ensures.ok c.subset_with_variations_and_options.result of.err of.no_answer of.before_memory
+    subset_refused c.args.options.now.limits.bytes c.args.options.now.limits.tokens c.args.options.now.limits.depth font (settings_of c.args.coordinates.now) c.args.glyphs.now c.deref.result.now c.in_ok-mapper.mapper (c.deref.ensures.value ∙ c.in_ok-settings.ensures.ok) c.in_ok-mapper.ensures.ok c.subset_with_variations_and_options.result of.promise

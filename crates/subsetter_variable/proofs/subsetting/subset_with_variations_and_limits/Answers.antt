@@ -1,23 +1,16 @@
 use Rattle.std.proofs.Common.{◌≡◌, subst}
-use Rattle.std.specs.Prelude.{IfOk}
-use Rattle.subsetter_base.specs.declared.error.Error.{Error}
 use Rattle.subsetter_sfnt.specs.declared.extras.Extras.{Extras}
 use Rattle.subsetter_sfnt.specs.Extras.{all_extras}
 use Rattle.subsetter_sfnt.specs.FontAt.{font_at}
 use Rattle.subsetter_type2.specs.declared.limits.Limits.{Limits}
-use Rattle.subsetter_variable.specs.Subset.{IsSubsetAt, HasFaultAt, IsTheAnswerAt}
+use Rattle.subsetter_variable.specs.Promise.{IsPromisedAt}
 use Rattle.subsetter_variable.proofs.subsetting.subset_with_variations_and_limits.Goals as goal
 
 -- what holds of some limits and extras holds of these limits and all extras, which they are
 at_all : (P : Limits → Extras → Type 0) (limits given : Limits) (extras : Extras) → limits ≡ given → extras ≡ all_extras → P limits extras → P given all_extras
 at_all P limits given extras l e p = subst (λ (x : Extras). P given x) e (subst (λ (x : Limits). P x extras) l p)
 
-pub returns-clause-clean : goal.returns-clause-clean
-returns-clause-clean c =
-    at_all (λ l x. IfOk c.subset_with_variations_and_options.result (λ out. (s : IsSubsetAt l.tokens l.depth (font_at c.args.«data».now c.args.index x) c.args.coordinates.now c.args.mapper.now out.items) × ((e : Error) → HasFaultAt l.bytes l.tokens l.depth (font_at c.args.«data».now c.args.index x) c.args.coordinates.now c.args.mapper.now s.subset.keeps.order e → ⊥)))
-    c.keeping_all-options.result.limits c.args.limits.now c.keeping_all-options.result.extras c.keeping_all-options.ensures.limits c.keeping_all-options.ensures.extras c.subset_with_variations_and_options.ensures.clean
-
-pub returns-clause-same : goal.returns-clause-same
-returns-clause-same c =
-    at_all (λ l x. IfOk c.subset_with_variations_and_options.result (λ out. IsTheAnswerAt (font_at c.args.«data».now c.args.index x) c.args.coordinates.now c.args.mapper.now out.items))
-    c.keeping_all-options.result.limits c.args.limits.now c.keeping_all-options.result.extras c.keeping_all-options.ensures.limits c.keeping_all-options.ensures.extras c.subset_with_variations_and_options.ensures.same
+pub returns-clause-promise : goal.returns-clause-promise
+returns-clause-promise c =
+    at_all (λ l x. IsPromisedAt (λ v. v.items) l.bytes l.tokens l.depth (font_at c.args.«data».now c.args.index x) c.args.coordinates.now c.args.mapper.now c.subset_with_variations_and_options.result)
+    c.keeping_all-options.result.limits c.args.limits.now c.keeping_all-options.result.extras c.keeping_all-options.ensures.limits c.keeping_all-options.ensures.extras c.subset_with_variations_and_options.ensures.promise

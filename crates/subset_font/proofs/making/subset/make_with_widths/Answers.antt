@@ -11,7 +11,10 @@ returns-in_err-mapper-clause-err c =
 pub returns-in_err-embedded-clause-err : goal.returns-in_err-embedded-clause-err
 returns-in_err-embedded-clause-err c =
     let p = err_from_is_err_and c.from_residual-in_err-embedded.result c.from_residual-in_err-embedded.ensures.1 in
-    rw (p.1, p.2) c.in_err-embedded.ensures.err
+    rw (p.1, p.2) c.in_err-embedded.ensures.promise.err
 
 pub returns-clause-clean : goal.returns-clause-clean
-returns-clause-clean c = (c.in_ok-embedded.ensures.clean.0.subset, c.in_ok-embedded.ensures.clean.1)
+returns-clause-clean c = (c.in_ok-embedded.ensures.promise.exact.embedded.subset, c.in_ok-embedded.ensures.promise.exact.clean)
+
+pub returns-clause-within : goal.returns-clause-within
+returns-clause-within c = c.in_ok-embedded.ensures.promise.within
