@@ -976,7 +976,7 @@ static void try_kinds(void)
         if (refusal != 0) {
             subsetter_font made;
             uint32_t status = subsetter_make_font(font, font_size, face, NULL, 0, glyphs, 1, (const uint32_t[]){65}, 1, (const size_t[]){1}, 1, NULL, &made);
-            check(status == refusal && made.pdf.program == NULL, "without outlines", name);
+            check(status == refusal && made.pdf.program_size == 0, "without outlines", name);
         }
         check(refusal == 0 || subsetter_glyphs_of(font, font_size, face, NULL, 0, NULL, 0, &size) == 13, "no characters", name);
         memset(kinds, FILLED, sizeof kinds);
