@@ -74,7 +74,8 @@ sheet_error_kind TextTooLong = tt
 
 unshown_if_kind : (choice : Option PdfChoice) (task : Task) (bytes : List ℕ) (made : Made) (failure : Failure) → IsUnshownIf choice task bytes made failure → IsOfMaking failure
 unshown_if_kind None task bytes made failure u = elim u [ ]
-unshown_if_kind (Some choice) task bytes made failure u = subst IsOfMaking (sym u.failure_is) (sheet_error_kind u.why)
+unshown_if_kind (Some choice) task bytes made failure (inl u) = subst IsOfMaking (sym u.failure_is) (sheet_error_kind u.why)
+unshown_if_kind (Some choice) task bytes made failure (inr u) = subst IsOfMaking (sym u.0) tt
 
 no_outcome_kind : (plan : Plan) (bytes : List ℕ) (failure : Failure) → IsNoOutcome plan bytes failure → IsOfMaking failure
 no_outcome_kind plan bytes failure (inl memory) = subst IsOfMaking (sym memory) tt
