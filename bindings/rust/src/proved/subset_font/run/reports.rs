@@ -11,6 +11,7 @@ use crate::proved::subset_args::{
 use crate::proved::subset_font::making::outcome::{other_face, takes_default};
 use crate::proved::subset_font::refusals::hint::found::{find_axes_hint, find_hint, no_axes};
 use crate::proved::subset_font::refusals::limit_hint::find_limit_hint;
+use crate::proved::subset_font::refusals::second_look::{call_of, look_again};
 use crate::proved::subset_lines::note_lines;
 use crate::proved::subset_task::faces::missing::first_missing;
 use crate::proved::subset_task::faces::named::instance_names;
@@ -283,12 +284,32 @@ fn task_for_hint<'a>(font: &[u8], plan: &Plan<'a>) -> Task<'a> {
     }
 }
 
+/// What a second look at the glyphs of a plan shows of a font that is refused.
+fn second_look(alloc: Global, failure: &Failure, font: &[u8], plan: &Plan<'_>) -> Option<Hint> {
+    let task = task_for_hint(font, plan);
+    match (failure, picked_in(alloc, font, &task)) {
+        (Failure::Error(error), Ok(picked)) => {
+            let call = call_of(plan.pdf.is_some(), task.at.is_some(), task.widths);
+            look_again(alloc, call, *error, font, &task, &picked.glyphs)
+        }
+        _ => None,
+    }
+}
+
+/// What more is known of a font that is refused: by its tables, by the limits, or else by a second look.
+fn hint_for(alloc: Global, failure: &Failure, font: &[u8], plan: &Plan<'_>) -> Option<Hint> {
+    if let Some(hint) = find_hint(failure, font, &task_for_hint(font, plan)) {
+        return Some(hint);
+    }
+    match find_limit_hint(alloc, failure, font, plan) {
+        Some(hint) => Some(hint),
+        None => second_look(alloc, failure, font, plan),
+    }
+}
+
 /// Reports more of a run that failed, as far as it can be seen in the font.
 fn report_more<R: Eprint + AllocGlobal>(rt: &R, failure: &Failure, font: &[u8], plan: &Plan<'_>) {
-    match find_hint(failure, font, &task_for_hint(font, plan)) {
-        Some(hint) => report_hint(rt, Some(hint)),
-        None => report_hint(rt, find_limit_hint(rt.alloc(), failure, font, plan)),
-    }
+    report_hint(rt, hint_for(rt.alloc(), failure, font, plan));
     match failure {
         Failure::NoInstance => report_names(rt, font, plan.task.index),
         Failure::MissingCharacters => report_missing(rt, font, &plan.task),
