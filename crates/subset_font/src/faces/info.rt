@@ -78,7 +78,8 @@ fn pictures_of(alloc: Global, font: &[u8], index: u32) -> Result<Vec<(u8, usize)
     let count = count_glyphs(font, index).unwrap_or(0);
     let glyphs = first_glyphs(alloc, count)?;
     let kinds = known_kinds(alloc, font, index, &glyphs)?;
-    kind_counts(&kinds)
+    let counts = kind_counts(&kinds);
+    counts
         .iter()
         .copied()
         .filter(|kind| kind.1 > 0)

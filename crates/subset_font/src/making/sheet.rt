@@ -1,9 +1,9 @@
 //! The PDF that is made beside the font.
 
-ghost use Rattle.std.specs.Prelude.{◌≡◌, ◌⊎◌, ◌++◌, true, false, IfOk, IfErr, Some};
+ghost use Rattle.std.specs.Prelude.{◌≡◌, ◌⊎◌, ◌++◌, IfOk, IfErr, Some};
 ghost use Rattle.std.specs.Option.{option_copied};
-ghost use Rattle.subset_font.specs.Making.Sheet.{layout_by, layout_of, settings_of, is_blank, pdf_text, pdf_text_of, IsRequestOf, IsShown, IsUnshown, IsSheetIf, IsUnshownIf};
-ghost use Rattle.subset_task.specs.declared.refusals.failure.Failure.TheVariants.{BlankGlyphs, Error as Refused};
+ghost use Rattle.subset_font.specs.Making.Sheet.{layout_by, layout_of, settings_of, is_blank, pdf_text, pdf_text_of, IsRequestOf, IsShown, IsSheetIf, IsUnshownIf};
+ghost use Rattle.subset_task.specs.declared.refusals.failure.Failure.TheVariants.{Error as Refused};
 ghost use Rattle.subsetter_base.specs.declared.error.Error.TheVariants.{OutOfMemory};
 
 use crate::making::subset::Made;
@@ -71,7 +71,7 @@ fn make_shown(
     made: &Made,
 ) -> Result<Sheet, Failure>
     ensures ok { IfOk result (IsShown choice task.now font.now made.now) }
-    ensures err { IfErr result (λ e. (e ≡ Refused OutOfMemory) ⊎ IsUnshown choice task.now font.now made.now e) }
+    ensures err { IfErr result (λ e. (e ≡ Refused OutOfMemory) ⊎ IsUnshownIf (Some choice) task.now font.now made.now e) }
 {
     let request = request_of(task, choice);
     let picked = &made.picked;
@@ -119,8 +119,9 @@ fn unless_blank(
     made: &Made,
     sheet: Sheet,
 ) -> Result<Option<Sheet>, Failure>
-    ensures ok { IfOk result (λ s. (s ≡ Some sheet) × (is_blank choice task.now font.now made.now ≡ false)) }
-    ensures err { IfErr result (λ e. (e ≡ Refused OutOfMemory) ⊎ ((e ≡ BlankGlyphs) × (is_blank choice task.now font.now made.now ≡ true))) }
+    requires { IsShown choice task.now font.now made.now sheet }
+    ensures ok { IfOk result (IsSheetIf (Some choice) task.now font.now made.now) }
+    ensures err { IfErr result (λ e. (e ≡ Refused OutOfMemory) ⊎ IsUnshownIf (Some choice) task.now font.now made.now e) }
 {
     match is_blank(alloc, font, choice, task, made) {
         Ok(false) => Ok(Some(sheet)),
