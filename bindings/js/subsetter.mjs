@@ -185,7 +185,7 @@ function named(options, names, what) {
         return {};
     }
     if (typeof options !== "object" || options === null) {
-        throw new TypeError(`${what} must be an object`);
+        throw new TypeError(`${what} must be an object, and not ${kindOf(options)}`);
     }
     for (const name of Object.keys(options)) {
         if (!names.includes(name)) {
@@ -289,12 +289,12 @@ const DIRECTIONS = ["ltr", "rtl", "ttb"];
 /** The places of a glyph: whole numbers of 32 bits, 0 where one isn't said. */
 const placesOf = (it, names) => names.map((name) => whole(it[name] ?? 0, -(2 ** 31), 2 ** 31 - 1, name));
 
-/** Calls, and adds what is wrong with the text to the message of InvalidText. */
-function explained(call, fault) {
+/** Calls, and adds what is wrong with the text to the message of InvalidText, or what is to that of another error. */
+function explained(call, fault, kind = InvalidText) {
     try {
         return call();
     } catch (error) {
-        const why = error instanceof InvalidText && fault();
+        const why = error instanceof kind && fault();
         if (why) {
             error.message += `: ${why}`;
         }
@@ -504,7 +504,8 @@ class Library {
             const [at, length] = words.slice(-2);
             if (done === DONE && length > 0) {
                 const found = new TextDecoder().decode(new Uint8Array(buffer.slice(at, at + length)));
-                return `: ${found}${status === NOT_PERMITTED ? ": if you hold the rights, rights: \"held\"" : ""}`;
+                const isWithout = found.startsWith("CFF2") && /_(subset|embed)$/.test(name);
+                return `: ${found}${status === NOT_PERMITTED ? ": if you hold the rights, rights: \"held\"" : isWithout ? ": coordinates: {} is the default" : ""}`;
             }
             const limits = [tokens && tokens !== TOKENS ? `tokens is ${tokens}` : "", bytes ? `mostBytes is ${bytes}` : ""].filter(Boolean);
             return status === OVERFLOW && limits.length > 0 ? `: ${limits.join(" and ")}` : "";
@@ -802,11 +803,12 @@ class PdfFont {
         if (typeof filter !== "string" || (pack !== undefined && typeof pack !== "function")) {
             throw new TypeError("pack must be a function, and filter a string");
         }
-        if (!/^[/[]/.test(filter)) {
+        if (!/^[/[][\x20-\x7e]*$/.test(filter)) {
             throw new RangeError(`filter must be as PDF writes it, as "/FlateDecode", and not ${shown(filter)}`);
         }
-        const given = listed(numbers, "numbers of objects must be an iterable of numbers", (it) => whole(it, 0, WORD_AT_MOST, "a number of an object"));
-        const parts = this.#library.parts(this.#kept(), this.#numbers, given);
+        const given = listed(numbers, "numbers of objects must be an iterable of numbers", (it) => whole(it, 1, WORD_AT_MOST, "a number of an object"));
+        const counts = () => `${given.length}, of them ${new Set(given).size} distinct, for ${this.partCount}`;
+        const parts = explained(() => this.#library.parts(this.#kept(), this.#numbers, given), counts, RangeError);
         for (const part of pack ? parts.filter(({ stream }) => stream) : []) {
             part.entries = joined(part.entries, latin1(`/Filter ${filter} `));
             part.stream = pack(part.stream);

@@ -230,7 +230,7 @@ def test_no_coordinates():
     (subsetter.MalformedFont, "malformed font: glyph 12: the font's glyphs are 0 to 11", lambda: subsetter.advances(TTF, [12], coordinates={})),
     (subsetter.MalformedFont, "malformed font: face 1: the collection's faces are 0 to 0", lambda: subsetter.embed(made("made.ttc"), [1], 1)),
     (subsetter.NoCmap, "no usable cmap in font: the face has no table cmap", lambda: subsetter.glyphs_of(TTF.replace(b"cmap", b"none"), "A")),
-    (subsetter.Unimplemented, "unsupported feature in font: CFF2: its outlines are taken at coordinates alone", lambda: subsetter.subset(made("made_cff2.otf"), [])),
+    (subsetter.Unimplemented, "unsupported feature in font: CFF2: its outlines are taken at coordinates alone: coordinates={} is the default", lambda: subsetter.subset(made("made_cff2.otf"), [])),
     (subsetter.CFFError, "processing CFF table failed: glyph 0: its charstring can't be run within the limits",
      lambda: subsetter.embed(made("made_version_1.otf"), [1], coordinates={}, tokens=5)),
     (subsetter.OverflowError, "overflow occurred: most_bytes is 9", lambda: subsetter.subset(TTF, [1], most_bytes=9)),
