@@ -832,8 +832,8 @@ typedef struct subsetter_text {
     size_t part_count;
     /* How many parts an own glyph can have; 0: none are made. */
     uint32_t most_parts;
-    /* 0. */
-    uint32_t reserved;
+    /* 1: an own glyph is a glyph at its origin, with another advance, or none; so it is with outlines in `CFF `. */
+    uint32_t is_still;
 } subsetter_text;
 
 /* A text of a font, at coordinates (none: the font's default), before its first run. The options are those for the font; here

@@ -338,7 +338,7 @@ class _Text(ctypes.Structure):
         ("partable", ctypes.c_void_p), ("partable_count", ctypes.c_size_t),
         ("own", ctypes.c_void_p), ("own_count", ctypes.c_size_t),
         ("parts", ctypes.c_void_p), ("part_count", ctypes.c_size_t),
-        ("most_parts", ctypes.c_uint32), ("reserved", ctypes.c_uint32),
+        ("most_parts", ctypes.c_uint32), ("is_still", ctypes.c_uint32),
     ]
 
 
