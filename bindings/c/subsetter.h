@@ -384,7 +384,7 @@ enum {
 /* Whether runs of text make own glyphs (`own_glyphs`), which the font of the text gets after its own: of glyphs of the font, each
  * at a place, with an advance. Where they are made, more readers copy and find the text. */
 enum {
-    /* Where text is horizontal and the outlines are in `glyf`. */
+    /* Where text is horizontal and the outlines are in `glyf`, or in `CFF `, where they are single glyphs with another advance. */
     SUBSETTER_OWN_GLYPHS_MADE = 0,
     /* None: the font of the text has glyphs of the font alone, and blanks. */
     SUBSETTER_OWN_GLYPHS_NONE = 1

@@ -1430,7 +1430,7 @@ class PdfText:
     - `order`: how a run from right to left is written: "visual", as it is seen, which more readers copy rightly; or "logical", as it is
       read, for a tagged PDF.
     - `own_glyphs`: whether runs make glyphs of their own, which the font gets after the kept ones: of glyphs of it, each at a place,
-      with an advance. More readers copy and find the text then. They are made in horizontal text, where outlines are in `glyf`.
+      with an advance; with `CFF ` of one alone. More readers copy and find the text then. They are made in horizontal text.
     - `units_per_em`: how many units of the font an em has.
 
     Raises what `advances` does; and `NotImplementedError` where the library is of an older version.
