@@ -1,4 +1,4 @@
-use Rattle.std.proofs.Common.{refl, subst, ◌∙◌, List, ℕ, Option, inr}
+use Rattle.std.proofs.Common.{refl, sym, subst, ◌∙◌, List, ℕ, Option, inr}
 use Rattle.std.proofs.lemmas.Result.{err_from_is_err_and}
 use Rattle.cff_repeats.specs.Laws.{HasFigures}
 use Rattle.pdf_text_font.specs.Drawn.{moved}
@@ -6,7 +6,7 @@ use Rattle.pdf_text_font.proofs.DrawnSteps.{not_repeated}
 use Rattle.pdf_text_font.proofs.drawn.repeated.Goals as goal
 
 pub returns-then-not-are_still-clause-err : goal.returns-then-not-are_still-clause-err
-returns-then-not-are_still-clause-err c = inr (moved c.if-not-are_still.true)
+returns-then-not-are_still-clause-err c = inr (moved (sym c.are_still.ensures ∙ c.if-not-are_still.true))
 
 pub returns-in_err-again-clause-err : goal.returns-in_err-again-clause-err
 returns-in_err-again-clause-err c =
@@ -15,7 +15,7 @@ returns-in_err-again-clause-err c =
 
 pub returns-clause-ok : goal.returns-clause-ok
 returns-clause-ok c = record {
-  still = c.if-not-are_still.false;
+  still = sym c.are_still.ensures ∙ c.if-not-are_still.false;
   again = c.in_ok-again.again.items;
   figures = subst (λ (l : List (Option ℕ)). HasFigures l c.args.cff.now c.in_ok-again.again.items) (c.deref.ensures.value ∙ c.in_ok-figures.ensures.ok) c.in_ok-again.ensures.ok;
   widths = c.in_ok-program.ensures.ok;
