@@ -384,7 +384,7 @@ enum {
 /* Whether runs of text make own glyphs (`own_glyphs`), which the font of the text gets after its own: of glyphs of the font, each
  * at a place, with an advance. Where they are made, more readers copy and find the text. */
 enum {
-    /* Where text is horizontal and the outlines are in `glyf`. */
+    /* Where text is horizontal and the outlines are in `glyf`, or in `CFF `, where they are single glyphs with another advance. */
     SUBSETTER_OWN_GLYPHS_MADE = 0,
     /* None: the font of the text has glyphs of the font alone, and blanks. */
     SUBSETTER_OWN_GLYPHS_NONE = 1
@@ -832,8 +832,8 @@ typedef struct subsetter_text {
     size_t part_count;
     /* How many parts an own glyph can have; 0: none are made. */
     uint32_t most_parts;
-    /* 0. */
-    uint32_t reserved;
+    /* 1: an own glyph is a glyph at its origin, with another advance, or none; so it is with outlines in `CFF `. */
+    uint32_t is_still;
 } subsetter_text;
 
 /* A text of a font, at coordinates (none: the font's default), before its first run. The options are those for the font; here

@@ -380,8 +380,8 @@ export interface TextChoices {
      */
     readonly order?: "visual" | "logical";
     /**
-     * False: the font gets no own glyphs. Else, in horizontal text of a font with outlines in `glyf`, glyphs are drawn together by own
-     * ones: a letter with its marks, and the parts of a ligature. More readers copy and find the text then.
+     * False: the font gets no own glyphs. Else, in horizontal text, own ones draw the parts of a ligature, and of a font with outlines
+     * in `glyf` a letter with its marks. More readers copy and find the text then.
      */
     readonly ownGlyphs?: boolean;
 }

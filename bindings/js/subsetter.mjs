@@ -351,11 +351,11 @@ function pdfChoicesOf(options) {
 const indexOf = ({ index = 0 }) => whole(index, 0, WORD_AT_MOST, "index");
 
 /** The lists of a text, and their words, by the places of the lists. */
-function listsOfText({ unitsPerEm, metrics, inked, advances, partable, mostParts }, { pairs, own, parts }) {
+function listsOfText({ unitsPerEm, metrics, inked, advances, partable, mostParts, isStill }, { pairs, own, parts }) {
     const sizes = [8, 1, 2, 1, 12, 8, 12], lists = [metrics, inked, advances, partable, pairs, own, parts];
     const counted = (...places) => {
         const words = lists.flatMap((list, i) => [places[i], list.length / sizes[i]]);
-        return [unitsPerEm, ...words.slice(0, 8), mostParts, ...words.slice(8)];
+        return [unitsPerEm, ...words.slice(0, 8), mostParts, isStill, ...words.slice(8)];
     };
     return { lists, counted };
 }
@@ -586,14 +586,14 @@ class Library {
 
     /** What runs of text need of a font that is held here. */
     newText(font, index, { tokens, depth, bytes, drop, coordinates = [], further }, makesOwn) {
-        const given = (at) => [font.at, font.size, index, at, coordinates.length / 2, tokens, depth, bytes, drop, ...further, makesOwn, ...Array(10).fill(0)];
+        const given = (at) => [font.at, font.size, index, at, coordinates.length / 2, tokens, depth, bytes, drop, ...further, makesOwn, ...Array(11).fill(0)];
         const { status, buffer, words } = this.#call("subsetter_new_text", [listOf(4, coordinates)], given);
         this.#check(status, "subsetter_advances", font, index, [], { tokens });
-        const [unitsPerEm, metricsAt, metrics, inkedAt, inked, advancesAt, advances, partableAt, partable, mostParts] = words.slice(-10);
+        const [unitsPerEm, metricsAt, metrics, inkedAt, inked, advancesAt, advances, partableAt, partable, mostParts, isStill] = words.slice(-11);
         const list = (at, size) => new Uint8Array(buffer.slice(at, at + size));
         return {
             unitsPerEm, metrics: list(metricsAt, 8 * metrics), inked: list(inkedAt, inked),
-            advances: list(advancesAt, 2 * advances), partable: list(partableAt, partable), mostParts,
+            advances: list(advancesAt, 2 * advances), partable: list(partableAt, partable), mostParts, isStill,
         };
     }
 
@@ -606,7 +606,7 @@ class Library {
         const { status, buffer, words } = this.#call(name, [...lists, glyphs, text], given);
         this.#check(status);
         const list = (at, size) => new Uint8Array(buffer.slice(at, at + size));
-        const [pairsAt, pairs, ownAt, own, partsAt, parts] = words.slice(10);
+        const [pairsAt, pairs, ownAt, own, partsAt, parts] = words.slice(11);
         return {
             operators: list(...words.slice(-2)),
             kept: { pairs: list(pairsAt, 12 * pairs), own: list(ownAt, 8 * own), parts: list(partsAt, 12 * parts) },

@@ -1147,7 +1147,7 @@ static void try_own_glyphs(const uint8_t *bytes, size_t size)
     subsetter_text text;
     subsetter_pdf_objects line;
     subsetter_font font;
-    check(subsetter_new_text(bytes, size, 0, NO_PLACE, NULL, &text) == 0 && text.most_parts > 1 && text.own_count == 0, "a text", "own glyphs");
+    check(subsetter_new_text(bytes, size, 0, NO_PLACE, NULL, &text) == 0 && text.most_parts > 1 && text.is_still == 0 && text.own_count == 0, "a text", "own glyphs");
     check(text.advance_count == text.metric_count && text.partable_count == text.metric_count && text.advances[1] == 1366 && text.partable[1] == 1, "glyphs", "own glyphs");
     for (int again = 0; again < 2; again++) {
         check(subsetter_show_run(&text, marked, 2, accented, 2, LEFT, &line) == 0 && is_line(&line, "[<00010002>]TJ\n"), "operators", "own glyphs");

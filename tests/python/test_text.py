@@ -50,6 +50,8 @@ def test_own_glyphs():
     assert codes[:4] == [(82, "o"), (count, "f"), (count + 1, "f"), (count + 1, "i")]
     assert codes[6:] == [(3, " "), (count + 2, "q"), (None, "\u0304"), (91, "x")]
     assert font.widths[1:5] == [612, 322, 322, 322] and font.widths[8:10] == [635, 0] and len(font.cid_to_gid_map) == 2 * font.glyph_count
+    with subsetter.PdfText(made("made.otf"), rights="held") as text:
+        assert text.run([(5, "fi")]) == b"[<00010002>]TJ\n" and text.font().widths == [500, 278, 278] and text.font().program.endswith(b"\xf7\xaa\x0e")
 
 
 def test_a_sheet(tmp_path):

@@ -338,7 +338,7 @@ class _Text(ctypes.Structure):
         ("partable", ctypes.c_void_p), ("partable_count", ctypes.c_size_t),
         ("own", ctypes.c_void_p), ("own_count", ctypes.c_size_t),
         ("parts", ctypes.c_void_p), ("part_count", ctypes.c_size_t),
-        ("most_parts", ctypes.c_uint32), ("reserved", ctypes.c_uint32),
+        ("most_parts", ctypes.c_uint32), ("is_still", ctypes.c_uint32),
     ]
 
 
@@ -1434,7 +1434,7 @@ class PdfText:
     - `order`: how a run from right to left is written: "visual", as it is seen, which more readers copy rightly; or "logical", as it is
       read, for a tagged PDF.
     - `own_glyphs`: whether runs make glyphs of their own, which the font gets after the kept ones: of glyphs of it, each at a place,
-      with an advance. More readers copy and find the text then. They are made in horizontal text, where outlines are in `glyf`.
+      with an advance; with `CFF ` of one alone. More readers copy and find the text then. They are made in horizontal text.
     - `units_per_em`: how many units of the font an em has.
 
     Raises what `advances` does; and `NotImplementedError` where the library is of an older version.
