@@ -140,7 +140,7 @@ not_kept_by Embed font glyphs = not_kept font glyphs
 not_kept_by EmbedAt font glyphs = not_kept font glyphs
 not_kept_by PdfFont font glyphs = or_else (no_metric font glyphs) (short_post font)
 not_kept_by GlyphsOf font glyphs = None
-not_kept_by Advances font glyphs = None
+not_kept_by Advances font glyphs = no_metric font glyphs
 
 -- and what varies, at coordinates, or what that is read with: `hmtx`, `maxp` and `head`
 abbrev pub no_metrics : Font → Option Reason

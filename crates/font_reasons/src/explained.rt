@@ -284,7 +284,8 @@ fn not_kept_by(call: Call, font: &[u8], index: u32, glyphs: &[u16]) -> Option<Re
     ensures { result ≡ not_kept_by call (record { bytes = font.now; index = index; extras = all_extras }) glyphs.now }
 {
     match call {
-        Call::GlyphsOf | Call::Advances => None,
+        Call::GlyphsOf => None,
+        Call::Advances => no_metric(font, index, glyphs),
         Call::PdfFont => no_metric(font, index, glyphs).or(short_post(font, index)),
         Call::Subset | Call::SubsetAt | Call::Embed | Call::EmbedAt => {
             not_kept(font, index, glyphs)
