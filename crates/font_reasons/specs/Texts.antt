@@ -82,5 +82,5 @@ reason_text WrongGvar = codes "gvar: the table can't be read"
 reason_text OtherCff = codes "CFF: its major version isn't 1"
 reason_text WrongCff = codes "CFF: the table can't be read"
 reason_text (NoCharstring glyph) = between (codes "glyph ") glyph (codes ": CFF has no charstring or private dict for it")
-reason_text (WrongCharstring glyph) = between (codes "glyph ") glyph (codes ": its charstring can't be run within the limits")
+reason_text (WrongCharstring glyph) = between (codes "glyph ") glyph (codes ": its charstring is wrong, or passes the limits")
 reason_text (Composed glyph) = between (codes "glyph ") glyph (codes ": its charstring puts two others together")

@@ -1,5 +1,5 @@
 -- What draws the codes of a text: the program, and with TrueType outlines the map from CIDs to its glyphs (ISO 32000-1, 9.7.4.2).
-use Rattle.std.specs.Prelude.{◌≡◌, ◌⊎◌, ◌<◌, ◌+◌, ◌&&◌, ℕ, nat_lt, Bool, true, false, if◌then◌else◌, List, [], ◌∷◌, length, map, slice_get, codes, Option, Some, None, unwrap_or, Err, pos}
+use Rattle.std.specs.Prelude.{◌≡◌, ◌⊎◌, ◌<◌, ◌+◌, ◌&&◌, ℕ, ◌==◌, Bool, true, false, if◌then◌else◌, List, [], ◌∷◌, length, map, slice_get, codes, Option, Some, None, unwrap_or, Err, pos}
 use Rattle.std.specs.List.{list_all}
 use Rattle.std.specs.Ordering.{int_eq}
 use Rattle.subsetter_base.specs.Options.{◌>>=◌}
@@ -85,7 +85,7 @@ figures_of others ds = map (figure_of others) ds
 
 -- with these advances, where there are own glyphs
 abbrev pub with_advances : ℕ → List ℕ → List ℕ → List ℕ
-with_advances owns advances cff = if nat_lt 0 owns then unwrap_or (with_widths cff advances) cff else cff
+with_advances owns advances cff = if owns == 0 then cff else unwrap_or (with_widths cff advances) cff
 
 -- of each code the charstring of its figure, whose CID is the code, with its advance
 pub record AreRepeated (cff : List ℕ) (others : List OwnGlyph) (owns : ℕ) (advances : List ℕ) (ds : List Drawing) (program : List ℕ) (map : Option (List ℕ)) : Type 0 where

@@ -167,7 +167,12 @@ fn figures_of(
 }
 
 /// A `CFF ` whose codes have these advances, where there are own glyphs.
-fn with_advances(alloc: Global, owns: usize, advances: &[u16], cff: Vec<u8>) -> Result<Vec<u8>, Error>
+fn with_advances(
+    alloc: Global,
+    owns: usize,
+    advances: &[u16],
+    cff: Vec<u8>,
+) -> Result<Vec<u8>, Error>
     ensures ok { IfOk result (λ v. v.items ≡ with_advances owns advances.now cff.items) }
     ensures err { IfErr result (λ e. e ≡ OutOfMemory) }
 {

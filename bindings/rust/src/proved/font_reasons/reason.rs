@@ -81,7 +81,7 @@ pub enum Reason {
     WrongCff,
     /// `CFF ` has no charstring, or no private dict, for this glyph.
     NoCharstring(u16),
-    /// The charstring of this glyph can't be run within the limits.
+    /// The charstring of this glyph is wrong, or passes the limits.
     WrongCharstring(u16),
     /// The charstring of this glyph ends by putting two others together.
     Composed(u16),
@@ -414,7 +414,7 @@ impl fmt::Display for Reason {
                 let text = Between(
                     "glyph ",
                     u32::from(glyph),
-                    ": its charstring can't be run within the limits",
+                    ": its charstring is wrong, or passes the limits",
                 );
                 write!(f, "{text}")
             }
