@@ -316,9 +316,7 @@ fn wrong_variations_for(call: Call, font: &[u8], index: u32) -> Option<Reason>
 {
     match call {
         Call::Subset | Call::Embed | Call::GlyphsOf => None,
-        Call::SubsetAt | Call::EmbedAt | Call::PdfFont | Call::Advances => {
-            wrong_at(font, index)
-        }
+        Call::SubsetAt | Call::EmbedAt | Call::PdfFont | Call::Advances => { wrong_at(font, index) }
     }
 }
 

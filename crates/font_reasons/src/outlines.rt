@@ -13,8 +13,8 @@ use crate::file::missing_table;
 use crate::reason::Reason;
 use pdf_cff::unless_memory;
 use std::alloc::{AllocError, Global};
-use subsetter_base::{Error, GlyphRemapper, Tag};
 use subsetter_base::read::{between_offsets, from_offset, number_at};
+use subsetter_base::{Error, GlyphRemapper, Tag};
 use subsetter_points::component::{
     ARG_1_AND_2_ARE_WORDS, ARGUMENTS, GLYPH_INDEX, MORE_COMPONENTS, WE_HAVE_A_SCALE,
     WE_HAVE_A_TWO_BY_TWO, WE_HAVE_AN_X_AND_Y_SCALE,

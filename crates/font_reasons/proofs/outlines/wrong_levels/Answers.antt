@@ -13,4 +13,4 @@ loop-left-preserved c =
     let next : c.loop-left.left ≡ suc (c.loop-left.left - 1) = omega arith in
     ap (λ m. wrong_levels c.args.glyf.now c.args.loca.now c.args.format (c.loop-left.left - 1) m c.in_ok-seen.seen) (c.from-from.ensures ∙ c.num_gids.ensures.count)
     ∙ sound_level c.args.glyf.now c.args.loca.now c.args.format c.loop-left.left (c.loop-left.left - 1) c.loop-left.from c.loop-left.seen c.deref.result.now _ c.in_ok-seen.seen next (c.deref.ensures.value ∙ c.in_ok-level.ensures) c.in_default.ensures
-      (c.in_ok-seen.ensures.ok ∙ ap (reached_from_all c.args.glyf.now c.args.loca.now c.args.format c.loop-left.seen) (c.deref-in-loop-left.ensures.value ∙ sym c.deref.ensures.value)) c.loop-left.invariant
+    (c.in_ok-seen.ensures.ok ∙ ap (reached_from_all c.args.glyf.now c.args.loca.now c.args.format c.loop-left.seen) (c.deref-in-loop-left.ensures.value ∙ sym c.deref.ensures.value)) c.loop-left.invariant
