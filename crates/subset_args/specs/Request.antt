@@ -1,5 +1,5 @@
 -- What the arguments after the program's name ask for, or what is wrong with them first.
-use Rattle.std.specs.Prelude.{ℕ, ℤ, Bool, true, false, not, nat_lt, ◌&&◌, ◌||◌, ◌==◌, if◌then◌else◌, List, [], ◌∷◌, map, length, Option, Some, None, codes, is_some, unwrap_or, Result, Ok, Err}
+use Rattle.std.specs.Prelude.{ℕ, ℤ, Bool, true, false, not, nat_lt, ◌&&◌, ◌||◌, ◌==◌, if◌then◌else◌, List, [], ◌∷◌, map, length, Option, Some, None, codes, is_some, Result, Ok, Err}
 use Rattle.std.specs.Option.{option_map, option_and_then}
 use Rattle.std.specs.List.{slice_split}
 use Rattle.std.specs.Str.{bytes_eq}
@@ -17,7 +17,6 @@ use Rattle.subset_args.specs.declared.listing.lists.FileKind.{FileKind}
 use Rattle.subset_args.specs.declared.listing.lists.FileKind.TheVariants.{Glyphs as OfGlyphs, Characters as OfCharacters, Text as OfText}
 use Rattle.subset_args.specs.declared.listing.wrong.Listing.TheVariants.{Numbers, Glyphs, Codes, Coordinates}
 use Rattle.subset_args.specs.declared.mistakes.Wrong.TheVariants.{NoInput, NoGlyphs, InputTwice, Unknown, BehindShown, Index, NoBatchFile, BehindBatch}
-use Rattle.subset_args.specs.declared.options.names.Coding.TheVariants.{Consecutive}
 use Rattle.subset_args.specs.declared.options.chosen.PdfChoice.{PdfChoice}
 use Rattle.subset_args.specs.declared.options.chosen.Switches.{Switches}
 use Rattle.subset_args.specs.declared.jobs.command.Topic.{Topic}
@@ -154,9 +153,9 @@ position_option (Some text) = or_fault (list_fault Coordinates text) (option_map
 
 -- ---- the PDF that is requested, if any
 
--- how it is made: codes are consecutive where nothing is said
+-- how it is made
 abbrev pub pdf_choice : Choice → PdfChoice
-pdf_choice choice = record { vertical = choice.switches.vertical; coding = unwrap_or choice.coding Consecutive; is_held = choice.is_held }
+pdf_choice choice = record { vertical = choice.switches.vertical; coding = choice.coding; is_held = choice.is_held }
 
 abbrev pub pdf_of : Choice → Option PdfRequest
 pdf_of choice = option_map (λ file. record { file = file; choice = pdf_choice choice }) choice.pdf

@@ -1,5 +1,5 @@
 -- What the options of a command line choose of a font.
-use Rattle.std.specs.Prelude.{Bool, true, false, None}
+use Rattle.std.specs.Prelude.{Bool, true, false, Option, Some, None}
 use Rattle.subset_args.specs.declared.options.names.Coding.{Coding}
 use Rattle.subset_args.specs.declared.options.names.Coding.TheVariants.{Consecutive, Source, Text}
 use Rattle.subset_args.specs.declared.options.chosen.PdfChoice.{PdfChoice}
@@ -15,10 +15,12 @@ use Rattle.pdf_source.specs.declared.choice.Direction.TheVariants.{Horizontal, V
 use Rattle.pdf_source.specs.declared.choice.FontOptions.{FontOptions}
 use Rattle.subset_pdf.specs.declared.options.PdfRequest.{PdfRequest}
 
-abbrev pub codes_by : Coding → Codes
-codes_by Consecutive = InOrder
-codes_by Source = AsInSource
-codes_by Text = EachText
+-- in order of use, where nothing is said
+abbrev pub codes_by : Option Coding → Codes
+codes_by None = InOrder
+codes_by (Some Consecutive) = InOrder
+codes_by (Some Source) = AsInSource
+codes_by (Some Text) = EachText
 
 abbrev pub direction_by : Bool → Direction
 direction_by true = Vertical

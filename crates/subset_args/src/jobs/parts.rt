@@ -16,7 +16,7 @@ use crate::listing::lists::{FileKind, GlyphList, read_argument};
 use crate::listing::wrong::{Listing, wrong_list};
 use crate::mistakes::{Mistake, Unread, Wrong, mistake_in};
 use crate::options::chosen::{Chosen, PdfChoice};
-use crate::options::names::{Coding, Source};
+use crate::options::names::Source;
 use crate::words::{parts_of, u16_of};
 use std::alloc::{AllocError, Global};
 
@@ -228,7 +228,7 @@ fn pdf_choice(chosen: &Chosen<'_>) -> PdfChoice
 {
     PdfChoice {
         vertical: chosen.switches.vertical,
-        coding: chosen.coding.unwrap_or(Coding::Consecutive),
+        coding: chosen.coding,
         is_held: chosen.is_held,
     }
 }
