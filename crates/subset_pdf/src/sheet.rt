@@ -1,22 +1,27 @@
 //! The PDF.
 
 ghost use Rattle.std.specs.Prelude.{◌≡◌, ◌⊎◌, IfOk, IfErr};
+ghost use Rattle.std.specs.Option.{option_copied, option_map};
 ghost use Rattle.pdf_objects.specs.Glyphs.{IsSheetOfFont};
-ghost use Rattle.subset_pdf.specs.Sheet.{HasFaultFor, HasSheetFault, HasSheetFaultBy, IsFontFor, IsSheetBy, IsSheetFor, IsTooLargeAs};
+ghost use Rattle.subset_pdf.specs.Line.{HasLineFault, IsLineFor};
+ghost use Rattle.subset_pdf.specs.Sheet.{HasCodedFault, HasFaultFor, HasNoPage, HasNoSheetOfLine, HasSheetFault, HasSheetFaultBy, HasTextFaultFor, HasTextSheetFault, IsCodedSheet, IsFontFor, IsPage, IsSheetBy, IsSheetFor, IsSheetOfLine, IsTextFor, IsTextSheet, IsTooLargeAs, is_text, named};
 ghost use Rattle.subset_pdf.specs.declared.sheet.SheetError.TheVariants.{Font as RefusedFont};
-ghost use Rattle.subsetter_base.specs.declared.error.Error.TheVariants.{OutOfMemory};
+ghost use Rattle.subsetter_base.specs.declared.error.Error.TheVariants.{OutOfMemory, OverflowError};
 
+use crate::line::{Line, line_for};
 use crate::options::{PdfRequest, options_of};
 use crate::shown::shown_of;
 use pdf_font::{FontError, PdfFont, Permission, Shown, pdf_font};
-use pdf_objects::{view_of, write_sheet};
+use pdf_objects::{Layout, view_of, view_with, write_sheet};
+use pdf_sheet::{SheetLine, write_lines};
+use pdf_text_font::{TextFont, text_font};
 use std::alloc::Global;
 use subsetter_base::Error;
 
 /// A PDF that shows glyphs, and all that it has of their font.
 #[derive(Drop)]
 pub struct Sheet {
-    /// What the PDF has of the font.
+    /// What the PDF has of the font. Its codes are those that are shown, in order.
     pub font: PdfFont,
     /// The bytes of the PDF.
     pub file: Vec<u8>,
@@ -33,8 +38,22 @@ pub enum SheetError {
     TextTooLong,
 }
 
+/// The error of a font by its name here.
+fn named(error: FontError) -> SheetError
+    ensures { result ≡ named error }
+{
+    match error {
+        FontError::Subset(error) => SheetError::Font(error),
+        FontError::NotPermitted(permission) => SheetError::NotPermitted(permission),
+        FontError::TextTooLong => SheetError::TextTooLong,
+        FontError::BitmapsAlone => SheetError::Font(Error::UnknownKind),
+    }
+}
+
+// ---- by codes
+
 /// What the PDF has of the font for glyphs in use.
-#[tactic(auto, using(crate::proofs::Sheets::font_made, crate::proofs::Sheets::font_refused, crate::proofs::Sheets::font_forbidden, crate::proofs::Sheets::font_too_long))]
+#[tactic(auto, using(crate::proofs::Sheets::font_made, crate::proofs::Sheets::font_refused))]
 fn font_for(
     alloc: Global,
     data: &[u8],
@@ -47,10 +66,7 @@ fn font_for(
     let options = options_of(request);
     match pdf_font(alloc, data, request.index, request.at, shown, &options) {
         Ok(font) => Ok(font),
-        Err(FontError::Subset(error)) => Err(SheetError::Font(error)),
-        Err(FontError::NotPermitted(permission)) => Err(SheetError::NotPermitted(permission)),
-        Err(FontError::TextTooLong) => Err(SheetError::TextTooLong),
-        Err(FontError::BitmapsAlone) => Err(SheetError::Font(Error::UnknownKind)),
+        Err(error) => Err(named(error)),
     }
 }
 
@@ -72,8 +88,134 @@ fn drawn(
     }
 }
 
-/// The PDF that shows glyphs in use.
+/// The PDF that shows glyphs in use by their codes.
 #[tactic(auto, using(crate::proofs::Sheets::sheet_by, crate::proofs::Sheets::no_sheet_by, crate::proofs::Sheets::no_font_by))]
+fn coded_sheet(
+    alloc: Global,
+    data: &[u8],
+    request: &PdfRequest<'_>,
+    shown: &[Shown<'_>],
+) -> Result<Sheet, SheetError>
+    ensures ok { IfOk result (IsCodedSheet «data».now request.now shown.now) }
+    ensures err { IfErr result (λ e. (e ≡ RefusedFont OutOfMemory) ⊎ HasCodedFault «data».now request.now shown.now e) }
+{
+    match font_for(alloc, data, request, shown) {
+        Ok(font) => drawn(alloc, request, font, shown),
+        Err(error) => Err(error),
+    }
+}
+
+// ---- as a text
+
+/// The bytes of CIDToGIDMap, if that is a stream.
+fn map_of(text: &TextFont) -> Option<&[u8]>
+    ensures { option_copied result ≡ option_map (λ m. m.items) text.now.cid_to_gid_map }
+{
+    match &text.cid_to_gid_map {
+        None => None,
+        Some(map) => Some(map),
+    }
+}
+
+/// The page of a line.
+#[tactic(auto, using(crate::proofs::Sheets::page_made, crate::proofs::Sheets::page_unmade))]
+fn page_of(alloc: Global, text: &TextFont, line: &Line) -> Result<Vec<u8>, Error>
+    ensures ok { IfOk result (λ file. IsPage text.now line.now file.items) }
+    ensures err { IfErr result (λ e. (e ≡ OutOfMemory) ⊎ ((e ≡ OverflowError) × HasNoPage text.now line.now)) }
+{
+    let view = view_with(&text.font, map_of(text));
+    let shown = SheetLine {
+        operators: &line.operators,
+        advance: line.advance,
+    };
+    write_lines(alloc, view.values, &[shown])
+}
+
+/// The font of a line.
+#[tactic(auto, using(crate::proofs::Sheets::text_made, crate::proofs::Sheets::text_refused))]
+fn text_for(
+    alloc: Global,
+    data: &[u8],
+    request: &PdfRequest<'_>,
+    line: &Line,
+) -> Result<TextFont, SheetError>
+    ensures ok { IfOk result (IsTextFor «data».now request.now line.now) }
+    ensures err { IfErr result (λ e. (e ≡ RefusedFont OutOfMemory) ⊎ HasTextFaultFor «data».now request.now line.now e) }
+{
+    let options = options_of(request);
+    let (index, at, count) = (request.index, request.at, line.glyph_count);
+    match text_font(alloc, data, index, at, &line.pairs, count, &[], &options) {
+        Ok(text) => Ok(text),
+        Err(error) => Err(named(error)),
+    }
+}
+
+/// The PDF of a line and its font.
+fn drawn_text(alloc: Global, text: TextFont, line: Line) -> Result<Sheet, SheetError>
+    ensures font { IfOk result (λ sheet. sheet.font ≡ record text.font { codes = line.codes }) }
+    ensures ok { IfOk result (λ sheet. IsPage text line sheet.file.items) }
+    ensures err { IfErr result (λ e. (e ≡ RefusedFont OutOfMemory) ⊎ ((e ≡ RefusedFont OverflowError) × HasNoPage text line)) }
+{
+    match page_of(alloc, &text, &line) {
+        Ok(file) => {
+            let font = PdfFont {
+                codes: line.codes,
+                ..text.font
+            };
+            Ok(Sheet { font, file })
+        }
+        Err(error) => Err(SheetError::Font(error)),
+    }
+}
+
+/// The PDF of a line.
+#[tactic(auto, using(crate::proofs::Sheets::line_drawn, crate::proofs::Sheets::line_undrawn, crate::proofs::Sheets::no_text_for))]
+fn sheet_of_line(
+    alloc: Global,
+    data: &[u8],
+    request: &PdfRequest<'_>,
+    line: Line,
+) -> Result<Sheet, SheetError>
+    ensures ok { IfOk result (IsSheetOfLine «data».now request.now line) }
+    ensures err { IfErr result (λ e. (e ≡ RefusedFont OutOfMemory) ⊎ HasNoSheetOfLine «data».now request.now line e) }
+{
+    match text_for(alloc, data, request, &line) {
+        Ok(text) => drawn_text(alloc, text, line),
+        Err(error) => Err(error),
+    }
+}
+
+/// The PDF that shows glyphs in use as the line of a text.
+#[tactic(auto, using(crate::proofs::Sheets::text_drawn, crate::proofs::Sheets::text_undrawn, crate::proofs::Sheets::no_line_for))]
+fn text_sheet(
+    alloc: Global,
+    data: &[u8],
+    request: &PdfRequest<'_>,
+    shown: &[Shown<'_>],
+) -> Result<Sheet, SheetError>
+    ensures ok { IfOk result (IsTextSheet «data».now request.now shown.now) }
+    ensures err { IfErr result (λ e. (e ≡ RefusedFont OutOfMemory) ⊎ HasTextSheetFault «data».now request.now shown.now e) }
+{
+    match line_for(alloc, data, request, shown) {
+        Ok(line) => sheet_of_line(alloc, data, request, line),
+        Err(error) => Err(SheetError::Font(error)),
+    }
+}
+
+// ---- both
+
+/// Whether glyphs are a text: they are in a line, and no way of getting codes is given.
+fn is_text(request: &PdfRequest<'_>) -> bool
+    ensures { result ≡ is_text request.now }
+{
+    match request.layout {
+        Layout::Line => request.choice.coding.is_none(),
+        Layout::Grid => false,
+    }
+}
+
+/// The PDF that shows glyphs in use.
+#[tactic(auto, using(crate::proofs::Sheets::either_sheet, crate::proofs::Sheets::neither_sheet))]
 fn sheet_of(
     alloc: Global,
     data: &[u8],
@@ -83,20 +225,22 @@ fn sheet_of(
     ensures ok { IfOk result (IsSheetBy «data».now request.now shown.now) }
     ensures err { IfErr result (λ e. (e ≡ RefusedFont OutOfMemory) ⊎ HasSheetFaultBy «data».now request.now shown.now e) }
 {
-    match font_for(alloc, data, request, shown) {
-        Ok(font) => drawn(alloc, request, font, shown),
-        Err(error) => Err(error),
+    if is_text(request) {
+        text_sheet(alloc, data, request, shown)
+    } else {
+        coded_sheet(alloc, data, request, shown)
     }
 }
 
 /// A PDF that shows glyphs of a font in 36 points, each with its text, so many of the characters that are left: in a line, or in
-/// a grid of 12 by 16 a page.
+/// a grid of 12 by 16 a page. A line is that of a text, unless it is chosen how glyphs get codes.
 ///
 /// # Errors
 ///
 /// - `NotPermitted`: `fsType` forbids it, and the user holds no rights.
 /// - `TextTooLong`: the text of a glyph is too long.
-/// - `Font`: what `pdf_font` answers; the PDF would have 10,000,000,000 bytes or more (`OverflowError`); a request for memory was
+/// - `Font`: what `pdf_font` answers, and of a text `text_metrics`; a glyph of a text isn't the font's (`MalformedFont`), or the
+///   text is too long (`OverflowError`); the PDF would have 10,000,000,000 bytes or more (`OverflowError`); a request for memory was
 ///   refused (`OutOfMemory`).
 #[tactic(auto, using(crate::proofs::Sheets::sheet_for, crate::proofs::Sheets::no_sheet_for))]
 pub fn make_sheet(
@@ -107,7 +251,7 @@ pub fn make_sheet(
     lengths: &[usize],
     glyphs: &[u16],
 ) -> Result<Sheet, SheetError>
-    // What is made is the sheet of what `pdf_font` answers for the glyphs.
+    // What is made is the sheet of what `pdf_font` answers for the glyphs, or of their line and what `text_font` answers for it.
     ensures ok { IfOk result (IsSheetFor «data».now request.now text.now lengths.now glyphs.now) }
     // What is refused has a fault of that name.
     ensures err { IfErr result (λ e. (e ≡ RefusedFont OutOfMemory) ⊎ HasSheetFault «data».now request.now text.now lengths.now glyphs.now e) }
