@@ -1,26 +1,28 @@
 -- Glyphs with their texts as one run of a text, with the font's own advances (ISO 32000-1, 9.4.4 and 9.7.4.3).
-use Rattle.std.specs.Prelude.{◌≡◌, ℕ, ◌+◌, Bool, true, false, List, [], ◌∷◌, length, map, get_or, min, Some, Result, Ok, Err, ℤ, pos, ◌-ℤ◌, unsigned_abs}
+use Rattle.std.specs.Prelude.{◌≡◌, ℕ, ◌+◌, Bool, true, false, List, [], ◌∷◌, length, map, get_or, min, Some, Result, Ok, pos, ◌-ℤ◌, unsigned_abs}
 use Rattle.std.specs.Int.{saturate_signed, w32}
+use Rattle.subsetter_base.specs.Gives.{Fails}
 use Rattle.subsetter_base.specs.declared.error.Error.{Error}
-use Rattle.subsetter_base.specs.declared.error.Error.TheVariants.{MalformedFont, OverflowError}
+use Rattle.subsetter_base.specs.declared.error.Error.TheVariants.{MalformedFont, OutOfMemory, OverflowError}
 use Rattle.subsetter_sfnt.specs.Extras.{all_extras}
 use Rattle.subsetter_sfnt.specs.FontAt.{font_at}
 use Rattle.pdf_codes.specs.declared.shown.Shown.{Shown}
-use Rattle.pdf_operators.specs.Operators.{code_of, operators}
+use Rattle.pdf_operators.specs.Operators.{operators}
 use Rattle.pdf_operators.specs.Places.{no_metrics}
 use Rattle.pdf_operators.specs.Reading.{IsShown}
-use Rattle.pdf_operators.specs.Runs.{is_laid, run_acts}
+use Rattle.pdf_operators.specs.Runs.{IsRefused, run_acts}
 use Rattle.pdf_operators.specs.declared.order.Order.TheVariants.{Visual}
 use Rattle.pdf_operators.specs.declared.places.Font.{Font}
 use Rattle.pdf_operators.specs.declared.places.GlyphMetrics.{GlyphMetrics}
-use Rattle.pdf_runs.specs.Codes.{IsOverfull, pair_of, with_pairs, zeroth}
+use Rattle.pdf_runs.specs.Codes.{AreCodes, with_pairs, zeroth}
 use Rattle.pdf_runs.specs.Items.{is_run}
 use Rattle.pdf_runs.specs.Pieces.{pieces_of_run}
 use Rattle.pdf_runs.specs.declared.codes.Pair.{Pair}
+use Rattle.pdf_runs.specs.declared.error.RunError.{RunError}
+use Rattle.pdf_runs.specs.declared.error.RunError.TheVariants.{InvalidText, Overfull, OutOfMemory as NoMemory}
 use Rattle.pdf_runs.specs.declared.items.Direction.{Direction}
 use Rattle.pdf_runs.specs.declared.items.Direction.TheVariants.{LeftToRight, TopToBottom}
 use Rattle.pdf_runs.specs.declared.items.Item.{Item}
-use Rattle.pdf_runs.specs.declared.pieces.Piece.{Piece}
 use Rattle.text_metrics.specs.Columns.{column_metrics}
 use Rattle.text_metrics.specs.Metrics.{Metrics, text_metrics}
 use Rattle.subset_pdf.specs.declared.line.Line.{Line}
@@ -54,30 +56,26 @@ length_of (i ∷ is) = (unsigned_abs i.x_advance + unsigned_abs i.y_advance) + l
 abbrev pub pairs_of : Font → Direction → List Item → List Pair
 pairs_of f d is = with_pairs (zeroth ∷ []) (pieces_of_run d f.inked.now is)
 
-abbrev pub codes_of : List Pair → List Piece → List ℕ
-codes_of pairs ps = map (λ (p : Piece). code_of pairs (pair_of p)) ps
-
--- its operators at 36 points, and what a reader finds in them
-pub record IsRunShown (f : Font) (d : Direction) (is : List Item) (bytes : List ℕ) (pairs : List Pair) : Type 0 where
-  pub pairs_are : pairs ≡ pairs_of f d is
-  pub operators_are : bytes ≡ operators 36000 pairs (run_acts f d Visual is)
-  pub shown : IsShown f d Visual 36000 pairs is bytes
-
+-- its operators at 36 points, what a reader finds in them, and the codes that they show
 pub record IsLine (f : Font) (d : Direction) (is : List Item) (line : Line) : Type 0 where
-  pub run : IsRunShown f d is line.operators.items line.pairs
-  pub codes : line.codes.items ≡ codes_of line.pairs (pieces_of_run d f.inked.now is)
+  pub pairs_are : line.pairs ≡ pairs_of f d is
+  pub operators_are : line.operators.items ≡ operators 36000 line.pairs (run_acts f d Visual is)
+  pub shown : IsShown f d Visual 36000 line.pairs is line.operators.items
+  pub codes_are : AreCodes line.pairs (pieces_of_run d f.inked.now is) line.codes.items
   -- a page has at most 14,400 points
   pub advance : line.advance ≡ min (length_of is) 398000
   pub glyph_count : line.glyph_count ≡ length f.metrics.now
 
--- why there is none, under the name of the error
-pub data HasNoLine (f : Font) (d : Direction) (is : List Item) : Error → Type 0 where
-  -- the font hasn't got a glyph
-  unknown : is_run d (length f.metrics.now) is ≡ false → HasNoLine f d is MalformedFont
-  -- a place hasn't got 32 bits, or an ActualText is too long
-  unlaid : is_laid f d Visual is ≡ false → HasNoLine f d is OverflowError
-  -- no codes are left
-  overfull : IsOverfull (zeroth ∷ []) (pieces_of_run d f.inked.now is) → HasNoLine f d is OverflowError
+-- the error of a run of glyphs that the font has: a place hasn't got 32 bits, an ActualText is too long, or no codes are left
+abbrev pub named : RunError → Error
+named InvalidText = OverflowError
+named Overfull = OverflowError
+named NoMemory = OutOfMemory
+
+-- why there is none: the font hasn't got a glyph, or `show_run` refuses the run
+pub data HasNoLine (f : Font) (d : Direction) (is : List Item) (why : Error) : Type 0 where
+  unknown : why ≡ MalformedFont → is_run d (length f.metrics.now) is ≡ false → HasNoLine f d is why
+  unshown : (e : RunError) (new : List Pair) → why ≡ named e → is_run d (length f.metrics.now) is ≡ true → IsRefused f d Visual (zeroth ∷ []) new is e → HasNoLine f d is why
 
 -- ---- of a font
 
@@ -105,6 +103,6 @@ pub record IsLineFor (bytes : List ℕ) (request : PdfRequest) (shown : List Sho
   pub is_font : IsRunFont bytes request font
   pub is_line : IsLine font (direction_of request.choice.vertical) (items_for request font shown) line
 
-pub data HasLineFault (bytes : List ℕ) (request : PdfRequest) (shown : List Shown) : Error → Type 0 where
-  unread : {e : Error} → metrics_for bytes request ≡ Err e → HasLineFault bytes request shown e
-  no_line : {e : Error} (font : Font) → IsRunFont bytes request font → HasNoLine font (direction_of request.choice.vertical) (items_for request font shown) e → HasLineFault bytes request shown e
+pub data HasLineFault (bytes : List ℕ) (request : PdfRequest) (shown : List Shown) (why : Error) : Type 0 where
+  unread : Fails why (metrics_for bytes request) → HasLineFault bytes request shown why
+  no_line : (font : Font) → IsRunFont bytes request font → HasNoLine font (direction_of request.choice.vertical) (items_for request font shown) why → HasLineFault bytes request shown why

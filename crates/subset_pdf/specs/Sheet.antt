@@ -65,17 +65,17 @@ pub data HasCodedFault (bytes : List ℕ) (request : PdfRequest) (shown : List S
   in_font : HasFaultFor bytes request shown why → HasCodedFault bytes request shown why
   too_large : (font : PdfFont) → IsFontFor bytes request shown font → IsTooLargeAs font shown request.layout why → HasCodedFault bytes request shown why
 
--- ---- the line of a text
+-- ---- glyphs as the line of a text
 
--- what `text_font` answers for it, without own glyphs
+-- what `text_font` answers for a line, without own glyphs
 abbrev pub IsTextFor : List ℕ → PdfRequest → Line → TextFont → Type 0
 IsTextFor bytes request line text = IsTextFont (font_of bytes request.index (options_of request)) request.at.now (options_of request) line.glyph_count [] (by_code line.pairs) text
 
 abbrev pub HasTextFaultFor : List ℕ → PdfRequest → Line → SheetError → Type 0
 HasTextFaultFor bytes request line why = IsNamed (HasTextFault (font_of bytes request.index (options_of request)) request.at.now (options_of request) line.glyph_count [] (by_code line.pairs)) why
 
--- its page, with the font
-pub record HasView (text : TextFont) (line : Line) (view : FontView) (shown : SheetLine) : Type 0 where
+-- its font and the line, as `write_lines` takes them
+pub record IsViewOfLine (text : TextFont) (line : Line) (view : FontView) (shown : SheetLine) : Type 0 where
   pub font : IsViewWith text.font (option_map (λ m. m.items) text.cid_to_gid_map) view
   pub operators : shown.operators.now ≡ line.operators.items
   pub advance : shown.advance ≡ line.advance
@@ -83,36 +83,29 @@ pub record HasView (text : TextFont) (line : Line) (view : FontView) (shown : Sh
 pub record IsPage (text : TextFont) (line : Line) (file : List ℕ) : Type 0 where
   pub view : FontView
   pub shown : SheetLine
-  pub is : HasView text line view shown
+  pub is : IsViewOfLine text line view shown
   pub whole : file ≡ file_of (lines_values view.values (shown ∷ []))
   pub at : AreInTable file (length (body_of (lines_values view.values (shown ∷ [])))) (lines_values view.values (shown ∷ []))
 
 pub record HasNoPage (text : TextFont) (line : Line) : Type 0 where
   pub view : FontView
   pub shown : SheetLine
-  pub is : HasView text line view shown
+  pub is : IsViewOfLine text line view shown
   pub large : AreTooLarge view.values (shown ∷ [])
 
--- of a line; the codes are those that it shows
-pub record IsSheetOfLine (bytes : List ℕ) (request : PdfRequest) (line : Line) (sheet : Sheet) : Type 0 where
+-- the page of their line; the codes are those that it shows
+pub record IsTextSheet (bytes : List ℕ) (request : PdfRequest) (shown : List Shown) (sheet : Sheet) : Type 0 where
+  pub line : Line
   pub text : TextFont
+  pub is_line : IsLineFor bytes request shown line
   pub is_text : IsTextFor bytes request line text
   pub font : sheet.font ≡ record text.font { codes = line.codes }
   pub page : IsPage text line sheet.file.items
 
-pub data HasNoSheetOfLine (bytes : List ℕ) (request : PdfRequest) (line : Line) (why : SheetError) : Type 0 where
-  no_text : HasTextFaultFor bytes request line why → HasNoSheetOfLine bytes request line why
-  no_page : (text : TextFont) → IsTextFor bytes request line text → (why ≡ Font OverflowError) × HasNoPage text line → HasNoSheetOfLine bytes request line why
-
--- of glyphs
-pub record IsTextSheet (bytes : List ℕ) (request : PdfRequest) (shown : List Shown) (sheet : Sheet) : Type 0 where
-  pub line : Line
-  pub is_line : IsLineFor bytes request shown line
-  pub is_sheet : IsSheetOfLine bytes request line sheet
-
 pub data HasTextSheetFault (bytes : List ℕ) (request : PdfRequest) (shown : List Shown) (why : SheetError) : Type 0 where
   no_line : (e : Error) → why ≡ Font e → HasLineFault bytes request shown e → HasTextSheetFault bytes request shown why
-  no_sheet : (line : Line) → IsLineFor bytes request shown line → HasNoSheetOfLine bytes request line why → HasTextSheetFault bytes request shown why
+  no_text : (line : Line) → IsLineFor bytes request shown line → HasTextFaultFor bytes request line why → HasTextSheetFault bytes request shown why
+  no_page : (line : Line) (text : TextFont) → IsLineFor bytes request shown line → IsTextFor bytes request line text → why ≡ Font OverflowError → HasNoPage text line → HasTextSheetFault bytes request shown why
 
 -- ---- both
 

@@ -1,20 +1,19 @@
 //! Glyphs with their texts as one run of a text.
 
-ghost use Rattle.std.specs.Prelude.{◌≡◌, ◌⊎◌, ◌<◌, get_or, min, IfOk, IfErr};
+ghost use Rattle.std.specs.Prelude.{◌≡◌, ◌⊎◌, ◌<◌, ◌≤◌, get_or, length, min, IfOk, IfErr, OnOk};
 ghost use Rattle.subsetter_base.specs.Gives.{Gives};
 ghost use Rattle.subsetter_base.specs.declared.error.Error.TheVariants.{OutOfMemory};
-ghost use Rattle.pdf_runs.specs.Codes.{pair_of};
-ghost use Rattle.pdf_operators.specs.Operators.{code_of};
 ghost use Rattle.pdf_operators.specs.Places.{no_metrics};
+ghost use Rattle.pdf_operators.specs.Reading.{AreCoded};
+ghost use Rattle.pdf_runs.specs.Codes.{AreCodes};
+ghost use Rattle.pdf_runs.specs.Pieces.{pieces_of_run};
 ghost use Rattle.text_metrics.specs.Metrics.{metrics_seen};
-ghost use Rattle.subset_pdf.specs.Line.{HasLineFault, HasNoLine, IsLine, IsLineFor, IsRunShown, codes_of, direction_of, item_of, items_of, length_of, metrics_for};
+ghost use Rattle.subset_pdf.specs.Line.{HasLineFault, HasNoLine, IsLine, IsLineFor, direction_of, item_of, items_of, length_of, metrics_for, named};
 
 use crate::options::PdfRequest;
 use pdf_font::Shown;
 use pdf_operators::{Font, GlyphMetrics, Order, show_run};
-use pdf_runs::{
-    Direction, Item, Pair, Piece, RunError, code_in, is_run, no_pairs, pair_of, pieces_of_run,
-};
+use pdf_runs::{Direction, Item, Pair, RunError, codes_of, is_run, no_pairs, pieces_of_run};
 use std::alloc::Global;
 use subsetter_base::Error;
 use subsetter_base::remapper::Remapper;
@@ -114,73 +113,58 @@ fn length_of(items: &[Item<'_>]) -> u32
     length as u32
 }
 
-/// The code of a piece, 0 where it has none.
-fn code_of(pairs: &Remapper<u16, Pair>, piece: Piece) -> u16
-    ensures { result ≡ code_of pairs.now (pair_of piece) }
+/// The error of a run of glyphs that the font has.
+fn named(error: RunError) -> Error
+    ensures { result ≡ named error }
 {
-    match code_in(pairs, pair_of(piece)) {
-        Some(code) => code,
-        None => 0,
+    match error {
+        RunError::InvalidText | RunError::Overfull => Error::OverflowError,
+        RunError::OutOfMemory => Error::OutOfMemory,
     }
 }
 
-/// The codes of pieces.
-fn codes_of(alloc: Global, pairs: &Remapper<u16, Pair>, pieces: &[Piece]) -> Result<Vec<u16>, Error>
-    ensures ok { IfOk result (λ codes. codes.items ≡ codes_of pairs.now pieces.now) }
+/// The codes of a run that has pairs, in order.
+#[tactic(auto, using(crate::proofs::Lines::pairs_stay, crate::proofs::Lines::never_overfull))]
+fn codes_for(
+    alloc: Global,
+    font: Font<'_>,
+    direction: Direction,
+    pairs: &mut Remapper<u16, Pair>,
+    items: &[Item<'_>],
+) -> Result<Vec<u16>, Error>
+    requires coded { AreCoded pairs.old (pieces_of_run direction font.entry.inked.now items.now) }
+    requires few { length pairs.old ≤ 65535 }
+    ensures stay { OnOk result (pairs.new ≡ pairs.old) }
+    ensures codes { IfOk result (λ codes. AreCodes pairs.old (pieces_of_run direction font.entry.inked.now items.now) codes.items) }
     ensures err { IfErr result (λ e. e ≡ OutOfMemory) }
 {
-    let mut codes = Vec::with_capacity(alloc, pieces.len())?;
-    for piece in pieces {
-        codes.push(code_of(pairs, *piece))?;
-    }
+    let pieces = pieces_of_run(alloc, direction, font.inked, items)?;
+    let codes = codes_of(alloc, pairs, &pieces)?;
     Ok(codes)
 }
 
-/// The operators that show a run at 36 points, and its pairs.
-#[tactic(auto, using(crate::proofs::Lines::run_shown, crate::proofs::Lines::run_refused))]
-fn show_items<'a>(
+/// The line of a run.
+#[tactic(auto, using(crate::proofs::Lines::unshown_by))]
+fn line_of<'a>(
     alloc: Global,
     font: Font<'_>,
     direction: Direction,
     items: &'a [Item<'a>],
-) -> Result<(Vec<u8>, Remapper<u16, Pair>), Error>
-    requires { 0 < font.units }
-    ensures ok { IfOk result (λ r. IsRunShown font.entry direction items.now r.0.items r.1) }
-    ensures err { IfErr result (λ e. (e ≡ OutOfMemory) ⊎ HasNoLine font.entry direction items.now e) }
-{
-    if !is_run(direction, font.metrics.len(), items) {
-        return Err(Error::MalformedFont);
-    }
-    let mut pairs = no_pairs(alloc)?;
-    match show_run(
-        alloc,
-        font,
-        direction,
-        Order::Visual,
-        36_000,
-        &mut pairs,
-        items,
-    ) {
-        Ok(operators) => Ok((operators, pairs)),
-        Err(RunError::OutOfMemory) => Err(Error::OutOfMemory),
-        Err(RunError::InvalidText | RunError::Overfull) => Err(Error::OverflowError),
-    }
-}
-
-/// The line of a run.
-fn line_of(
-    alloc: Global,
-    font: Font<'_>,
-    direction: Direction,
-    items: &[Item<'_>],
 ) -> Result<Line, Error>
     requires { 0 < font.units }
     ensures ok { IfOk result (IsLine font.entry direction items.now) }
     ensures err { IfErr result (λ e. (e ≡ OutOfMemory) ⊎ HasNoLine font.entry direction items.now e) }
 {
-    let (operators, pairs) = show_items(alloc, font, direction, items)?;
-    let pieces = pieces_of_run(alloc, direction, font.inked, items)?;
-    let codes = codes_of(alloc, &pairs, &pieces)?;
+    if !is_run(direction, font.metrics.len(), items) {
+        return Err(Error::MalformedFont);
+    }
+    let (order, size) = (Order::Visual, 36_000);
+    let mut pairs = no_pairs(alloc)?;
+    let operators = match show_run(alloc, font, direction, order, size, &mut pairs, items) {
+        Ok(operators) => operators,
+        Err(error) => return Err(named(error)),
+    };
+    let codes = codes_for(alloc, font, direction, &mut pairs, items)?;
     Ok(Line {
         operators,
         pairs,
@@ -202,7 +186,7 @@ fn metrics_for(alloc: Global, data: &[u8], request: &PdfRequest<'_>) -> Result<T
 }
 
 /// The line of glyphs with their texts, by their advances in the font.
-#[tactic(auto, using(crate::proofs::Lines::line_made, crate::proofs::Lines::line_unmade, crate::proofs::Lines::metrics_unread))]
+#[tactic(auto, using(crate::proofs::Lines::line_made, crate::proofs::Lines::line_unmade))]
 pub fn line_for(
     alloc: Global,
     data: &[u8],
@@ -213,11 +197,9 @@ pub fn line_for(
     ensures err { IfErr result (λ e. (e ≡ OutOfMemory) ⊎ HasLineFault «data».now request.now shown.now e) }
 {
     let metrics = metrics_for(alloc, data, request)?;
-    let found = metrics.font();
     let font = Font {
         units: 1000,
-        metrics: found.metrics,
-        inked: found.inked,
+        ..metrics.font()
     };
     let vertical = request.choice.vertical;
     let items = items_of(alloc, vertical, font.metrics, shown)?;

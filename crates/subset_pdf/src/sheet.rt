@@ -3,8 +3,7 @@
 ghost use Rattle.std.specs.Prelude.{◌≡◌, ◌⊎◌, IfOk, IfErr};
 ghost use Rattle.std.specs.Option.{option_copied, option_map};
 ghost use Rattle.pdf_objects.specs.Glyphs.{IsSheetOfFont};
-ghost use Rattle.subset_pdf.specs.Line.{HasLineFault, IsLineFor};
-ghost use Rattle.subset_pdf.specs.Sheet.{HasCodedFault, HasFaultFor, HasNoPage, HasNoSheetOfLine, HasSheetFault, HasSheetFaultBy, HasTextFaultFor, HasTextSheetFault, IsCodedSheet, IsFontFor, IsPage, IsSheetBy, IsSheetFor, IsSheetOfLine, IsTextFor, IsTextSheet, IsTooLargeAs, is_text, named};
+ghost use Rattle.subset_pdf.specs.Sheet.{HasCodedFault, HasFaultFor, HasNoPage, HasSheetFault, HasSheetFaultBy, HasTextFaultFor, HasTextSheetFault, IsCodedSheet, IsFontFor, IsPage, IsSheetBy, IsSheetFor, IsTextFor, IsTextSheet, IsTooLargeAs, is_text, named};
 ghost use Rattle.subset_pdf.specs.declared.sheet.SheetError.TheVariants.{Font as RefusedFont};
 ghost use Rattle.subsetter_base.specs.declared.error.Error.TheVariants.{OutOfMemory, OverflowError};
 
@@ -38,15 +37,24 @@ pub enum SheetError {
     TextTooLong,
 }
 
-/// The error of a font by its name here.
-fn named(error: FontError) -> SheetError
-    ensures { result ≡ named error }
-{
-    match error {
-        FontError::Subset(error) => SheetError::Font(error),
-        FontError::NotPermitted(permission) => SheetError::NotPermitted(permission),
-        FontError::TextTooLong => SheetError::TextTooLong,
-        FontError::BitmapsAlone => SheetError::Font(Error::UnknownKind),
+impl From<Error> for SheetError {
+    ghost from_gives = { λ error why. why ≡ RefusedFont error };
+
+    fn from(error: Error) -> SheetError {
+        SheetError::Font(error)
+    }
+}
+
+impl From<FontError> for SheetError {
+    ghost from_gives = { λ error why. why ≡ named error };
+
+    fn from(error: FontError) -> SheetError {
+        match error {
+            FontError::Subset(error) => SheetError::Font(error),
+            FontError::NotPermitted(permission) => SheetError::NotPermitted(permission),
+            FontError::TextTooLong => SheetError::TextTooLong,
+            FontError::BitmapsAlone => SheetError::Font(Error::UnknownKind),
+        }
     }
 }
 
@@ -64,10 +72,8 @@ fn font_for(
     ensures err { IfErr result (λ e. (e ≡ RefusedFont OutOfMemory) ⊎ HasFaultFor «data».now request.now shown.now e) }
 {
     let options = options_of(request);
-    match pdf_font(alloc, data, request.index, request.at, shown, &options) {
-        Ok(font) => Ok(font),
-        Err(error) => Err(named(error)),
-    }
+    let font = pdf_font(alloc, data, request.index, request.at, shown, &options)?;
+    Ok(font)
 }
 
 /// The PDF of a font.
@@ -82,10 +88,8 @@ fn drawn(
     ensures ok { IfOk result (λ sheet. IsSheetOfFont sheet.font shown.now request.now.layout sheet.file.items) }
     ensures err { IfErr result (λ e. (e ≡ RefusedFont OutOfMemory) ⊎ IsTooLargeAs font shown.now request.now.layout e) }
 {
-    match write_sheet(alloc, view_of(&font), shown, request.layout) {
-        Ok(file) => Ok(Sheet { font, file }),
-        Err(error) => Err(SheetError::Font(error)),
-    }
+    let file = write_sheet(alloc, view_of(&font), shown, request.layout)?;
+    Ok(Sheet { font, file })
 }
 
 /// The PDF that shows glyphs in use by their codes.
@@ -99,13 +103,28 @@ fn coded_sheet(
     ensures ok { IfOk result (IsCodedSheet «data».now request.now shown.now) }
     ensures err { IfErr result (λ e. (e ≡ RefusedFont OutOfMemory) ⊎ HasCodedFault «data».now request.now shown.now e) }
 {
-    match font_for(alloc, data, request, shown) {
-        Ok(font) => drawn(alloc, request, font, shown),
-        Err(error) => Err(error),
-    }
+    let font = font_for(alloc, data, request, shown)?;
+    drawn(alloc, request, font, shown)
 }
 
 // ---- as a text
+
+/// What a PDF has of the font of a line.
+#[tactic(auto, using(crate::proofs::Sheets::text_made, crate::proofs::Sheets::text_refused))]
+fn text_for(
+    alloc: Global,
+    data: &[u8],
+    request: &PdfRequest<'_>,
+    line: &Line,
+) -> Result<TextFont, SheetError>
+    ensures ok { IfOk result (IsTextFor «data».now request.now line.now) }
+    ensures err { IfErr result (λ e. (e ≡ RefusedFont OutOfMemory) ⊎ HasTextFaultFor «data».now request.now line.now e) }
+{
+    let options = options_of(request);
+    let (index, at, count) = (request.index, request.at, line.glyph_count);
+    let text = text_font(alloc, data, index, at, &line.pairs, count, &[], &options)?;
+    Ok(text)
+}
 
 /// The bytes of CIDToGIDMap, if that is a stream.
 fn map_of(text: &TextFont) -> Option<&[u8]>
@@ -131,62 +150,8 @@ fn page_of(alloc: Global, text: &TextFont, line: &Line) -> Result<Vec<u8>, Error
     write_lines(alloc, view.values, &[shown])
 }
 
-/// The font of a line.
-#[tactic(auto, using(crate::proofs::Sheets::text_made, crate::proofs::Sheets::text_refused))]
-fn text_for(
-    alloc: Global,
-    data: &[u8],
-    request: &PdfRequest<'_>,
-    line: &Line,
-) -> Result<TextFont, SheetError>
-    ensures ok { IfOk result (IsTextFor «data».now request.now line.now) }
-    ensures err { IfErr result (λ e. (e ≡ RefusedFont OutOfMemory) ⊎ HasTextFaultFor «data».now request.now line.now e) }
-{
-    let options = options_of(request);
-    let (index, at, count) = (request.index, request.at, line.glyph_count);
-    match text_font(alloc, data, index, at, &line.pairs, count, &[], &options) {
-        Ok(text) => Ok(text),
-        Err(error) => Err(named(error)),
-    }
-}
-
-/// The PDF of a line and its font.
-fn drawn_text(alloc: Global, text: TextFont, line: Line) -> Result<Sheet, SheetError>
-    ensures font { IfOk result (λ sheet. sheet.font ≡ record text.font { codes = line.codes }) }
-    ensures ok { IfOk result (λ sheet. IsPage text line sheet.file.items) }
-    ensures err { IfErr result (λ e. (e ≡ RefusedFont OutOfMemory) ⊎ ((e ≡ RefusedFont OverflowError) × HasNoPage text line)) }
-{
-    match page_of(alloc, &text, &line) {
-        Ok(file) => {
-            let font = PdfFont {
-                codes: line.codes,
-                ..text.font
-            };
-            Ok(Sheet { font, file })
-        }
-        Err(error) => Err(SheetError::Font(error)),
-    }
-}
-
-/// The PDF of a line.
-#[tactic(auto, using(crate::proofs::Sheets::line_drawn, crate::proofs::Sheets::line_undrawn, crate::proofs::Sheets::no_text_for))]
-fn sheet_of_line(
-    alloc: Global,
-    data: &[u8],
-    request: &PdfRequest<'_>,
-    line: Line,
-) -> Result<Sheet, SheetError>
-    ensures ok { IfOk result (IsSheetOfLine «data».now request.now line) }
-    ensures err { IfErr result (λ e. (e ≡ RefusedFont OutOfMemory) ⊎ HasNoSheetOfLine «data».now request.now line e) }
-{
-    match text_for(alloc, data, request, &line) {
-        Ok(text) => drawn_text(alloc, text, line),
-        Err(error) => Err(error),
-    }
-}
-
 /// The PDF that shows glyphs in use as the line of a text.
-#[tactic(auto, using(crate::proofs::Sheets::text_drawn, crate::proofs::Sheets::text_undrawn, crate::proofs::Sheets::no_line_for))]
+#[tactic(auto, using(crate::proofs::Sheets::no_line_for, crate::proofs::Sheets::no_text_for, crate::proofs::Sheets::no_page_for))]
 fn text_sheet(
     alloc: Global,
     data: &[u8],
@@ -196,10 +161,14 @@ fn text_sheet(
     ensures ok { IfOk result (IsTextSheet «data».now request.now shown.now) }
     ensures err { IfErr result (λ e. (e ≡ RefusedFont OutOfMemory) ⊎ HasTextSheetFault «data».now request.now shown.now e) }
 {
-    match line_for(alloc, data, request, shown) {
-        Ok(line) => sheet_of_line(alloc, data, request, line),
-        Err(error) => Err(SheetError::Font(error)),
-    }
+    let line = line_for(alloc, data, request, shown)?;
+    let text = text_for(alloc, data, request, &line)?;
+    let file = page_of(alloc, &text, &line)?;
+    let font = PdfFont {
+        codes: line.codes,
+        ..text.font
+    };
+    Ok(Sheet { font, file })
 }
 
 // ---- both
@@ -215,7 +184,7 @@ fn is_text(request: &PdfRequest<'_>) -> bool
 }
 
 /// The PDF that shows glyphs in use.
-#[tactic(auto, using(crate::proofs::Sheets::either_sheet, crate::proofs::Sheets::neither_sheet))]
+#[tactic(auto, using(crate::proofs::Sheets::sheet_as, crate::proofs::Sheets::no_sheet_as))]
 fn sheet_of(
     alloc: Global,
     data: &[u8],
@@ -256,8 +225,6 @@ pub fn make_sheet(
     // What is refused has a fault of that name.
     ensures err { IfErr result (λ e. (e ≡ RefusedFont OutOfMemory) ⊎ HasSheetFault «data».now request.now text.now lengths.now glyphs.now e) }
 {
-    match shown_of(alloc, text, lengths, glyphs) {
-        Ok(shown) => sheet_of(alloc, data, request, &shown),
-        Err(error) => Err(SheetError::Font(error)),
-    }
+    let shown = shown_of(alloc, text, lengths, glyphs)?;
+    sheet_of(alloc, data, request, &shown)
 }
