@@ -23,12 +23,12 @@ pub struct PdfRequest<'a> {
     pub layout: Layout,
 }
 
-/// How glyphs get codes.
-fn codes_by(coding: Coding) -> Codes {
+/// How glyphs get codes: in order of use, where nothing is said.
+fn codes_by(coding: Option<Coding>) -> Codes {
     match coding {
-        Coding::Consecutive => Codes::Consecutive,
-        Coding::Source => Codes::Source,
-        Coding::Text => Codes::EachText,
+        None | Some(Coding::Consecutive) => Codes::Consecutive,
+        Some(Coding::Source) => Codes::Source,
+        Some(Coding::Text) => Codes::EachText,
     }
 }
 

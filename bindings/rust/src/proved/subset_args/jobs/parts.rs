@@ -10,7 +10,7 @@ use crate::proved::subset_args::listing::lists::{read_argument, FileKind, GlyphL
 use crate::proved::subset_args::listing::wrong::{wrong_list, Listing};
 use crate::proved::subset_args::mistakes::{mistake_in, Mistake, Unread, Wrong};
 use crate::proved::subset_args::options::chosen::{Chosen, PdfChoice};
-use crate::proved::subset_args::options::names::{Coding, Source};
+use crate::proved::subset_args::options::names::Source;
 use crate::proved::subset_args::words::{parts_of, u16_of};
 use crate::rattle::alloc::{AllocError, Global};
 
@@ -187,7 +187,7 @@ pub fn read_at<'a>(alloc: Global, at: Option<&'a str>) -> Result<Option<Position
 fn pdf_choice(chosen: &Chosen<'_>) -> PdfChoice {
     PdfChoice {
         vertical: chosen.switches.vertical,
-        coding: chosen.coding.unwrap_or(Coding::Consecutive),
+        coding: chosen.coding,
         is_held: chosen.is_held,
     }
 }

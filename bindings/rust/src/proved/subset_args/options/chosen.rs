@@ -79,8 +79,8 @@ impl Switches {
 pub struct PdfChoice {
     /// Whether its text runs from top to bottom.
     pub vertical: bool,
-    /// How its glyphs get codes.
-    pub coding: Coding,
+    /// How its glyphs get codes, if that is given.
+    pub coding: Option<Coding>,
     /// Whether the user holds the rights to embed the font, whatever it says.
     pub is_held: bool,
 }
