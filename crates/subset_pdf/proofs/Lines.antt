@@ -1,23 +1,25 @@
 -- What is answered for a line.
 use Rattle.std.proofs.Common.{◌≡◌, ◌⊎◌, inl, inr, ℕ, ◌<◌, ◌≤◌, List, [], ◌∷◌, ◌++◌, Bool, true, if◌then◌else◌, length, map, Result, Ok, Err, refl, sym, ap, subst, ◌∙◌, arith}
-use Rattle.std.specs.Prelude.{IfOk, IfErr, is_some}
+use Rattle.std.specs.Prelude.{IfOk, IfErr, is_some, min}
 use Rattle.std.proofs.lemmas.List.Elements.{All-head, All-tail}
 use Rattle.subsetter_base.specs.Remap.{index_by, with_value}
 use Rattle.subsetter_base.specs.declared.error.Error.{Error}
 use Rattle.subsetter_base.specs.declared.error.Error.TheVariants.{OutOfMemory, OverflowError}
 use Rattle.pdf_codes.specs.declared.shown.Shown.{Shown}
-use Rattle.pdf_operators.specs.Reading.{AreCoded}
-use Rattle.pdf_operators.specs.Runs.{IsRefused}
+use Rattle.pdf_operators.specs.Operators.{operators}
+use Rattle.pdf_operators.specs.Reading.{AreCoded, IsShown}
+use Rattle.pdf_operators.specs.Runs.{IsRefused, run_acts}
 use Rattle.pdf_operators.specs.declared.order.Order.TheVariants.{Visual}
 use Rattle.pdf_operators.specs.declared.places.Font.{Font}
-use Rattle.pdf_runs.specs.Codes.{IsUncoded, pair_of, same, with_pairs, zeroth}
+use Rattle.pdf_runs.specs.Codes.{AreCodes, IsUncoded, pair_of, same, with_pairs, zeroth}
 use Rattle.pdf_runs.specs.Items.{is_run}
+use Rattle.pdf_runs.specs.Pieces.{pieces_of_run}
 use Rattle.pdf_runs.specs.declared.codes.Pair.{Pair}
 use Rattle.pdf_runs.specs.declared.error.RunError.{RunError}
 use Rattle.pdf_runs.specs.declared.items.Direction.{Direction}
 use Rattle.pdf_runs.specs.declared.items.Item.{Item}
 use Rattle.pdf_runs.specs.declared.pieces.Piece.{Piece}
-use Rattle.subset_pdf.specs.Line.{HasLineFault, HasNoLine, IsLine, IsLineFor, IsRunFont, direction_of, items_for, named, no_line, unshown}
+use Rattle.subset_pdf.specs.Line.{HasLineFault, HasNoLine, IsLine, IsLineFor, IsRunFont, direction_of, items_for, length_of, named, no_line, unshown}
 use Rattle.subset_pdf.specs.declared.line.Line.{Line}
 use Rattle.subset_pdf.specs.declared.options.PdfRequest.{PdfRequest}
 
@@ -35,6 +37,9 @@ all_stay pairs (p ∷ ps) h =
 pub pairs_stay : (pairs new : List Pair) (ps found : List Piece) → found ≡ ps → AreCoded pairs ps → new ≡ with_pairs pairs found → new ≡ pairs
 pairs_stay pairs new ps found is h e = e ∙ ap (with_pairs pairs) is ∙ all_stay pairs ps h
 
+pub codes_stay : (pairs new : List Pair) (ps found : List Piece) (codes : List ℕ) → found ≡ ps → AreCoded pairs ps → new ≡ with_pairs pairs found → AreCodes new found codes → AreCodes pairs ps codes
+codes_stay pairs new ps found codes is h e are = subst (λ (l : List Pair). AreCodes l ps codes) (pairs_stay pairs new ps found is h e) (subst (λ (l : List Piece). AreCodes new l codes) is are)
+
 pub never_overfull : (pairs new : List Pair) (ps found : List Piece) (e : Error) → found ≡ ps → AreCoded pairs ps → length pairs ≤ 65535 → IsUncoded pairs new found e → e ≡ OutOfMemory
 never_overfull pairs new ps found e is h few (inl (memory, first)) = memory
 never_overfull pairs new ps found e is h few (inr (over, many, kept)) =
@@ -43,6 +48,16 @@ never_overfull pairs new ps found e is h few (inr (over, many, kept)) =
     absurd (omega arith)
 
 -- ---- the line
+
+pub line_is : (f : Font) (d : Direction) (is : List Item) (line : Line) (old mid : List Pair) → old ≡ zeroth ∷ [] → mid ≡ with_pairs old (pieces_of_run d f.inked.now is) → line.pairs ≡ mid → line.operators.items ≡ operators 36000 mid (run_acts f d Visual is) → IsShown f d Visual 36000 mid is line.operators.items → AreCodes mid (pieces_of_run d f.inked.now is) line.codes.items → line.advance ≡ min (length_of is) 398000 → line.glyph_count ≡ length f.metrics.now → IsLine f d is line
+line_is f d is line old mid none are stay text shown codes long count = record {
+  pairs_are = stay ∙ are ∙ ap (λ (l : List Pair). with_pairs l (pieces_of_run d f.inked.now is)) none;
+  operators_are = text ∙ ap (λ (l : List Pair). operators 36000 l (run_acts f d Visual is)) (sym stay);
+  shown = subst (λ (l : List Pair). IsShown f d Visual 36000 l is line.operators.items) (sym stay) shown;
+  codes_are = subst (λ (l : List Pair). AreCodes l (pieces_of_run d f.inked.now is) line.codes.items) (sym stay) codes;
+  advance = long;
+  glyph_count = count;
+}
 
 pub unshown_by : (f : Font) (d : Direction) (is : List Item) (pairs new : List Pair) (e : RunError) (why : Error) → why ≡ named e → is_run d (length f.metrics.now) is ≡ true → pairs ≡ zeroth ∷ [] → IsRefused f d Visual pairs new is e → (why ≡ OutOfMemory) ⊎ HasNoLine f d is why
 unshown_by f d is pairs new e why name run none h = inr (unshown e new name run (subst (λ (l : List Pair). IsRefused f d Visual l new is e) none h))

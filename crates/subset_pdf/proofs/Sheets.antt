@@ -1,6 +1,7 @@
 -- What is answered for glyphs in use, and for glyphs and their texts.
 use Rattle.std.proofs.Common.{◌≡◌, ◌⊎◌, inl, inr, ℕ, ℤ, List, [], ◌∷◌, Bool, length, map, Result, Ok, Err, refl, sym, ap, subst, ◌∙◌}
-use Rattle.std.specs.Prelude.{IfOk, IfErr}
+use Rattle.std.specs.Prelude.{IfOk, IfErr, Option}
+use Rattle.std.specs.Option.{option_map}
 use Rattle.subsetter_base.specs.declared.error.Error.{Error}
 use Rattle.subsetter_base.specs.declared.error.Error.TheVariants.{OutOfMemory, OverflowError}
 use Rattle.pdf_codes.specs.Shown.{texts_of, uses_of}
@@ -11,7 +12,7 @@ use Rattle.pdf_font.specs.declared.error.FontError.{FontError}
 use Rattle.pdf_font.specs.declared.error.FontError.TheVariants.{Subset}
 use Rattle.pdf_font.specs.declared.font.PdfFont.{PdfFont}
 use Rattle.pdf_objects.specs.Glyphs.{IsSheetOf, IsSheetOfFont, IsTooLargeFor}
-use Rattle.pdf_objects.specs.View.{IsViewOf}
+use Rattle.pdf_objects.specs.View.{IsViewOf, IsViewWith}
 use Rattle.pdf_objects.specs.declared.view.FontView.{FontView}
 use Rattle.pdf_sheet.specs.File.{AreInTable, body_of, file_of}
 use Rattle.pdf_sheet.specs.Lines.{AreTooLarge, lines_values}
@@ -23,7 +24,7 @@ use Rattle.pdf_text_font.specs.declared.font.TextFont.{TextFont}
 use Rattle.subset_pdf.specs.Line.{HasLineFault, IsLineFor}
 use Rattle.subset_pdf.specs.Options.{options_of}
 use Rattle.subset_pdf.specs.Shown.{entries_of, entry_of}
-use Rattle.subset_pdf.specs.Sheet.{HasCodedFault, HasFaultFor, HasNoPage, HasSheetFault, HasSheetFaultAs, HasSheetFaultBy, HasTextFaultFor, HasTextSheetFault, IsCodedSheet, IsFontFor, IsPage, IsSheetAs, IsSheetBy, IsSheetFor, IsTextFor, IsTooLargeAs, IsViewOfLine, in_font, is_text, named, no_line, no_page, no_text, too_large}
+use Rattle.subset_pdf.specs.Sheet.{HasCodedFault, HasFaultFor, HasNoPage, HasSheetFault, HasSheetFaultAs, HasSheetFaultBy, HasTextFaultFor, HasTextSheetFault, IsCodedSheet, IsFontFor, IsPage, IsSheetAs, IsSheetBy, IsSheetFor, IsTextFor, IsTextSheet, IsTooLargeAs, IsViewOfLine, in_font, is_text, named, no_line, no_page, no_text, too_large}
 use Rattle.subset_pdf.specs.declared.line.Line.{Line}
 use Rattle.subset_pdf.specs.declared.options.PdfRequest.{PdfRequest}
 use Rattle.subset_pdf.specs.declared.sheet.Sheet.{Sheet}
@@ -78,6 +79,9 @@ module _ (bytes : List ℕ) (request : PdfRequest) (shown : List Shown) where
   pub text_refused : (line : Line) (options : FontOptions) (e : FontError) (why : SheetError) → options ≡ options_of request → TextFaultBy line options e → why ≡ named e → (why ≡ RefusedFont OutOfMemory) ⊎ HasTextFaultFor bytes request line why
   text_refused line options e why is h name = subst (λ (w : SheetError). (w ≡ RefusedFont OutOfMemory) ⊎ HasTextFaultFor bytes request line w) (sym name) (unmade_by line e (subst (λ (o : FontOptions). TextFaultBy line o e) is h))
 
+  pub text_drawn : (line : Line) (text : TextFont) (sheet : Sheet) → IsLineFor bytes request shown line → IsTextFor bytes request line text → sheet.font ≡ record text.font { codes = line.codes } → IsPage text line sheet.file.items → IsTextSheet bytes request shown sheet
+  text_drawn line text sheet is made font page = record { line = line; text = text; is_line = is; is_text = made; font = font; page = page }
+
   pub no_line_for : (e : Error) (why : SheetError) → (e ≡ OutOfMemory) ⊎ HasLineFault bytes request shown e → why ≡ RefusedFont e → (why ≡ RefusedFont OutOfMemory) ⊎ HasTextSheetFault bytes request shown why
   no_line_for e why (inl memory) name = inl (name ∙ ap RefusedFont memory)
   no_line_for e why (inr fault) name = inr (no_line e name fault)
@@ -113,12 +117,17 @@ module _ (bytes : List ℕ) (request : PdfRequest) (shown : List Shown) where
   no_sheet_for text lengths glyphs (Err e) are h = fault_for text lengths glyphs e are h
 
 -- the answers of `write_lines` and `write_sheet` under their names
-pub page_made : (text : TextFont) (line : Line) (view : FontView) (shown : SheetLine) (file : List ℕ) → IsViewOfLine text line view shown → file ≡ file_of (lines_values view.values (shown ∷ [])) → AreInTable file (length (body_of (lines_values view.values (shown ∷ [])))) (lines_values view.values (shown ∷ [])) → IsPage text line file
-page_made text line view shown file is whole at = record { view = view; shown = shown; is = is; whole = whole; at = at }
+viewed : (text : TextFont) (line : Line) (view : FontView) (shown : SheetLine) (m : Option (List ℕ)) → m ≡ option_map (λ v. v.items) text.cid_to_gid_map → IsViewWith text.font m view → shown.operators.now ≡ line.operators.items → shown.advance ≡ line.advance → IsViewOfLine text line view shown
+viewed text line view shown m is seen operators advance = record { font = subst (λ (l : Option (List ℕ)). IsViewWith text.font l view) is seen; operators = operators; advance = advance }
 
-pub page_unmade : (text : TextFont) (line : Line) (view : FontView) (shown : SheetLine) (e : Error) → IsViewOfLine text line view shown → (e ≡ OutOfMemory) ⊎ ((e ≡ OverflowError) × AreTooLarge view.values (shown ∷ [])) → (e ≡ OutOfMemory) ⊎ ((e ≡ OverflowError) × HasNoPage text line)
-page_unmade text line view shown e is (inl memory) = inl memory
-page_unmade text line view shown e is (inr (over, large)) = inr (over, record { view = view; shown = shown; is = is; large = large })
+pub page_made : (text : TextFont) (line : Line) (view : FontView) (shown : SheetLine) (file : List ℕ) (m : Option (List ℕ)) → m ≡ option_map (λ v. v.items) text.cid_to_gid_map → IsViewWith text.font m view → shown.operators.now ≡ line.operators.items → shown.advance ≡ line.advance
+    → file ≡ file_of (lines_values view.values (shown ∷ [])) → AreInTable file (length (body_of (lines_values view.values (shown ∷ [])))) (lines_values view.values (shown ∷ [])) → IsPage text line file
+page_made text line view shown file m is seen operators advance whole at = record { view = view; shown = shown; is = viewed text line view shown m is seen operators advance; whole = whole; at = at }
+
+pub page_unmade : (text : TextFont) (line : Line) (view : FontView) (shown : SheetLine) (e : Error) (m : Option (List ℕ)) → m ≡ option_map (λ v. v.items) text.cid_to_gid_map → IsViewWith text.font m view → shown.operators.now ≡ line.operators.items → shown.advance ≡ line.advance
+    → (e ≡ OutOfMemory) ⊎ ((e ≡ OverflowError) × AreTooLarge view.values (shown ∷ [])) → (e ≡ OutOfMemory) ⊎ ((e ≡ OverflowError) × HasNoPage text line)
+page_unmade text line view shown e m is seen operators advance (inl memory) = inl memory
+page_unmade text line view shown e m is seen operators advance (inr (over, large)) = inr (over, record { view = view; shown = shown; is = viewed text line view shown m is seen operators advance; large = large })
 
 pub sheet_of_font : (font : PdfFont) (view : FontView) (shown : List Shown) (layout : Layout) (file : List ℕ) → IsViewOf font view → IsSheetOf view (texts_of shown) layout file → IsSheetOfFont font shown layout file
 sheet_of_font font view shown layout file is h = record { view = view; is = is; sheet = h }

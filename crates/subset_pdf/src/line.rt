@@ -124,7 +124,7 @@ fn named(error: RunError) -> Error
 }
 
 /// The codes of a run that has pairs, in order.
-#[tactic(auto, using(crate::proofs::Lines::pairs_stay, crate::proofs::Lines::never_overfull))]
+#[tactic(auto, using(crate::proofs::Lines::pairs_stay, crate::proofs::Lines::codes_stay, crate::proofs::Lines::never_overfull))]
 fn codes_for(
     alloc: Global,
     font: Font<'_>,
@@ -144,7 +144,7 @@ fn codes_for(
 }
 
 /// The line of a run.
-#[tactic(auto, using(crate::proofs::Lines::unshown_by))]
+#[tactic(auto, using(crate::proofs::Lines::line_is, crate::proofs::Lines::unshown_by))]
 fn line_of<'a>(
     alloc: Global,
     font: Font<'_>,
@@ -158,9 +158,16 @@ fn line_of<'a>(
     if !is_run(direction, font.metrics.len(), items) {
         return Err(Error::MalformedFont);
     }
-    let (order, size) = (Order::Visual, 36_000);
     let mut pairs = no_pairs(alloc)?;
-    let operators = match show_run(alloc, font, direction, order, size, &mut pairs, items) {
+    let operators = match show_run(
+        alloc,
+        font,
+        direction,
+        Order::Visual,
+        36_000,
+        &mut pairs,
+        items,
+    ) {
         Ok(operators) => operators,
         Err(error) => return Err(named(error)),
     };
@@ -197,9 +204,11 @@ pub fn line_for(
     ensures err { IfErr result (λ e. (e ≡ OutOfMemory) ⊎ HasLineFault «data».now request.now shown.now e) }
 {
     let metrics = metrics_for(alloc, data, request)?;
+    let found = metrics.font();
     let font = Font {
         units: 1000,
-        ..metrics.font()
+        metrics: found.metrics,
+        inked: found.inked,
     };
     let vertical = request.choice.vertical;
     let items = items_of(alloc, vertical, font.metrics, shown)?;

@@ -121,8 +121,16 @@ fn text_for(
     ensures err { IfErr result (λ e. (e ≡ RefusedFont OutOfMemory) ⊎ HasTextFaultFor «data».now request.now line.now e) }
 {
     let options = options_of(request);
-    let (index, at, count) = (request.index, request.at, line.glyph_count);
-    let text = text_font(alloc, data, index, at, &line.pairs, count, &[], &options)?;
+    let text = text_font(
+        alloc,
+        data,
+        request.index,
+        request.at,
+        &line.pairs,
+        line.glyph_count,
+        &[],
+        &options,
+    )?;
     Ok(text)
 }
 
@@ -151,7 +159,7 @@ fn page_of(alloc: Global, text: &TextFont, line: &Line) -> Result<Vec<u8>, Error
 }
 
 /// The PDF that shows glyphs in use as the line of a text.
-#[tactic(auto, using(crate::proofs::Sheets::no_line_for, crate::proofs::Sheets::no_text_for, crate::proofs::Sheets::no_page_for))]
+#[tactic(auto, using(crate::proofs::Sheets::text_drawn, crate::proofs::Sheets::no_line_for, crate::proofs::Sheets::no_text_for, crate::proofs::Sheets::no_page_for))]
 fn text_sheet(
     alloc: Global,
     data: &[u8],
