@@ -117,7 +117,7 @@ def what_is_shown(page):
 
 
 # Words of a run that the same run without a PDF hasn't.
-OF_PDF = ("--vertical", "--pdf", "--codes", "--rights", "consecutive", "source", "text", "held", "page")
+OF_PDF = ("--allow-blank", "--vertical", "--pdf", "--codes", "--rights", "consecutive", "source", "text", "held", "page")
 
 
 def compare_pdf(row, room):
@@ -406,7 +406,7 @@ def test_same_options():
     names = (ROOT / "crates" / "subset_args" / "src" / "options" / "names.rt").read_text(encoding="utf-8")
     nearest = set(re.findall(r'"(--[a-z-]+)"', re.search(r"pub const OPTIONS: .*?= \[(.*?)\];", names, re.S)[1]))
     wanted = options["--help"]
-    assert len(wanted) == 31 and {name: it ^ wanted for name, it in options.items() if it != wanted} == {}
+    assert len(wanted) == 32 and {name: it ^ wanted for name, it in options.items() if it != wanted} == {}
     assert nearest == {it for it in wanted if it.startswith("--")}
 
 

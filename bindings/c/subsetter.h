@@ -131,7 +131,7 @@ enum {
  * to 6252"; "OS/2: fsType 0x0002 forbids embedding"). It is in UTF-8, without a zero at the end, of at most 127 bytes, for people, and
  * may change. `call` is one of SUBSETTER_CALL_.. (the calls in buffers and in memory of the library are one), and the font, the glyphs
  * and the limits are those of that call; 0 tokens and a depth of 0 are the defaults. A charstring (CFF outlines) is run within the
- * limits, once at most, and none after the first that can't be.
+ * limits, once at most, and none after the first that can't be. It is told no other option and no text, and says nothing of these.
  *
  *     status = subsetter_make_subset(data, size, 0, glyphs, count, NULL, &made);
  *     if (status != SUBSETTER_DONE) {
@@ -311,7 +311,7 @@ enum {
 
 /* All kinds of pictures that a font has of each glyph, also where it has no outlines: one number for each of `glyphs`, in their
  * order. A picture is what a table lists, whether it can be drawn or not; a table that is cut or wrong lists none. An outline of
- * `CFF ` or `CFF2` is empty where its charstring is endchar alone, with or without a width.
+ * `CFF ` or `CFF2` is empty where its charstring is endchar alone, with or without a width; that of a glyph that the font lacks is.
  *   0: `kinds` begins with the numbers.
  *   1, 2, 7, 8 (`kind_count` is less than `glyph_count`): nothing is written.
  */
@@ -384,7 +384,7 @@ enum {
 /* Whether runs of text make own glyphs (`own_glyphs`), which the font of the text gets after its own: of glyphs of the font, each
  * at a place, with an advance. Where they are made, more readers copy and find the text. */
 enum {
-    /* Where text is horizontal and the outlines are in `glyf`. */
+    /* Where text is horizontal and the outlines are in `glyf`, or in `CFF `, where they are single glyphs with another advance. */
     SUBSETTER_OWN_GLYPHS_MADE = 0,
     /* None: the font of the text has glyphs of the font alone, and blanks. */
     SUBSETTER_OWN_GLYPHS_NONE = 1
@@ -614,7 +614,7 @@ typedef struct subsetter_pdf_objects {
 /* The objects of a font, whole, with numbers from `first` on, which is above 0 (that isn't checked): the Type 0 font, which pages
  * name, its CIDFont, the font descriptor, the font program, ToUnicode, CIDToGIDMap if it is a stream, CIDSet if there is one, and
  * the CMap if the file has its own. Streams have no filter, and it is for files that aren't encrypted. `font` is one that a `make`
- * call made, unchanged.
+ * call made, unchanged (that isn't checked: of one that failed or was freed the objects are of no font, with status 0).
  *   0: `*made` are the objects, one after the other.
  *   5: seven numbers from `first` on, eight with a CIDToGIDMap as a stream, don't fit 32 bits; 7: malloc gave nothing; 10: an unknown
  *   `font->size`. The size and the count of `*made` are 0, and nothing is to be freed.
@@ -832,8 +832,8 @@ typedef struct subsetter_text {
     size_t part_count;
     /* How many parts an own glyph can have; 0: none are made. */
     uint32_t most_parts;
-    /* 0. */
-    uint32_t reserved;
+    /* 1: an own glyph is a glyph at its origin, with another advance, or none; so it is with outlines in `CFF `. */
+    uint32_t is_still;
 } subsetter_text;
 
 /* A text of a font, at coordinates (none: the font's default), before its first run. The options are those for the font; here

@@ -380,8 +380,8 @@ export interface TextChoices {
      */
     readonly order?: "visual" | "logical";
     /**
-     * False: the font gets no own glyphs. Else, in horizontal text of a font with outlines in `glyf`, glyphs are drawn together by own
-     * ones: a letter with its marks, and the parts of a ligature. More readers copy and find the text then.
+     * False: the font gets no own glyphs. Else, in horizontal text, own ones draw the parts of a ligature, and of a font with outlines
+     * in `glyf` a letter with its marks. More readers copy and find the text then.
      */
     readonly ownGlyphs?: boolean;
 }
@@ -394,8 +394,9 @@ export interface PdfText {
      * What shows a run of glyphs, in the order in which they are seen, for a content stream: between BT and ET, after Tf and Td or
      * Tm, where Tc, Tw and Ts are 0 and Tz is 100. The pen goes on by the run's `advance`.
      *
-     * InvalidText is thrown where the first item continues a cluster, a glyph isn't the font's, an advance leaves the line, a text has
-     * an unpaired surrogate, or one that needs an ActualText is too long; and Overfull. After an error the text is as it was.
+     * InvalidText is thrown where the first item continues a cluster, a glyph isn't the font's (without advances MalformedFont), an
+     * advance leaves the line, a text has an unpaired surrogate, or one that needs an ActualText is too long; and Overfull. After an
+     * error the text is as it was.
      */
     run(items: Iterable<Item>, options?: RunChoices): Run;
     /**
@@ -489,6 +490,6 @@ export interface Font {
 
 /**
  * The library's calls, in an instance of the module of their own, which is given back with them. `source` is the module, its
- * bytes, an answer of `fetch` or where it lies; without it `subsetter.wasm` beside this file.
+ * bytes, an answer of `fetch` or its address (of a file `pathToFileURL(path)`); without it `subsetter.wasm` beside this file.
  */
 export function load(source?: WebAssembly.Module | ArrayBuffer | ArrayBufferView | URL | Response | string): Promise<Subsetter>;

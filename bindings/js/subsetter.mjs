@@ -185,7 +185,7 @@ function named(options, names, what) {
         return {};
     }
     if (typeof options !== "object" || options === null) {
-        throw new TypeError(`${what} must be an object`);
+        throw new TypeError(`${what} must be an object, and not ${kindOf(options)}`);
     }
     for (const name of Object.keys(options)) {
         if (!names.includes(name)) {
@@ -289,12 +289,12 @@ const DIRECTIONS = ["ltr", "rtl", "ttb"];
 /** The places of a glyph: whole numbers of 32 bits, 0 where one isn't said. */
 const placesOf = (it, names) => names.map((name) => whole(it[name] ?? 0, -(2 ** 31), 2 ** 31 - 1, name));
 
-/** Calls, and adds what is wrong with the text to the message of InvalidText. */
-function explained(call, fault) {
+/** Calls, and adds what is wrong with the text to the message of InvalidText, or what is to that of another error. */
+function explained(call, fault, kind = InvalidText) {
     try {
         return call();
     } catch (error) {
-        const why = error instanceof InvalidText && fault();
+        const why = error instanceof kind && fault();
         if (why) {
             error.message += `: ${why}`;
         }
@@ -351,11 +351,11 @@ function pdfChoicesOf(options) {
 const indexOf = ({ index = 0 }) => whole(index, 0, WORD_AT_MOST, "index");
 
 /** The lists of a text, and their words, by the places of the lists. */
-function listsOfText({ unitsPerEm, metrics, inked, advances, partable, mostParts }, { pairs, own, parts }) {
+function listsOfText({ unitsPerEm, metrics, inked, advances, partable, mostParts, isStill }, { pairs, own, parts }) {
     const sizes = [8, 1, 2, 1, 12, 8, 12], lists = [metrics, inked, advances, partable, pairs, own, parts];
     const counted = (...places) => {
         const words = lists.flatMap((list, i) => [places[i], list.length / sizes[i]]);
-        return [unitsPerEm, ...words.slice(0, 8), mostParts, ...words.slice(8)];
+        return [unitsPerEm, ...words.slice(0, 8), mostParts, isStill, ...words.slice(8)];
     };
     return { lists, counted };
 }
@@ -504,7 +504,8 @@ class Library {
             const [at, length] = words.slice(-2);
             if (done === DONE && length > 0) {
                 const found = new TextDecoder().decode(new Uint8Array(buffer.slice(at, at + length)));
-                return `: ${found}${status === NOT_PERMITTED ? ": if you hold the rights, rights: \"held\"" : ""}`;
+                const isWithout = found.startsWith("CFF2") && /_(subset|embed)$/.test(name);
+                return `: ${found}${status === NOT_PERMITTED ? ": if you hold the rights, rights: \"held\"" : isWithout ? ": coordinates: {} is the default" : ""}`;
             }
             const limits = [tokens && tokens !== TOKENS ? `tokens is ${tokens}` : "", bytes ? `mostBytes is ${bytes}` : ""].filter(Boolean);
             return status === OVERFLOW && limits.length > 0 ? `: ${limits.join(" and ")}` : "";
@@ -585,14 +586,14 @@ class Library {
 
     /** What runs of text need of a font that is held here. */
     newText(font, index, { tokens, depth, bytes, drop, coordinates = [], further }, makesOwn) {
-        const given = (at) => [font.at, font.size, index, at, coordinates.length / 2, tokens, depth, bytes, drop, ...further, makesOwn, ...Array(10).fill(0)];
+        const given = (at) => [font.at, font.size, index, at, coordinates.length / 2, tokens, depth, bytes, drop, ...further, makesOwn, ...Array(11).fill(0)];
         const { status, buffer, words } = this.#call("subsetter_new_text", [listOf(4, coordinates)], given);
         this.#check(status, "subsetter_advances", font, index, [], { tokens });
-        const [unitsPerEm, metricsAt, metrics, inkedAt, inked, advancesAt, advances, partableAt, partable, mostParts] = words.slice(-10);
+        const [unitsPerEm, metricsAt, metrics, inkedAt, inked, advancesAt, advances, partableAt, partable, mostParts, isStill] = words.slice(-11);
         const list = (at, size) => new Uint8Array(buffer.slice(at, at + size));
         return {
             unitsPerEm, metrics: list(metricsAt, 8 * metrics), inked: list(inkedAt, inked),
-            advances: list(advancesAt, 2 * advances), partable: list(partableAt, partable), mostParts,
+            advances: list(advancesAt, 2 * advances), partable: list(partableAt, partable), mostParts, isStill,
         };
     }
 
@@ -605,7 +606,7 @@ class Library {
         const { status, buffer, words } = this.#call(name, [...lists, glyphs, text], given);
         this.#check(status);
         const list = (at, size) => new Uint8Array(buffer.slice(at, at + size));
-        const [pairsAt, pairs, ownAt, own, partsAt, parts] = words.slice(10);
+        const [pairsAt, pairs, ownAt, own, partsAt, parts] = words.slice(11);
         return {
             operators: list(...words.slice(-2)),
             kept: { pairs: list(pairsAt, 12 * pairs), own: list(ownAt, 8 * own), parts: list(partsAt, 12 * parts) },
@@ -802,11 +803,12 @@ class PdfFont {
         if (typeof filter !== "string" || (pack !== undefined && typeof pack !== "function")) {
             throw new TypeError("pack must be a function, and filter a string");
         }
-        if (!/^[/[]/.test(filter)) {
+        if (!/^[/[][\x20-\x7e]*$/.test(filter)) {
             throw new RangeError(`filter must be as PDF writes it, as "/FlateDecode", and not ${shown(filter)}`);
         }
-        const given = listed(numbers, "numbers of objects must be an iterable of numbers", (it) => whole(it, 0, WORD_AT_MOST, "a number of an object"));
-        const parts = this.#library.parts(this.#kept(), this.#numbers, given);
+        const given = listed(numbers, "numbers of objects must be an iterable of numbers", (it) => whole(it, 1, WORD_AT_MOST, "a number of an object"));
+        const counts = () => `${given.length}, of them ${new Set(given).size} distinct, for ${this.partCount}`;
+        const parts = explained(() => this.#library.parts(this.#kept(), this.#numbers, given), counts, RangeError);
         for (const part of pack ? parts.filter(({ stream }) => stream) : []) {
             part.entries = joined(part.entries, latin1(`/Filter ${filter} `));
             part.stream = pack(part.stream);

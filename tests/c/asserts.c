@@ -116,7 +116,7 @@ FIELD(subsetter_text, index, 8 + 10 * WORD, uint32_t *) FIELD(subsetter_text, is
     FIELD(subsetter_text, NAME, 16 + 2 * (AT) * WORD, const ITEM **) FIELD(subsetter_text, COUNT, 16 + (2 * (AT) + 1) * WORD, size_t *)
 LATER_LIST(5, advances, uint16_t, advance_count) LATER_LIST(6, partable, uint8_t, partable_count)
 LATER_LIST(7, own, subsetter_own_glyph, own_count) LATER_LIST(8, parts, subsetter_part, part_count)
-FIELD(subsetter_text, most_parts, 16 + 18 * WORD, uint32_t *) FIELD(subsetter_text, reserved, 20 + 18 * WORD, uint32_t *) SIZE(subsetter_text, 24 + 18 * WORD)
+FIELD(subsetter_text, most_parts, 16 + 18 * WORD, uint32_t *) FIELD(subsetter_text, is_still, 20 + 18 * WORD, uint32_t *) SIZE(subsetter_text, 24 + 18 * WORD)
 _Static_assert(WORD != 8 || sizeof(subsetter_text) == 168, "the size that the proved library knows");
 #define NUMBERS(STRUCT, AT, NAME, ...) FIELD(STRUCT, NAME, 4 * (AT), __VA_ARGS__)
 #define PLACES(STRUCT, AT)                                                                                        \

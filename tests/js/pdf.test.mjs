@@ -106,7 +106,7 @@ test("parts", () => {
     const strings = parts.flatMap((it) => it.strings.map(([start, end]) => latin1(it.entries.slice(start, end))));
     assert.deepEqual(new Set(strings), new Set(["(Adobe)", "(Identity)"]));
     for (const wrong of [[1, 2], numbers.map(() => 7), numbers.map((_, i) => i), numbers.map(() => 2 ** 32), numbers.map(() => 1.5)]) throws(() => font.parts(wrong), RangeError, `${wrong}`);
-    throws(() => font.parts(numbers, { filter: "FlateDecode" }), RangeError, "a filter without a slash");
+    for (const filter of ["FlateDecode", "/Fl\u0141te"]) throws(() => font.parts(numbers, { filter }), RangeError, filter);
     const packs = [async (it) => it, () => "text", () => {}, (it) => it.buffer].map((pack) => [numbers, { pack }]);
     for (const wrong of [[5], [numbers, { pack: 5 }], [numbers, { compress: true }], [numbers, { filter: 5 }], ...packs]) throws(() => font.parts(...wrong), TypeError, "no parts");
 });

@@ -150,7 +150,7 @@ def test_parts_are_the_objects():
         for wrong in ([1, 2], range(font.part_count), [7] * font.part_count, [2**32] * font.part_count, [-1] * font.part_count):
             assert type(raised(font.parts, wrong)) is ValueError
         for kind, wrong in [(TypeError, {"compress": 9}), (TypeError, {"pack": "zlib"}), (TypeError, {"pack": bytes.hex}), (TypeError, {"filter": b"/Own"}),
-                            (ValueError, {"filter": "FlateDecode"}), (ValueError, {"filter": "/\xc4"})]:
+                            (ValueError, {"filter": "FlateDecode"}), (ValueError, {"filter": "/\xc4"}), (ValueError, {"compress": True, "filter": "/Own"})]:
             assert type(raised(font.parts, range(1, 1 + font.part_count), **wrong)) is kind, wrong
         assert type(raised(font.parts, ["1"] * font.part_count)) is type(raised(font.parts, 5)) is TypeError
 

@@ -50,6 +50,8 @@ def test_own_glyphs():
     assert codes[:4] == [(82, "o"), (count, "f"), (count + 1, "f"), (count + 1, "i")]
     assert codes[6:] == [(3, " "), (count + 2, "q"), (None, "\u0304"), (91, "x")]
     assert font.widths[1:5] == [612, 322, 322, 322] and font.widths[8:10] == [635, 0] and len(font.cid_to_gid_map) == 2 * font.glyph_count
+    with subsetter.PdfText(made("made.otf"), rights="held") as text:
+        assert text.run([(5, "fi")]) == b"[<00010002>]TJ\n" and text.font().widths == [500, 278, 278] and text.font().program.endswith(b"\xf7\xaa\x0e")
 
 
 def test_a_sheet(tmp_path):
@@ -130,6 +132,7 @@ def test_a_closed_text():
     (ValueError, 'items are (glyph, text) or (glyph, text, x_advance, y_advance, x_offset, y_offset), as [(36, "fi"), (5, None)]', lambda text: text.run([(1, "A", 5)])),
     (ValueError, "x_offset is 2147483648, and none from -2147483648 to 2147483647", lambda text: text.run([(1, "A", 0, 0, 2**31, 0)])),
     (TypeError, "a text is a str, and no bytes", lambda text: text.run([(1, b"A")])),
+    (TypeError, "a PdfText can't be copied or pickled; its fonts can", pickle.dumps),
     (TypeError, "infos have codepoint and cluster, and positions, as many, x_advance, y_advance, x_offset and y_offset, as uharfbuzz's "
      "buffer.glyph_infos and buffer.glyph_positions, and no NoneType", lambda text: text.shaped("A", [], None)),
     (ValueError, "direction is 'ttb', and none of ltr, rtl", lambda text: text.run([], "ttb")),

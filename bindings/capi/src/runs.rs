@@ -34,7 +34,7 @@ pub struct TextMade {
     own: List<TextOwn>,
     parts: List<TextPart>,
     most_parts: u32,
-    reserved: u32,
+    is_still: u32,
 }
 
 /// The one size that is known.
@@ -58,7 +58,7 @@ impl TextMade {
             own: List::NONE,
             parts: List::NONE,
             most_parts: 0,
-            reserved: 0,
+            is_still: 0,
         }
     }
 
@@ -83,7 +83,7 @@ impl TextMade {
             own: List::NONE,
             parts: List::NONE,
             most_parts: u32::from(found.most_parts),
-            reserved: 0,
+            is_still: u32::from(found.is_still),
         })
     }
 
@@ -107,6 +107,7 @@ impl TextMade {
                 own: self.own.items(),
                 parts: self.parts.items(),
                 most_parts,
+                is_still: self.is_still != 0,
             })
         }
     }

@@ -485,6 +485,7 @@ pub struct TextNeeds {
     advances: List<u16>,
     partable: List<bool>,
     most_parts: u32,
+    is_still: u32,
 }
 
 /// What codes draw and say, and the own glyphs among it.
@@ -546,6 +547,7 @@ unsafe fn view_of<'a>(needs: &'a TextNeeds, kept: &'a TextKept) -> TextView<'a> 
             own: kept.own.items(),
             parts: kept.parts.items(),
             most_parts: needs.most_parts as u16,
+            is_still: needs.is_still != 0,
         }
     }
 }
@@ -582,6 +584,7 @@ pub unsafe extern "C" fn subsetter_new_text(call: &mut TextCall) -> u32 {
             advances: List::of(made.advances),
             partable: List::of(made.partable),
             most_parts: u32::from(made.most_parts),
+            is_still: u32::from(made.is_still),
         };
     }))
 }

@@ -338,7 +338,7 @@ class _Text(ctypes.Structure):
         ("partable", ctypes.c_void_p), ("partable_count", ctypes.c_size_t),
         ("own", ctypes.c_void_p), ("own_count", ctypes.c_size_t),
         ("parts", ctypes.c_void_p), ("part_count", ctypes.c_size_t),
-        ("most_parts", ctypes.c_uint32), ("reserved", ctypes.c_uint32),
+        ("most_parts", ctypes.c_uint32), ("is_still", ctypes.c_uint32),
     ]
 
 
@@ -684,23 +684,25 @@ def _reason(library: ctypes.CDLL, status: int, asked: _Asked) -> str:
     found = out.raw[:length.value].decode("utf-8", "replace") if done == 0 else ""
     if found and _ERRORS[status] is NotPermitted:
         return f'{found}: if you hold the rights, rights="held"'
+    if found.startswith("CFF2") and asked.call in (_SUBSET, _EMBED):
+        return f"{found}: coordinates={{}} is the default"
     limits = {"tokens": tokens, "most_bytes": asked.words[4]} if _ERRORS[status] is OverflowError else {}
     return found or " and ".join(f"{name} is {limit}" for name, limit in limits.items() if limit)
 
 
 def _check(library: ctypes.CDLL, status: int, asked: Optional[_Asked] = None, fault: Callable[[], str] = str) -> None:
-    """Raises the error of a status. `fault` says what is wrong with a text."""
+    """Raises the error of a status. `fault` says what is wrong with a text, or with numbers."""
     if status in _ERRORS:
         why = fault() if _ERRORS[status] is InvalidText else _reason(library, status, asked) if asked else ""
         raise _ERRORS[status](": ".join(filter(None, (_text(library, status), why))))
     if status == 16:
-        raise ValueError("numbers of objects are distinct and above 0, and as many as there are parts (part_count)")
+        raise ValueError(f"numbers of objects are distinct and above 0, and as many as there are parts (part_count): {fault()}")
     if status != 0:
         raise RuntimeError(f"{_NAME} answers status {status}: it is of another version, or its own code failed")
 
 
 _MAKES = [f"subsetter_make_{it}_by_words" for it in ("subset", "subset_at", "embedded", "embedded_at")]
-_PDF_FONT, _GLYPHS_OF, _ADVANCES = 4, 5, 6
+_SUBSET, _EMBED, _PDF_FONT, _GLYPHS_OF, _ADVANCES = 0, 2, 4, 5, 6
 
 
 @contextmanager
@@ -1205,13 +1207,15 @@ class PdfFont:
             raise TypeError(f"filter is a str, and no {type(filter).__name__}")
         if not filter.isascii() or not filter.startswith(("/", "[")):
             raise ValueError(f'filter is as PDF writes it, as "/FlateDecode", and not {filter!r}')
+        if pack is zlib.compress and "FlateDecode" not in filter:
+            raise ValueError(f'compress packs by zlib, for "/FlateDecode": {filter!r} wants pack')
         wanted = "numbers of objects are a list of ints"
-        given = array("I", [_number("a number of an object", it, 0, 0xFFFFFFFF) for it in _listed(numbers, wanted)])
+        given = array("I", [_number("a number of an object", it, 1, 0xFFFFFFFF) for it in _listed(numbers, wanted)])
         font = self._struct()
         library, made = _library_with("subsetter_make_pdf_parts"), _Parts()
         status = library.subsetter_make_pdf_parts(ctypes.byref(font), given.buffer_info()[0], len(given), ctypes.byref(made))
         try:
-            _check(library, status)
+            _check(library, status, None, lambda: f"{len(given)}, of them {len(set(given))} distinct, for {self.part_count}")
             found = [
                 Part(
                     _ROLES[it.role], it.number, ctypes.string_at(it.entries, it.entries_size),
@@ -1430,7 +1434,7 @@ class PdfText:
     - `order`: how a run from right to left is written: "visual", as it is seen, which more readers copy rightly; or "logical", as it is
       read, for a tagged PDF.
     - `own_glyphs`: whether runs make glyphs of their own, which the font gets after the kept ones: of glyphs of it, each at a place,
-      with an advance. More readers copy and find the text then. They are made in horizontal text, where outlines are in `glyf`.
+      with an advance; with `CFF ` of one alone. More readers copy and find the text then. They are made in horizontal text.
     - `units_per_em`: how many units of the font an em has.
 
     Raises what `advances` does; and `NotImplementedError` where the library is of an older version.
@@ -1488,6 +1492,9 @@ class PdfText:
         with self._lock:
             self._give_back()
 
+    def __reduce__(self) -> NoReturn:
+        raise TypeError("a PdfText can't be copied or pickled; its fonts can")
+
     def __enter__(self) -> PdfText:
         return self
 
@@ -1523,8 +1530,9 @@ class PdfText:
         first glyph, and None at each other one. `direction` is "ltr", which is the default, or "rtl"; of a vertical text "ttb".
         `size` is that of Tf.
 
-        Raises `InvalidText` where the first item continues a cluster, a glyph isn't the font's, the pen leaves the line, a text has an
-        unpaired surrogate, or one that needs an ActualText is too long; `Overfull`; and `ValueError` for another direction or size.
+        Raises `InvalidText` where the first item continues a cluster, a glyph isn't the font's (of (glyph, text): `MalformedFont`), the
+        pen leaves the line, a text has an unpaired surrogate, or one that needs an ActualText is too long; `Overfull`; and `ValueError`
+        for another direction or size.
         After an error the text is as it was.
         """
         wanted = 'items are (glyph, text) or (glyph, text, x_advance, y_advance, x_offset, y_offset), as [(36, "fi"), (5, None)]'

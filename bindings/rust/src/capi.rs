@@ -201,10 +201,14 @@ pub fn explain(
     let limits = proved::Limits::new(tokens, if depth == 0 { 64 } else { depth })?;
     let reason = match status {
         11 => Ok(reasons::find_prohibition(data, index)),
-        // (a missing table is a malformed font there)
-        1..=6 | 13 => {
-            let error = ERRORS[if status == 13 { 1 } else { status as usize - 1 }];
-            reasons::explain(Global, call, error, data, index, glyphs, &limits)
+        // (a missing table is a malformed font there, and bitmaps alone are an unknown kind)
+        1..=6 | 13 | 14 => {
+            let place = match status {
+                13 => 2,
+                14 => 1,
+                _ => status as usize,
+            };
+            reasons::explain(Global, call, ERRORS[place - 1], data, index, glyphs, &limits)
         }
         _ => Ok(None),
     };

@@ -310,7 +310,7 @@ fn the_font_shows_why() {
     assert_eq!(why(Call::GlyphsOf(FontError::NoCmap), &without(&font, b"cmap"), 1, 5), lacking);
     let fixed = found("CFF2: its outlines are taken at coordinates alone", b"CFF2", None);
     assert_eq!(why(Call::Embed(Error::Unimplemented), &cff2, 1, 5), fixed);
-    let long = found("glyph 0: its charstring can't be run within the limits", b"CFF ", Some(0));
+    let long = found("glyph 0: its charstring is wrong, or passes the limits", b"CFF ", Some(0));
     assert_eq!(why(Call::Subset(Error::CFFError), &cff, 1, 5), long);
     assert_eq!(why(Call::Subset(Error::CFFError), &cff, 1, 1_000_000), None);
 }

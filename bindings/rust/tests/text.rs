@@ -177,13 +177,14 @@ fn errors_and_rights() {
     // `fsType` counts when the font is made.
     let closed = made("made.otf");
     let mut text = Text::new(&closed, 0, &[], &TextOptions::new()).unwrap();
-    text.run(&[item(1, Some("A"), 667), item(1, Some("a"), 667)], LeftToRight, 1).unwrap();
+    let line = [item(1, Some("A"), 667), item(1, Some("a"), 667), item(5, Some("fi"), 556)];
+    assert_eq!(operators(text.run(&line, LeftToRight, 1)), "[<0001000200030004>]TJ\n");
     let refused = text.font(&FontOptions::new());
     assert!(matches!(refused, Err(FontError::NotPermitted(_))));
-    // The charstring of A again, for "a"; outlines in `CFF ` have no map.
+    // The charstring of A again, for "a", and that of the ligature with half of its width, 278 10 hmoveto; last 278 endchar.
     let font = text.font(&FontOptions::new().rights(Rights::Held)).unwrap();
-    assert_eq!((font.glyph_count(), font.widths()), (3, &[500, 667, 667][..]));
-    assert_eq!(font.cid_to_gid_map(), None);
+    assert_eq!((font.widths(), font.cid_to_gid_map()), (&[500, 667, 667, 278, 278][..], None));
+    assert!(font.program().windows(4).any(|it| it == b"\xf7\xaa\x95\x16") && font.program().ends_with(b"\xf7\xaa\x0e"));
     assert_eq!(TextError::InvalidText.to_string(), "invalid text");
     assert_eq!(TextError::from(Error::CFFError).to_string(), Error::CFFError.to_string());
 }

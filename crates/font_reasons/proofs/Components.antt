@@ -1,7 +1,7 @@
 -- Components of a composite, one after another.
-use Rattle.std.proofs.Common.{◌≡◌, ℕ, zero, suc, ◌<◌, Bool, cond, List, Option, Some, None, sym, ap, ◌∙◌, arith}
+use Rattle.std.proofs.Common.{◌≡◌, ℕ, zero, suc, ◌<◌, Bool, cond, List, length, drop, Option, Some, None, sym, ap, ◌∙◌, arith}
 use Rattle.font_reasons.specs.File.{or_else}
-use Rattle.font_reasons.specs.Outlines.{Component, component_at, has_more, by_component, wrong_first, wrong_components}
+use Rattle.font_reasons.specs.Outlines.{Component, component_at, has_more, by_component, wrong_first, wrong_components, first_wrong, reached, reached_first, reached_by, reached_from_all, wrong_levels}
 use Rattle.font_reasons.specs.declared.reason.Reason.{Reason}
 use Rattle.font_reasons.specs.declared.reason.Reason.TheVariants.{CutComponent}
 
@@ -28,3 +28,30 @@ module _ (glyf loca : List ℕ) (format g : ℕ) where
   sound_here n k bytes c more total is e w m h =
       ap (λ (b : Bool). cond b (wrong_components glyf loca format g k c.after) None) m
       ∙ ap (λ (x : Option Reason). or_else x (cond (has_more c.flags) (wrong_components glyf loca format g k c.after) None)) w ∙ first_is n k bytes c total is e h
+
+-- a component that is cut, and none behind it
+pub none_reached : (n : ℕ) (seen bytes total : List ℕ) → component_at bytes ≡ None → reached_by n seen bytes ≡ total → seen ≡ total
+none_reached zero seen bytes total e h = h
+none_reached (suc n) seen bytes total e h = sym (ap (reached_first seen (reached_by n)) e) ∙ h
+
+-- one that is there, and those behind it, if there are any
+pub next_reached : (n k : ℕ) (seen new bytes : List ℕ) (c : Component) (more : Bool) (total : List ℕ) → n ≡ suc k → Some c ≡ component_at bytes → new ≡ reached seen c.glyph → more ≡ has_more c.flags
+    → reached_by n seen bytes ≡ total → cond more (reached_by k new c.after) new ≡ total
+next_reached n k seen new bytes c more total is e r m h =
+    ap (λ (b : Bool). cond b (reached_by k new c.after) new) m
+    ∙ ap (λ (l : List ℕ). cond (has_more c.flags) (reached_by k l c.after) l) r
+    ∙ ap (reached_first seen (reached_by k)) e ∙ sym (ap (λ m. reached_by m seen bytes) is) ∙ h
+
+-- a level with a glyph that is wrong, and one without, before the levels below it
+module _ (glyf loca : List ℕ) (format n k from : ℕ) (seen level : List ℕ) (total : Option Reason) where
+  pub wrong_level : (r : Reason) → n ≡ suc k → level ≡ drop from seen → Some r ≡ first_wrong glyf loca format level → wrong_levels glyf loca format n from seen ≡ total → Some r ≡ total
+  wrong_level r is l w h =
+      ap (λ (x : Option Reason). or_else x (wrong_levels glyf loca format k (length seen) (reached_from_all glyf loca format seen (drop from seen)))) (w ∙ ap (first_wrong glyf loca format) l)
+      ∙ sym (ap (λ m. wrong_levels glyf loca format m from seen) is) ∙ h
+
+  pub sound_level : (new : List ℕ) → n ≡ suc k → level ≡ drop from seen → None ≡ first_wrong glyf loca format level → new ≡ reached_from_all glyf loca format seen level → wrong_levels glyf loca format n from seen ≡ total
+      → wrong_levels glyf loca format k (length seen) new ≡ total
+  sound_level new is l w r h =
+      ap (wrong_levels glyf loca format k (length seen)) (r ∙ ap (reached_from_all glyf loca format seen) l)
+      ∙ ap (λ (x : Option Reason). or_else x (wrong_levels glyf loca format k (length seen) (reached_from_all glyf loca format seen (drop from seen)))) (w ∙ ap (first_wrong glyf loca format) l)
+      ∙ sym (ap (λ m. wrong_levels glyf loca format m from seen) is) ∙ h

@@ -9,9 +9,10 @@ use Rattle.text_glyphs.specs.Choice.{Chosen, chosen}
 use Rattle.font_reasons.specs.Charstrings.{cff_reason}
 use Rattle.font_reasons.specs.File.{or_else}
 use Rattle.font_reasons.specs.Names.{lost_name}
+use Rattle.font_reasons.specs.Outlines.{tree_reason}
 use Rattle.font_reasons.specs.Parts.{no_metric, no_table, wrong_metrics}
 use Rattle.font_reasons.specs.Request.{no_font_or_glyph, not_kept, reason_of_unknown, wrong_source, wrong_table}
-use Rattle.font_reasons.specs.Short.{short_hhea}
+use Rattle.font_reasons.specs.Short.{short_header, short_post}
 use Rattle.font_reasons.specs.Variations.{other_variations, wrong_variations}
 use Rattle.font_reasons.specs.declared.explained.Call.{Call}
 use Rattle.font_reasons.specs.declared.explained.Call.TheVariants.{Subset, SubsetAt, Embed, EmbedAt, PdfFont, GlyphsOf, Advances}
@@ -74,7 +75,7 @@ not_read other font = other_variations font
 
 -- the tables that are read for advances
 unfoldable pub wrong_advances : Font → Option Reason
-wrong_advances font = or_else (short_hhea font) (wrong_table font)
+wrong_advances font = or_else (short_header font) (wrong_table font)
 
 -- what is wrong with the tables that a call reads; glyphs of characters are found by `cmap` alone
 unfoldable pub wrong_for : Call → Font → List ℕ → Option Reason
@@ -117,25 +118,45 @@ is_of_charstrings other = false
 abbrev pub of_charstrings : Refusal → Font → ℕ → ℕ → List ℕ → Option Reason
 of_charstrings e font tokens depth glyphs = if is_of_charstrings e then cff_reason font tokens depth glyphs else None
 
--- what is looked at last: the metrics of each glyph, and names, which a font for a PDF doesn't have
+-- calls on the outlines of glyphs
+abbrev pub takes_outlines : Call → Bool
+takes_outlines GlyphsOf = false
+takes_outlines Advances = false
+takes_outlines other = true
+
+-- components of `glyf` at any level, down to the depth of the call
+abbrev pub of_components : Call → Refusal → Font → ℕ → List ℕ → Option Reason
+of_components call MalformedFont font depth glyphs = if takes_outlines call then tree_reason font depth glyphs else None
+of_components call other font depth glyphs = None
+
+unfoldable pub of_outlines : Call → Refusal → Font → ℕ → ℕ → List ℕ → Option Reason
+of_outlines call e font tokens depth glyphs = or_else (of_charstrings e font tokens depth glyphs) (of_components call e font depth glyphs)
+
+-- what is looked at last: the metrics of each glyph, and names, of which a font for a PDF has `post` alone
 unfoldable pub not_kept_by : Call → Font → List ℕ → Option Reason
 not_kept_by Subset font glyphs = not_kept font glyphs
 not_kept_by SubsetAt font glyphs = not_kept font glyphs
 not_kept_by Embed font glyphs = not_kept font glyphs
 not_kept_by EmbedAt font glyphs = not_kept font glyphs
-not_kept_by PdfFont font glyphs = no_metric font glyphs
+not_kept_by PdfFont font glyphs = or_else (no_metric font glyphs) (short_post font)
 not_kept_by GlyphsOf font glyphs = None
-not_kept_by Advances font glyphs = None
+not_kept_by Advances font glyphs = no_metric font glyphs
 
--- and what varies, at coordinates
+-- and what varies, at coordinates, or what that is read with: `hmtx`, `maxp` and `head`
+abbrev pub no_metrics : Font → Option Reason
+no_metrics font = or_else (no_table font (record { 0 = codes "hmtx" })) (or_else (no_table font (record { 0 = codes "maxp" })) (no_table font (record { 0 = codes "head" })))
+
+unfoldable pub wrong_at : Font → Option Reason
+wrong_at font = or_else (wrong_variations font) (no_metrics font)
+
 unfoldable pub wrong_variations_for : Call → Font → Option Reason
 wrong_variations_for Subset font = None
-wrong_variations_for SubsetAt font = wrong_variations font
+wrong_variations_for SubsetAt font = wrong_at font
 wrong_variations_for Embed font = None
-wrong_variations_for EmbedAt font = wrong_variations font
-wrong_variations_for PdfFont font = wrong_variations font
+wrong_variations_for EmbedAt font = wrong_at font
+wrong_variations_for PdfFont font = wrong_at font
 wrong_variations_for GlyphsOf font = None
-wrong_variations_for Advances font = wrong_variations font
+wrong_variations_for Advances font = wrong_at font
 
 unfoldable pub malformed_last : Call → Font → List ℕ → Option Reason
 malformed_last call font glyphs = or_else (not_kept_by call font glyphs) (wrong_variations_for call font)
@@ -145,7 +166,7 @@ shown_last call MalformedFont font glyphs = malformed_last call font glyphs
 shown_last call other font glyphs = None
 
 abbrev pub seen_last : Call → Refusal → Font → ℕ → ℕ → List ℕ → Option Reason
-seen_last call e font tokens depth glyphs = or_else (of_charstrings e font tokens depth glyphs) (shown_last call e font glyphs)
+seen_last call e font tokens depth glyphs = or_else (of_outlines call e font tokens depth glyphs) (shown_last call e font glyphs)
 
 abbrev pub explained : Call → Refusal → Font → ℕ → ℕ → List ℕ → Option Reason
 explained call e font tokens depth glyphs = or_else (shown call e font glyphs) (seen_last call e font tokens depth glyphs)

@@ -8,7 +8,7 @@ use Rattle.subsetter_sfnt.specs.declared.face.FontKind.{FontKind}
 use Rattle.subsetter_sfnt.specs.declared.face.TableRecord.{TableRecord}
 use Rattle.font_reasons.specs.Directory.{bytes_or_none, records_in}
 use Rattle.font_reasons.specs.declared.reason.Reason.{Reason}
-use Rattle.font_reasons.specs.declared.reason.Reason.TheVariants.{Woff, Woff2, Type1, Eot, NotFont, Empty, NoFace, NoHeader, CutDirectory, Cut, NoTable}
+use Rattle.font_reasons.specs.declared.reason.Reason.TheVariants.{Woff, Woff2, Type1, Eot, Pdf, NotFont, Empty, NoFace, NoHeader, CutDirectory, Cut, NoTable}
 
 -- the first that is there
 abbrev pub or_else : {X : Type 0} → Option X → Option X → Option X
@@ -22,13 +22,13 @@ packed_by word = if word == 0x774F4646 then Some Woff else (if word == 0x774F463
 abbrev pub packed : List ℕ → Option Reason
 packed bytes = option_and_then packed_by (number bytes 0 4)
 
--- `%!` begins a Type 1 font, 0x80 and 1 its segments (Technical Note 5040); MagicNumber 0x504C, low byte first, is at byte 34 of an EOT
+-- `%!` begins a Type 1 font, 0x80 and 1 its segments (Technical Note 5040), `%P` a PDF; MagicNumber 0x504C, low byte first, is at byte 34 of an EOT
 abbrev pub by_magic : Option ℕ → Reason
 by_magic (Some word) = if word == 0x4C50 then Eot else NotFont
 by_magic None = NotFont
 
 abbrev pub other_format : Option ℕ → Option ℕ → Reason
-other_format (Some word) magic = if word == 0x2521 then Type1 else (if word == 0x8001 then Type1 else by_magic magic)
+other_format (Some word) magic = if word == 0x2521 then Type1 else (if word == 0x8001 then Type1 else (if word == 0x2550 then Pdf else by_magic magic))
 other_format None magic = by_magic magic
 
 -- a file that begins as no font does

@@ -1,7 +1,8 @@
 -- What is wrong with TrueType outlines (OpenType, "glyf" and "loca").
-use Rattle.std.specs.Prelude.{ℕ, zero, suc, ◌+◌, ◌*◌, ◌==◌, Bool, nat_lt, if◌then◌else◌, List, [], ◌∷◌, length, Option, Some, None, codes}
+use Rattle.std.specs.Prelude.{ℕ, zero, suc, ◌+◌, ◌*◌, ◌==◌, Bool, nat_lt, if◌then◌else◌, List, [], ◌∷◌, length, drop, Option, Some, None, codes}
 use Rattle.std.specs.Option.{option_and_then, option_map}
 use Rattle.subsetter_base.specs.Bytes.{number, between_offsets, from_offset, has_flag}
+use Rattle.subsetter_base.specs.Indexes.{with_glyph, with_glyphs}
 use Rattle.subsetter_sfnt.specs.Read.{Font, stored}
 use Rattle.font_reasons.specs.File.{or_else, missing_table}
 use Rattle.font_reasons.specs.declared.reason.Reason.{Reason}
@@ -110,3 +111,52 @@ wrong_tables font glyphs (Some glyf) (Some loca) (Some head) = option_and_then (
 
 abbrev pub no_outline : Font → List ℕ → Option Reason
 no_outline font glyphs = wrong_tables font glyphs (stored font (codes "glyf")) (stored font (codes "loca")) (stored font (codes "head"))
+
+-- ---- components of components
+
+-- the glyphs that were seen, which are no more than 65,535, and this one
+abbrev pub reached : List ℕ → ℕ → List ℕ
+reached seen g = if nat_lt (length seen) 65535 then with_glyph seen g else seen
+
+-- and those of at most n components, up to one that is cut
+abbrev pub reached_first : List ℕ → (List ℕ → List ℕ → List ℕ) → Option Component → List ℕ
+reached_first seen later None = seen
+reached_first seen later (Some c) = if has_more c.flags then later (reached seen c.glyph) c.after else reached seen c.glyph
+
+abbrev pub reached_by : ℕ → List ℕ → List ℕ → List ℕ
+reached_by zero seen bytes = seen
+reached_by (suc n) seen bytes = reached_first seen (reached_by n) (component_at bytes)
+
+-- and those of the components of an outline
+abbrev pub reached_in : List ℕ → List ℕ → Option ℕ → Option (List ℕ) → List ℕ
+reached_in seen bytes (Some contours) (Some components) = if nat_lt contours 0x8000 then seen else reached_by (length bytes) seen components
+reached_in seen bytes contours components = seen
+
+abbrev pub reached_from_outline : List ℕ → Option (List ℕ) → List ℕ
+reached_from_outline seen None = seen
+reached_from_outline seen (Some bytes) = reached_in seen bytes (number bytes 0 2) (from_offset bytes 10)
+
+abbrev pub reached_from : List ℕ → List ℕ → ℕ → List ℕ → ℕ → List ℕ
+reached_from glyf loca format seen g = reached_from_outline seen (outline glyf loca format g)
+
+-- those of each of these
+abbrev pub reached_from_all : List ℕ → List ℕ → ℕ → List ℕ → List ℕ → List ℕ
+reached_from_all glyf loca format seen [] = seen
+reached_from_all glyf loca format seen (g ∷ glyphs) = reached_from_all glyf loca format (reached_from glyf loca format seen g) glyphs
+
+-- what is wrong with the first of the glyphs from a place on that is wrong, or else of the components that they reach, at n levels
+abbrev pub wrong_levels : List ℕ → List ℕ → ℕ → ℕ → ℕ → List ℕ → Option Reason
+wrong_levels glyf loca format zero from seen = None
+wrong_levels glyf loca format (suc n) from seen =
+    or_else (first_wrong glyf loca format (drop from seen)) (wrong_levels glyf loca format n (length seen) (reached_from_all glyf loca format seen (drop from seen)))
+
+-- of glyph 0 and the given glyphs, each once, and their components down to a depth
+abbrev pub wrong_tree : List ℕ → List ℕ → ℕ → ℕ → List ℕ → Option Reason
+wrong_tree glyf loca format depth glyphs = if nat_lt 65535 (length (with_glyphs (0 ∷ []) glyphs)) then None else wrong_levels glyf loca format (depth + 1) 0 (with_glyphs (0 ∷ []) glyphs)
+
+abbrev pub tree_reason_by : ℕ → List ℕ → Option (List ℕ) → Option (List ℕ) → Option ℕ → Option Reason
+tree_reason_by depth glyphs (Some glyf) (Some loca) (Some format) = wrong_tree glyf loca format depth glyphs
+tree_reason_by depth glyphs glyf loca format = None
+
+abbrev pub tree_reason : Font → ℕ → List ℕ → Option Reason
+tree_reason font depth glyphs = tree_reason_by depth glyphs (stored font (codes "glyf")) (stored font (codes "loca")) (option_and_then (λ head. number head 50 2) (stored font (codes "head")))

@@ -4,7 +4,7 @@ use Rattle.std.specs.Fmt.{radix_digits}
 use Rattle.subsetter_base.specs.Texts.{tag_text}
 use Rattle.subsetter_base.specs.declared.tag.Tag.{Tag}
 use Rattle.font_reasons.specs.declared.reason.Reason.{Reason}
-use Rattle.font_reasons.specs.declared.reason.Reason.TheVariants.{Woff, Woff2, Type1, Eot, NotFont, Empty, NoFace, NoHeader, CutDirectory, Cut, NoOutlines, BitmapsAlone, NoGlyph, NoTable, NoEntries, Descends, Outside, CutHeader, CutComponent, ByComponent, NoMetrics, FewMetrics, NoMetric, NoUnits, Short, LostName, NoUnicode, OnlyCff2, Forbidden, OtherVersion, AxisSize, AxisCount, WrongGvar, OtherCff, WrongCff, NoCharstring, WrongCharstring, Composed}
+use Rattle.font_reasons.specs.declared.reason.Reason.TheVariants.{Woff, Woff2, Type1, Eot, Pdf, NotFont, Empty, NoFace, NoHeader, CutDirectory, Cut, NoOutlines, BitmapsAlone, NoGlyph, NoTable, NoEntries, Descends, Outside, CutHeader, CutComponent, ByComponent, NoMetrics, FewMetrics, NoMetric, NoUnits, Short, LostName, NoUnicode, OnlyCff2, Forbidden, OtherVersion, AxisSize, AxisCount, WrongGvar, OtherCff, WrongCff, NoCharstring, WrongCharstring, Composed}
 
 -- a number between two texts
 abbrev pub between : List ℕ → ℕ → List ℕ → List ℕ
@@ -49,13 +49,14 @@ reason_text Woff = codes "a WOFF file: unpack it first"
 reason_text Woff2 = codes "a WOFF2 file: unpack it first"
 reason_text Type1 = codes "a Type 1 font: convert it to OpenType first"
 reason_text Eot = codes "an EOT file: convert it to OpenType first"
+reason_text Pdf = codes "not a font: a PDF file"
 reason_text NotFont = codes "not a font: its first bytes are none of TrueType, OpenType, a collection"
 reason_text Empty = codes "the file is empty"
 reason_text (NoFace index count) = no_face_text index count
 reason_text (NoHeader index) = between (codes "face ") index (codes ": no font begins where the collection says")
 reason_text CutDirectory = codes "the file is cut in its table directory"
 reason_text (Cut tag end size) = cut_text tag end size
-reason_text NoOutlines = codes "the face has no table glyf, CFF or CFF2"
+reason_text NoOutlines = codes "the face has no outlines (glyf, CFF, CFF2) and no bitmaps (sbix, CBDT with CBLC, EBDT with EBLC)"
 reason_text (BitmapsAlone tag) = table_name tag ++ codes ": the face has bitmaps and no outlines"
 reason_text (NoGlyph glyph count) = no_glyph_text glyph count
 reason_text (NoTable tag) = codes "the face has no table " ++ table_name tag
@@ -81,5 +82,5 @@ reason_text WrongGvar = codes "gvar: the table can't be read"
 reason_text OtherCff = codes "CFF: its major version isn't 1"
 reason_text WrongCff = codes "CFF: the table can't be read"
 reason_text (NoCharstring glyph) = between (codes "glyph ") glyph (codes ": CFF has no charstring or private dict for it")
-reason_text (WrongCharstring glyph) = between (codes "glyph ") glyph (codes ": its charstring can't be run within the limits")
+reason_text (WrongCharstring glyph) = between (codes "glyph ") glyph (codes ": its charstring is wrong, or passes the limits")
 reason_text (Composed glyph) = between (codes "glyph ") glyph (codes ": its charstring puts two others together")

@@ -3,14 +3,15 @@
 ghost use Rattle.std.specs.Prelude.{◌≡◌, codes, IfOk, IfErr};
 ghost use Rattle.subsetter_base.specs.declared.error.Error.TheVariants.{OutOfMemory};
 ghost use Rattle.subsetter_sfnt.specs.Extras.{all_extras};
-ghost use Rattle.font_reasons.specs.Explained.{explained, is_of_charstrings, lacks, lost_for, malformed, no_cmap, malformed_last, no_mapping, no_maxp, no_unicode, no_units, no_widths, not_kept_by, not_read, of_charstrings, only_cff2, seen_last, shown, shown_last, wrong_advances, wrong_for, wrong_variations_for};
+ghost use Rattle.font_reasons.specs.Explained.{explained, is_of_charstrings, lacks, lost_for, malformed, no_cmap, malformed_last, no_mapping, no_maxp, no_unicode, no_units, no_metrics, no_widths, not_kept_by, not_read, of_charstrings, of_components, of_outlines, only_cff2, seen_last, shown, shown_last, takes_outlines, wrong_advances, wrong_at, wrong_for, wrong_variations_for};
 
 use crate::charstrings::cff_reason;
 use crate::names::lost_name;
+use crate::outlines::tree_reason;
 use crate::parts::{no_metric, no_table, wrong_metrics};
 use crate::reason::Reason;
 use crate::request::{no_font_or_glyph, not_kept, reason_of_unknown, wrong_source, wrong_table};
-use crate::short::short_hhea;
+use crate::short::{short_header, short_post};
 use crate::variations::{other_variations, wrong_variations};
 use std::alloc::Global;
 use subsetter_base::{Error, Tag};
@@ -145,7 +146,7 @@ fn not_read(call: Call, font: &[u8], index: u32) -> Option<Reason>
 fn wrong_advances(font: &[u8], index: u32) -> Option<Reason>
     ensures { result ≡ wrong_advances (record { bytes = font.now; index = index; extras = all_extras }) }
 {
-    short_hhea(font, index).or(wrong_table(font, index))
+    short_header(font, index).or(wrong_table(font, index))
 }
 
 /// What is wrong with the tables that a call reads.
@@ -223,18 +224,89 @@ fn of_charstrings(
     Ok(None)
 }
 
+/// Whether a call is one on outlines.
+fn takes_outlines(call: Call) -> bool
+    ensures { result ≡ takes_outlines call }
+{
+    match call {
+        Call::GlyphsOf | Call::Advances => false,
+        Call::Subset | Call::SubsetAt | Call::Embed | Call::EmbedAt | Call::PdfFont => true,
+    }
+}
+
+/// What components show, at any level down to a depth.
+fn of_components(
+    alloc: Global,
+    call: Call,
+    error: Error,
+    font: &[u8],
+    index: u32,
+    depth: u8,
+    glyphs: &[u16],
+) -> Result<Option<Reason>, Error>
+    ensures ok { IfOk result (λ r. r ≡ of_components call error (record { bytes = font.now; index = index; extras = all_extras }) depth glyphs.now) }
+    ensures err { IfErr result (λ e. e ≡ OutOfMemory) }
+{
+    match error {
+        Error::MalformedFont => {
+            if takes_outlines(call) {
+                return tree_reason(alloc, font, index, depth, glyphs);
+            }
+            Ok(None)
+        }
+        _ => Ok(None),
+    }
+}
+
+/// What charstrings show, or components.
+#[tactic(auto, unfolding(crate::specs::Explained::of_outlines))]
+fn of_outlines(
+    alloc: Global,
+    call: Call,
+    error: Error,
+    font: &[u8],
+    index: u32,
+    limits: &Limits,
+    glyphs: &[u16],
+) -> Result<Option<Reason>, Error>
+    ensures ok { IfOk result (λ r. r ≡ of_outlines call error (record { bytes = font.now; index = index; extras = all_extras }) limits.now.tokens limits.now.depth glyphs.now) }
+    ensures err { IfErr result (λ e. e ≡ OutOfMemory) }
+{
+    match of_charstrings(alloc, error, font, index, limits, glyphs)? {
+        Some(reason) => Ok(Some(reason)),
+        None => of_components(alloc, call, error, font, index, limits.depth(), glyphs),
+    }
+}
+
 /// What is wrong with what a call keeps besides outlines.
 #[tactic(auto, unfolding(crate::specs::Explained::not_kept_by))]
 fn not_kept_by(call: Call, font: &[u8], index: u32, glyphs: &[u16]) -> Option<Reason>
     ensures { result ≡ not_kept_by call (record { bytes = font.now; index = index; extras = all_extras }) glyphs.now }
 {
     match call {
-        Call::GlyphsOf | Call::Advances => None,
-        Call::PdfFont => no_metric(font, index, glyphs),
+        Call::GlyphsOf => None,
+        Call::Advances => no_metric(font, index, glyphs),
+        Call::PdfFont => no_metric(font, index, glyphs).or(short_post(font, index)),
         Call::Subset | Call::SubsetAt | Call::Embed | Call::EmbedAt => {
             not_kept(font, index, glyphs)
         }
     }
+}
+
+/// Whether a face lacks what variations are read with.
+fn no_metrics(font: &[u8], index: u32) -> Option<Reason>
+    ensures { result ≡ no_metrics (record { bytes = font.now; index = index; extras = all_extras }) }
+{
+    let others = no_table(font, index, Tag::MAXP).or(no_table(font, index, Tag::HEAD));
+    no_table(font, index, Tag::HMTX).or(others)
+}
+
+/// What is wrong with what varies, or isn't there with it.
+#[tactic(auto, unfolding(crate::specs::Explained::wrong_at))]
+fn wrong_at(font: &[u8], index: u32) -> Option<Reason>
+    ensures { result ≡ wrong_at (record { bytes = font.now; index = index; extras = all_extras }) }
+{
+    wrong_variations(font, index).or(no_metrics(font, index))
 }
 
 /// What is wrong with what varies, where a call is at coordinates.
@@ -244,9 +316,7 @@ fn wrong_variations_for(call: Call, font: &[u8], index: u32) -> Option<Reason>
 {
     match call {
         Call::Subset | Call::Embed | Call::GlyphsOf => None,
-        Call::SubsetAt | Call::EmbedAt | Call::PdfFont | Call::Advances => {
-            wrong_variations(font, index)
-        }
+        Call::SubsetAt | Call::EmbedAt | Call::PdfFont | Call::Advances => { wrong_at(font, index) }
     }
 }
 
@@ -269,7 +339,7 @@ fn shown_last(call: Call, error: Error, font: &[u8], index: u32, glyphs: &[u16])
     }
 }
 
-/// What charstrings show, or what is kept besides outlines.
+/// What outlines show, or what is kept besides them.
 fn seen_last(
     alloc: Global,
     call: Call,
@@ -282,12 +352,15 @@ fn seen_last(
     ensures ok { IfOk result (λ r. r ≡ seen_last call error (record { bytes = font.now; index = index; extras = all_extras }) limits.now.tokens limits.now.depth glyphs.now) }
     ensures err { IfErr result (λ e. e ≡ OutOfMemory) }
 {
-    let found = of_charstrings(alloc, error, font, index, limits, glyphs)?;
+    let found = of_outlines(alloc, call, error, font, index, limits, glyphs)?;
     Ok(found.or(shown_last(call, error, font, index, glyphs)))
 }
 
 /// Why a call on these glyphs is refused with an error, if the font shows it. A charstring of `CFF ` is run within the limits of the
-/// call, at most once, and none after the first that can't be.
+/// call, at most once, and none after the first that can't be; components of `glyf` are followed down to their depth.
+///
+/// There is none where memory ran out, or what was asked for is why: more bytes than the call may make, or glyphs that leave no
+/// number for glyph 0. At coordinates there is none of what a glyph varies by, and none of a charstring of `CFF2`.
 ///
 /// # Errors
 ///

@@ -20,6 +20,8 @@ const WOFF2: u32 = 0x774F4632;
 const TYPE_1: u16 = 0x2521;
 
 const TYPE_1_SEGMENT: u16 = 0x8001;
+/// What a PDF begins with: `%P`.
+const PDF: u16 = 0x2550;
 /// MagicNumber of an EOT, low byte first, and its offset in bytes.
 const EOT: u16 = 0x4C50;
 
@@ -86,6 +88,7 @@ fn other_format(front: Option<u16>, magic: Option<u16>) -> Reason
     match front {
         Some(TYPE_1) => Reason::Type1,
         Some(TYPE_1_SEGMENT) => Reason::Type1,
+        Some(PDF) => Reason::Pdf,
         _ => by_magic(magic),
     }
 }

@@ -1,15 +1,20 @@
 //! What is wrong with TrueType outlines.
 
-ghost use Rattle.std.specs.Prelude.{◌≡◌, ◌≤◌, ◌+◌, length};
-ghost use Rattle.std.specs.Option.{option_copied, option_map};
+ghost use Rattle.std.specs.Prelude.{◌≡◌, ◌≤◌, ◌+◌, codes, drop, IfOk, IfErr, length};
+ghost use Rattle.std.specs.Option.{option_and_then, option_copied, option_map};
+ghost use Rattle.subsetter_base.specs.Bytes.{from_offset, number};
+ghost use Rattle.subsetter_base.specs.declared.error.Error.TheVariants.{OutOfMemory};
 ghost use Rattle.subsetter_sfnt.specs.Extras.{all_extras};
-ghost use Rattle.font_reasons.specs.Outlines.{entry, wrong_range, wrong_between, wrong_outline, outline, arguments_size, transform_size, component_at, has_more, by_component, wrong_components, wrong_bytes, wrong_description, wrong_glyph, first_wrong, wrong_glyphs, no_outline};
+ghost use Rattle.subsetter_sfnt.specs.Read.{stored};
+ghost use Rattle.font_reasons.specs.Outlines.{entry, wrong_range, wrong_between, wrong_outline, outline, arguments_size, transform_size, component_at, has_more, by_component, wrong_components, wrong_bytes, wrong_description, wrong_glyph, first_wrong, wrong_glyphs, no_outline, reached, reached_by, reached_in, reached_from, reached_from_all, wrong_levels, wrong_tree, tree_reason};
 ghost use Rattle.font_reasons.specs.View.{component_view};
 
 use crate::file::missing_table;
 use crate::reason::Reason;
-use subsetter_base::Tag;
+use pdf_cff::unless_memory;
+use std::alloc::{AllocError, Global};
 use subsetter_base::read::{between_offsets, from_offset, number_at};
+use subsetter_base::{Error, GlyphRemapper, Tag};
 use subsetter_points::component::{
     ARG_1_AND_2_ARE_WORDS, ARGUMENTS, GLYPH_INDEX, MORE_COMPONENTS, WE_HAVE_A_SCALE,
     WE_HAVE_A_TWO_BY_TWO, WE_HAVE_AN_X_AND_Y_SCALE,
@@ -242,4 +247,183 @@ pub fn no_outline(font: &[u8], index: u32, glyphs: &[u16]) -> Option<Reason>
     };
     let format = index_to_loc_format(head)?;
     wrong_glyphs(glyf, loca, format, glyphs)
+}
+
+/// The glyphs that were seen, and this one.
+fn reached(known: GlyphRemapper, glyph: u16) -> Result<GlyphRemapper, Error>
+    ensures ok { IfOk result (λ r. r ≡ reached known glyph) }
+    ensures err { IfErr result (λ e. e ≡ OutOfMemory) }
+{
+    let mut seen = known;
+    if seen.num_gids() < u16::MAX {
+        seen.remap(glyph)?;
+    }
+    Ok(seen)
+}
+
+/// The glyphs that were seen, and those of at most so many components.
+#[tactic(auto, using(crate::proofs::Components::none_reached))]
+fn reached_by(known: GlyphRemapper, components: &[u8], most: usize) -> Result<GlyphRemapper, Error>
+    ensures ok { IfOk result (λ r. r ≡ reached_by most known components.now) }
+    ensures err { IfErr result (λ e. e ≡ OutOfMemory) }
+{
+    let mut seen = known;
+    let mut rest = components;
+    let mut left = most;
+    while left > 0 {
+        let Some(component) = component_at(rest) else {
+            return Ok(seen);
+        };
+        seen = reached(seen, component.glyph)?;
+        if !has_more(component.flags) {
+            return Ok(seen);
+        }
+        rest = component.after;
+        left -= 1;
+    }
+    Ok(seen)
+}
+
+/// The same of the components of an outline, if it has some.
+fn reached_in(seen: GlyphRemapper, bytes: &[u8]) -> Result<GlyphRemapper, Error>
+    ensures ok { IfOk result (λ r. r ≡ reached_in seen bytes.now (number bytes.now 0 2) (from_offset bytes.now 10)) }
+    ensures err { IfErr result (λ e. e ≡ OutOfMemory) }
+{
+    match (number_at(bytes, 0), from_offset(bytes, HEADER_SIZE)) {
+        (Some(contours), Some(components)) => {
+            if contours < COMPOSITE {
+                return Ok(seen);
+            }
+            reached_by(seen, components, bytes.len())
+        }
+        _ => Ok(seen),
+    }
+}
+
+/// The same of the components of a glyph.
+fn reached_from(
+    glyf: &[u8],
+    loca: &[u8],
+    format: u16,
+    seen: GlyphRemapper,
+    glyph: u16,
+) -> Result<GlyphRemapper, Error>
+    ensures ok { IfOk result (λ r. r ≡ reached_from glyf.now loca.now format seen glyph) }
+    ensures err { IfErr result (λ e. e ≡ OutOfMemory) }
+{
+    match outline(glyf, loca, format, glyph) {
+        Some(bytes) => reached_in(seen, bytes),
+        None => Ok(seen),
+    }
+}
+
+/// The same of each of these glyphs.
+fn reached_from_all(
+    glyf: &[u8],
+    loca: &[u8],
+    format: u16,
+    known: GlyphRemapper,
+    glyphs: &[u16],
+) -> Result<GlyphRemapper, Error>
+    ensures ok { IfOk result (λ r. r ≡ reached_from_all glyf.now loca.now format known glyphs.now) }
+    ensures err { IfErr result (λ e. e ≡ OutOfMemory) }
+{
+    let mut seen = known;
+    for glyph in glyphs {
+        seen = reached_from(glyf, loca, format, seen, *glyph)?;
+    }
+    Ok(seen)
+}
+
+/// The glyphs of a mapper from a place on.
+fn seen_from(alloc: Global, seen: &GlyphRemapper, from: usize) -> Result<Vec<u16>, AllocError>
+    ensures { IfOk result (λ v. v.items ≡ drop from seen.now) }
+{
+    seen.remapped_gids().skip(from).collect(alloc)
+}
+
+/// The first of a mapper's glyphs whose outline is wrong, or else of their components, so many levels below.
+fn wrong_levels(
+    alloc: Global,
+    glyf: &[u8],
+    loca: &[u8],
+    format: u16,
+    levels: u16,
+    mapper: GlyphRemapper,
+) -> Result<Option<Reason>, Error>
+    ensures ok { IfOk result (λ r. r ≡ wrong_levels glyf.now loca.now format levels 0 mapper) }
+    ensures err { IfErr result (λ e. e ≡ OutOfMemory) }
+{
+    let mut seen = mapper;
+    let mut from = 0;
+    let mut left = levels;
+    while left > 0 {
+        let level = seen_from(alloc, &seen, from)?;
+        if let Some(reason) = first_wrong(glyf, loca, format, &level) {
+            return Ok(Some(reason));
+        }
+        from = usize::from(seen.num_gids());
+        seen = reached_from_all(glyf, loca, format, seen, &level)?;
+        left -= 1;
+    }
+    Ok(None)
+}
+
+/// What is wrong with the outlines of these glyphs, of glyph 0, or of their components down to a depth.
+#[tactic(auto, using(crate::proofs::Numbering::no_tree, crate::proofs::Numbering::some_tree))]
+fn wrong_tree(
+    alloc: Global,
+    glyf: &[u8],
+    loca: &[u8],
+    format: u16,
+    depth: u8,
+    glyphs: &[u16],
+) -> Result<Option<Reason>, Error>
+    ensures ok { IfOk result (λ r. r ≡ wrong_tree glyf.now loca.now format depth glyphs.now) }
+    ensures err { IfErr result (λ e. e ≡ OutOfMemory) }
+{
+    match GlyphRemapper::new_from_glyphs(alloc, glyphs) {
+        Ok(mapper) => {
+            // There are never more than 65535.
+            let _count = mapper.num_gids();
+            wrong_levels(alloc, glyf, loca, format, u16::from(depth) + 1, mapper)
+        }
+        Err(error) => {
+            unless_memory(error)?;
+            Ok(None)
+        }
+    }
+}
+
+/// indexToLocFormat of a face.
+fn format_of(font: &[u8], index: u32) -> Option<u16>
+    ensures { result ≡ option_and_then (λ head. number head 50 2) (stored (record { bytes = font.now; index = index; extras = all_extras }) (codes "head")) }
+{
+    let head = table(font, index, Tag::HEAD)?;
+    index_to_loc_format(head)
+}
+
+/// The same, where the face has the tables of outlines in `glyf`.
+///
+/// # Errors
+///
+/// `OutOfMemory` alone.
+pub fn tree_reason(
+    alloc: Global,
+    font: &[u8],
+    index: u32,
+    depth: u8,
+    glyphs: &[u16],
+) -> Result<Option<Reason>, Error>
+    ensures ok { IfOk result (λ r. r ≡ tree_reason (record { bytes = font.now; index = index; extras = all_extras }) depth glyphs.now) }
+    ensures err { IfErr result (λ e. e ≡ OutOfMemory) }
+{
+    let glyf = table(font, index, Tag::GLYF);
+    let loca = table(font, index, Tag::LOCA);
+    match (glyf, loca, format_of(font, index)) {
+        (Some(glyf), Some(loca), Some(format)) => {
+            wrong_tree(alloc, glyf, loca, format, depth, glyphs)
+        }
+        _ => Ok(None),
+    }
 }

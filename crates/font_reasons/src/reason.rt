@@ -18,6 +18,8 @@ pub enum Reason {
     Type1,
     /// The file is an Embedded OpenType file.
     Eot,
+    /// The file is a PDF.
+    Pdf,
     /// The file begins as no font does.
     NotFont,
     /// The file has no bytes.
@@ -30,7 +32,7 @@ pub enum Reason {
     CutDirectory,
     /// This table ends at this byte, past the end of the file, which has this many bytes.
     Cut(Tag, u64, u64),
-    /// The face has none of the tables that have outlines.
+    /// The face has none of the tables that have outlines, and no bitmaps.
     NoOutlines,
     /// The face has none of these, and bitmaps in this table.
     BitmapsAlone(Tag),
@@ -82,7 +84,7 @@ pub enum Reason {
     WrongCff,
     /// `CFF ` has no charstring, or no private dict, for this glyph.
     NoCharstring(u16),
-    /// The charstring of this glyph can't be run within the limits.
+    /// The charstring of this glyph is wrong, or passes the limits.
     WrongCharstring(u16),
     /// The charstring of this glyph ends by putting two others together.
     Composed(u16),
@@ -365,6 +367,7 @@ impl fmt::Display for Reason {
             Reason::Woff2 => f.write_str("a WOFF2 file: unpack it first"),
             Reason::Type1 => f.write_str("a Type 1 font: convert it to OpenType first"),
             Reason::Eot => f.write_str("an EOT file: convert it to OpenType first"),
+            Reason::Pdf => f.write_str("not a font: a PDF file"),
             Reason::NotFont => {
                 f.write_str(
                     "not a font: its first bytes are none of TrueType, OpenType, a collection",
@@ -378,7 +381,11 @@ impl fmt::Display for Reason {
             }
             Reason::CutDirectory => f.write_str("the file is cut in its table directory"),
             Reason::Cut(tag, end, size) => write!(f, "{}", CutText(tag, end, size)),
-            Reason::NoOutlines => f.write_str("the face has no table glyf, CFF or CFF2"),
+            Reason::NoOutlines => {
+                f.write_str(
+                    "the face has no outlines (glyf, CFF, CFF2) and no bitmaps (sbix, CBDT with CBLC, EBDT with EBLC)",
+                )
+            }
             Reason::BitmapsAlone(tag) => {
                 write!(
                     f,
@@ -472,7 +479,7 @@ impl fmt::Display for Reason {
                 let text = Between(
                     "glyph ",
                     u32::from(glyph),
-                    ": its charstring can't be run within the limits",
+                    ": its charstring is wrong, or passes the limits",
                 );
                 write!(f, "{text}")
             }

@@ -1,5 +1,5 @@
 -- Which glyphs can be parts of own ones, and of how many parts these can be (OpenType, "glyf", "loca", "maxp").
-use Rattle.std.specs.Prelude.{ℕ, ◌/◌, ◌==◌, not, ◌&&◌, ◌||◌, max, min, nat_lt, nat_le, Bool, true, false, is_some, if◌then◌else◌, List, [], ◌∷◌, length, codes, Option, Some, None, ℤ, unsigned_abs}
+use Rattle.std.specs.Prelude.{ℕ, ◌/◌, ◌==◌, not, ◌&&◌, ◌||◌, max, min, nat_lt, nat_le, Bool, true, false, is_some, if◌then◌else◌, List, [], ◌∷◌, length, replicate, codes, Option, Some, None, ℤ, unsigned_abs}
 use Rattle.std.specs.Option.{option_map_or}
 use Rattle.subsetter_base.specs.Bytes.{signed_at}
 use Rattle.subsetter_base.specs.declared.tag.Tag.{Tag}
@@ -41,6 +41,10 @@ outlines_seen t = record { loca = t.loca.now; glyf = t.glyf.now; head = t.head.n
 abbrev pub has_pictures : (List ℕ → Option (List ℕ)) → Bool
 has_pictures find = (is_some (find (codes "COLR")) || is_some (find (codes "SVG "))) || (is_some (find (codes "CBDT")) || is_some (find (codes "sbix")))
 
+-- outlines are in `CFF `, as they aren't in `glyf`: an own glyph can be a glyph at the origin, with another width
+abbrev pub has_charstrings : (List ℕ → Option (List ℕ)) → Bool
+has_charstrings find = not (is_some (find (codes "glyf"))) && is_some (find (codes "CFF "))
+
 -- a font is asked for off its default, as far as that shows without a look at the coordinates
 abbrev pub may_move : (List ℕ → Option (List ℕ)) → List (Tag × ℤ) → Bool
 may_move find [] = false
@@ -50,13 +54,15 @@ may_move find (s ∷ settings) = is_some (find (codes "fvar"))
 abbrev pub reach_of : Bool → ℕ
 reach_of moves = if moves then 8192 else 16384
 
--- of so many glyphs; without outlines of `glyf`, and where there may be other pictures, no glyph can be a part
-abbrev pub parts_by : Bool → Option Outlines → ℕ → ℕ → List Bool
-parts_by pictures None reach count = []
-parts_by pictures (Some t) reach count = if pictures then [] else each_from (has_small_outline reach t) 0 count
+-- of so many glyphs of `glyf`
+abbrev pub parts_by : Option Outlines → ℕ → ℕ → List Bool
+parts_by None reach count = []
+parts_by (Some t) reach count = each_from (has_small_outline reach t) 0 count
 
+-- where there may be other pictures no glyph can be a part; of `CFF ` each can
 abbrev pub parts_in : (List ℕ → Option (List ℕ)) → List (Tag × ℤ) → ℕ → List Bool
-parts_in find settings count = parts_by (has_pictures find) (outlines_in true find) (reach_of (may_move find settings)) count
+parts_in find settings count =
+    if has_pictures find then [] else if has_charstrings find then replicate count true else parts_by (outlines_in true find) (reach_of (may_move find settings)) count
 
 -- ---- how many parts
 
@@ -72,10 +78,10 @@ room_in maxp = min (times_in (max (field_at maxp 6) (field_at maxp 10))) (times_
 abbrev pub most_in : List ℕ → ℕ
 most_in maxp = if nat_le 32 (length maxp) && nat_lt (field_at maxp 30) 65535 then room_in maxp else 0
 
--- a font with 65,535 glyphs has no room for another
-abbrev pub most_by : Option Outlines → ℕ → Option (List ℕ) → ℕ
-most_by None count maxp = 0
-most_by (Some t) count maxp = if nat_lt count 65535 then option_map_or most_in maxp 0 else 0
+abbrev pub most_by : Option Outlines → Option (List ℕ) → ℕ
+most_by None maxp = 0
+most_by (Some t) maxp = option_map_or most_in maxp 0
 
+-- a font with 65,535 glyphs has no room for another
 abbrev pub most_parts_in : (List ℕ → Option (List ℕ)) → ℕ → ℕ
-most_parts_in find count = most_by (outlines_in true find) count (find (codes "maxp"))
+most_parts_in find count = if nat_lt count 65535 then (if has_charstrings find then 1 else most_by (outlines_in true find) (find (codes "maxp"))) else 0

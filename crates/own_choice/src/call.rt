@@ -11,7 +11,7 @@ ghost use Rattle.text_metrics.specs.Metrics.{count_in};
 ghost use Rattle.own_choice.specs.Choosing.{chosen_seen, own_choice};
 
 use crate::choice::OwnChoice;
-use crate::outlines::parts_in;
+use crate::outlines::{has_charstrings, parts_in};
 use crate::room::most_parts_in;
 use font_advances::advances;
 use std::alloc::Global;
@@ -49,10 +49,11 @@ fn count_in(face: &Face<'_>) -> Result<u16, Error>
 /// `data`, `index` and `coordinates` are as for `advances`.
 ///
 /// - Own glyphs can have parts where outlines are in `glyf`, the font has fewer than 65,535 glyphs, and `maxp` has 32
-///   bytes: as many as leave the points and contours of a glyph, and its depth, 16 bits there.
+///   bytes: as many as leave the points and contours of a glyph, and its depth, 16 bits there. Where outlines are in
+///   `CFF ` they can have one, which stays at the origin.
 /// - A glyph can be a part where its outline is empty, or the box in its header is within 16,384 units of the origin on
-///   each side; at coordinates, where the font has `fvar`, within 8,192 units, as boxes are those of the default. In a
-///   font with `COLR`, `SVG `, `CBDT` or `sbix` none can be one.
+///   each side; at coordinates, where the font has `fvar`, within 8,192 units, as boxes are those of the default. Of
+///   `CFF ` each can. In a font with `COLR`, `SVG `, `CBDT` or `sbix` none can be one.
 ///
 /// # Errors
 ///
@@ -78,5 +79,6 @@ pub fn own_choice(
         advances: found.widths,
         can_be_part,
         most_parts: most_parts_in(&face, count),
+        is_still: has_charstrings(&face),
     })
 }

@@ -13,6 +13,7 @@ pub struct OwnChoice {
     pub(crate) advances: Vec<u16>,
     pub(crate) can_be_part: Vec<bool>,
     pub(crate) most_parts: u16,
+    pub(crate) is_still: bool,
 }
 
 impl OwnChoice {
@@ -35,7 +36,7 @@ impl OwnChoice {
         ensures inked { result.inked.now ≡ self.now.lines.inked.items }
         ensures can_be_part { result.can_be_part.now ≡ self.now.can_be_part.items }
         ensures most_parts { result.most_parts ≡ self.now.most_parts }
-        ensures is_still { result.is_still ≡ false }
+        ensures is_still { result.is_still ≡ self.now.is_still }
     {
         let font = self.lines.font();
         Choice {
@@ -44,7 +45,7 @@ impl OwnChoice {
             inked: font.inked,
             can_be_part: &self.can_be_part,
             most_parts: self.most_parts,
-            is_still: false,
+            is_still: self.is_still,
         }
     }
 }

@@ -1,12 +1,12 @@
 //! Which glyphs can be parts of own ones (OpenType, "glyf", "loca").
 
-ghost use Rattle.std.specs.Prelude.{◌≡◌, ◌≤◌, true, codes, is_some, length, IfOk, IfErr};
+ghost use Rattle.std.specs.Prelude.{◌≡◌, ◌≤◌, true, codes, is_some, length, replicate, IfOk, IfErr};
 ghost use Rattle.std.specs.Option.{option_copied, option_map};
 ghost use Rattle.subsetter_base.specs.declared.error.Error.TheVariants.{OutOfMemory};
 ghost use Rattle.subsetter_sfnt.specs.Read.{table_in};
 ghost use Rattle.subsetter.specs.Glyf.Read.{outline_in, outlines_in};
 ghost use Rattle.text_metrics.specs.Ink.{each_from};
-ghost use Rattle.own_choice.specs.Parts.{has_pictures, has_small_box, has_small_outline, is_long, is_small, is_within, may_move, outlines_seen, parts_in, reach_of};
+ghost use Rattle.own_choice.specs.Parts.{has_charstrings, has_pictures, has_small_box, has_small_outline, is_long, is_small, is_within, may_move, outlines_seen, parts_in, reach_of};
 
 use std::alloc::Global;
 use subsetter_base::read::{between_offsets, signed_at};
@@ -129,6 +129,13 @@ fn has_pictures(face: &Face<'_>) -> bool
         || has(face, Tag::new(b"sbix"))
 }
 
+/// Whether outlines are in `CFF `.
+pub fn has_charstrings(face: &Face<'_>) -> bool
+    ensures { result ≡ has_charstrings (table_in face.now.«data».now face.now.records.now) }
+{
+    !has(face, Tag::GLYF) && has(face, Tag::CFF)
+}
+
 /// Whether a font may be off its default.
 fn may_move(face: &Face<'_>, settings: &[(Tag, i32)]) -> bool
     ensures { result ≡ may_move (table_in face.now.«data».now face.now.records.now) settings.now }
@@ -143,8 +150,16 @@ fn reach_of(moves: bool) -> u16
     if moves { 8192 } else { 16384 }
 }
 
-/// Whether the first glyphs of a font can be parts, so many; the list is empty without outlines in `glyf`, and where
-/// there may be other pictures.
+/// So many times yes.
+fn each_one(alloc: Global, count: u16) -> Result<Vec<bool>, Error>
+    ensures ok { IfOk result (λ v. v.items ≡ replicate count true) }
+    ensures err { IfErr result (λ e. e ≡ OutOfMemory) }
+{
+    Ok(vec![in alloc; true; usize::from(count)]?)
+}
+
+/// Whether the first glyphs of a font can be parts, so many; the list is empty where there may be other pictures, and
+/// without outlines in `glyf` or `CFF `.
 pub fn parts_in(
     alloc: Global,
     face: &Face<'_>,
@@ -154,11 +169,14 @@ pub fn parts_in(
     ensures ok { IfOk result (λ v. v.items ≡ parts_in (table_in face.now.«data».now face.now.records.now) settings.now count) }
     ensures err { IfErr result (λ e. e ≡ OutOfMemory) }
 {
-    let Some(tables) = outlines_in(face) else {
-        return Ok(Vec::new(alloc));
-    };
     if has_pictures(face) {
         return Ok(Vec::new(alloc));
     }
+    if has_charstrings(face) {
+        return each_one(alloc, count);
+    }
+    let Some(tables) = outlines_in(face) else {
+        return Ok(Vec::new(alloc));
+    };
     small_outlines(alloc, reach_of(may_move(face, settings)), tables, count)
 }

@@ -5,7 +5,7 @@ ghost use Rattle.std.specs.Option.{option_copied};
 ghost use Rattle.subsetter_sfnt.specs.Read.{table_in};
 ghost use Rattle.own_choice.specs.Parts.{most_by, most_in, most_parts_in, outlines_seen, room_in, times_in};
 
-use crate::outlines::outlines_in;
+use crate::outlines::{has_charstrings, outlines_in};
 use subsetter_base::Tag;
 use subsetter_base::read::u16_at;
 use subsetter_sfnt::face::Face;
@@ -50,11 +50,17 @@ fn most_in(maxp: &[u8]) -> u16
     0
 }
 
-/// How many parts own glyphs of a font with so many glyphs can have: none without outlines in `glyf`.
+/// How many parts own glyphs of a font with so many glyphs can have: of `CFF ` one, and none without outlines in `glyf`.
 pub fn most_parts_in(face: &Face<'_>, count: u16) -> u16
     ensures { result ≡ most_parts_in (table_in face.now.«data».now face.now.records.now) count }
 {
-    if outlines_in(face).is_none() || count == u16::MAX {
+    if count == u16::MAX {
+        return 0;
+    }
+    if has_charstrings(face) {
+        return 1;
+    }
+    if outlines_in(face).is_none() {
         return 0;
     }
     match face.stored(Tag::MAXP) {

@@ -38,5 +38,5 @@ others_refused others owns seen file (Err e) some same (inr f) = inr (some, subs
 
 -- ---- outlines in `CFF `
 
-pub not_repeated : (cff : List ℕ) (owns : ℕ) (ds : List Drawing) (ns : List (Option ℕ)) (e : Error) → ns ≡ figures_of ds → Fails e (with_repeats cff ns) → (e ≡ OutOfMemory) ⊎ IsUnrepeated cff owns ds e
-not_repeated cff owns ds ns e same h = elim (fails_is e (with_repeats cff ns) h) [ inl m ↦ inl m | inr f ↦ inr (unrepeated (sym (ap (with_repeats cff) same) ∙ f)) ]
+pub not_repeated : (cff : List ℕ) (others : List OwnGlyph) (ds : List Drawing) (ns : List (Option ℕ)) (e : Error) → ns ≡ figures_of others ds → Fails e (with_repeats cff ns) → (e ≡ OutOfMemory) ⊎ IsUnrepeated cff others ds e
+not_repeated cff others ds ns e same h = elim (fails_is e (with_repeats cff ns) h) [ inl m ↦ inl m | inr f ↦ inr (unrepeated (sym (ap (with_repeats cff) same) ∙ f)) ]

@@ -1,5 +1,7 @@
 -- What draws the codes of a text: the program, and with TrueType outlines the map from CIDs to its glyphs (ISO 32000-1, 9.7.4.2).
-use Rattle.std.specs.Prelude.{◌≡◌, ◌≢◌, ◌⊎◌, ◌<◌, ◌+◌, ℕ, List, [], ◌∷◌, length, map, codes, Option, Some, None, Err}
+use Rattle.std.specs.Prelude.{◌≡◌, ◌⊎◌, ◌<◌, ◌+◌, ◌&&◌, ℕ, ◌==◌, Bool, true, false, if◌then◌else◌, List, [], ◌∷◌, length, map, slice_get, codes, Option, Some, None, unwrap_or, Err, pos}
+use Rattle.std.specs.List.{list_all}
+use Rattle.std.specs.Ordering.{int_eq}
 use Rattle.subsetter_base.specs.Options.{◌>>=◌}
 use Rattle.subsetter_base.specs.declared.error.Error.{Error}
 use Rattle.subsetter_base.specs.declared.error.Error.TheVariants.{MalformedFont, OverflowError}
@@ -9,8 +11,10 @@ use Rattle.subsetter_sfnt.specs.Read.{as_font, stored}
 use Rattle.own_glyphs.specs.Own.{HasOwnGlyphs}
 use Rattle.own_glyphs.specs.Refused.{IsRefused}
 use Rattle.own_glyphs.specs.declared.glyph.OwnGlyph.{OwnGlyph}
+use Rattle.own_glyphs.specs.declared.glyph.Part.{Part}
 use Rattle.cff_repeats.specs.Laws.{HasFigures}
 use Rattle.cff_repeats.specs.Repeats.{with_repeats}
+use Rattle.pdf_widths.specs.Tables.{with_widths}
 use Rattle.pdf_text.specs.declared.values.ProgramKind.{ProgramKind}
 use Rattle.pdf_text.specs.declared.values.ProgramKind.TheVariants.{TrueType, BareCff, OpenType}
 use Rattle.pdf_text_font.specs.GlyphMap.{map_bytes}
@@ -54,36 +58,57 @@ pub data IsUnmapped (file : List ℕ) (others : List OwnGlyph) (owns : ℕ) : Er
   -- the file gets no others
   refused : {e : Error} → IsRefused file others e → IsUnmapped file others owns e
 
--- ---- outlines in `CFF `, which have no map and get no own glyphs
+-- ---- outlines in `CFF `, which have no map: an own glyph is a glyph at the origin, or a blank, with another width
 
-abbrev pub figure_of : Drawing → Option ℕ
-figure_of (Glyph n) = Some n
-figure_of (Own k) = None
-figure_of Nothing = None
+abbrev pub is_still : List Part → Bool
+is_still [] = true
+is_still (p ∷ []) = int_eq p.x (pos 0) && int_eq p.y (pos 0)
+is_still (p ∷ q ∷ ps) = false
 
-abbrev pub figures_of : List Drawing → List (Option ℕ)
-figures_of ds = map figure_of ds
+abbrev pub are_still : List OwnGlyph → Bool
+are_still others = list_all (λ (o : OwnGlyph). is_still o.parts.now) others
 
--- of each code the charstring of its figure, whose CID is the code
-pub record AreRepeated (cff : List ℕ) (owns : ℕ) (ds : List Drawing) (program : List ℕ) (map : Option (List ℕ)) : Type 0 where
-  pub no_own : owns ≡ 0
-  pub figures : HasFigures (figures_of ds) cff program
+abbrev pub part_glyph : List Part → Option ℕ
+part_glyph [] = None
+part_glyph (p ∷ ps) = Some p.glyph
+
+abbrev pub own_figure : List OwnGlyph → ℕ → Option ℕ
+own_figure others k = slice_get others k >>= λ (o : OwnGlyph). part_glyph o.parts.now
+
+abbrev pub figure_of : List OwnGlyph → Drawing → Option ℕ
+figure_of others (Glyph n) = Some n
+figure_of others (Own k) = own_figure others k
+figure_of others Nothing = None
+
+abbrev pub figures_of : List OwnGlyph → List Drawing → List (Option ℕ)
+figures_of others ds = map (figure_of others) ds
+
+-- with these advances, where there are own glyphs
+abbrev pub with_advances : ℕ → List ℕ → List ℕ → List ℕ
+with_advances owns advances cff = if owns == 0 then cff else unwrap_or (with_widths cff advances) cff
+
+-- of each code the charstring of its figure, whose CID is the code, with its advance
+pub record AreRepeated (cff : List ℕ) (others : List OwnGlyph) (owns : ℕ) (advances : List ℕ) (ds : List Drawing) (program : List ℕ) (map : Option (List ℕ)) : Type 0 where
+  pub still : are_still others ≡ true
+  pub again : List ℕ
+  pub figures : HasFigures (figures_of others ds) cff again
+  pub widths : program ≡ with_advances owns advances again
   pub none : map ≡ None
 
-pub data IsUnrepeated (cff : List ℕ) (owns : ℕ) (ds : List Drawing) : Error → Type 0 where
-  own_ones : owns ≢ 0 → IsUnrepeated cff owns ds OverflowError
-  unrepeated : {e : Error} → with_repeats cff (figures_of ds) ≡ Err e → IsUnrepeated cff owns ds e
+pub data IsUnrepeated (cff : List ℕ) (others : List OwnGlyph) (ds : List Drawing) : Error → Type 0 where
+  moved : are_still others ≡ false → IsUnrepeated cff others ds OverflowError
+  unrepeated : {e : Error} → with_repeats cff (figures_of others ds) ≡ Err e → IsUnrepeated cff others ds e
 
 -- ---- both
 
--- each code draws its glyph of a subset, or one of others that come after these, of which so many are own ones
-abbrev pub AreDrawn : ProgramKind → List ℕ → List OwnGlyph → ℕ → List Drawing → List ℕ → Option (List ℕ) → Type 0
-AreDrawn TrueType subset others owns ds program map = AreMapped subset others owns ds program map
-AreDrawn BareCff subset others owns ds program map = AreRepeated subset owns ds program map
-AreDrawn OpenType subset others owns ds program map = AreRepeated subset owns ds program map
+-- each code draws its glyph of a subset, or one of others that come after these, of which so many are own ones; in the program codes have these advances
+abbrev pub AreDrawn : ProgramKind → List ℕ → List OwnGlyph → ℕ → List ℕ → List Drawing → List ℕ → Option (List ℕ) → Type 0
+AreDrawn TrueType subset others owns advances ds program map = AreMapped subset others owns ds program map
+AreDrawn BareCff subset others owns advances ds program map = AreRepeated subset others owns advances ds program map
+AreDrawn OpenType subset others owns advances ds program map = AreRepeated subset others owns advances ds program map
 
 -- why they aren't drawn, under the name of the error; with TrueType outlines only others can be refused
 abbrev pub HasDrawingFault : ProgramKind → List ℕ → List OwnGlyph → ℕ → List Drawing → Error → Type 0
 HasDrawingFault TrueType subset others owns ds e = (0 < length others) × IsUnmapped subset others owns e
-HasDrawingFault BareCff subset others owns ds e = IsUnrepeated subset owns ds e
-HasDrawingFault OpenType subset others owns ds e = IsUnrepeated subset owns ds e
+HasDrawingFault BareCff subset others owns ds e = IsUnrepeated subset others ds e
+HasDrawingFault OpenType subset others owns ds e = IsUnrepeated subset others ds e

@@ -47,7 +47,7 @@ columns_by ds columns = option_map (λ (c : Columns). values_of no_column c.each
 
 -- of a subset that draws the codes so, with others after its glyphs, of which the first are these own ones: each CID is its code
 pub record IsByCode (options : FontOptions) (own : List OwnInk) (ps : List Pair) (ds : List Drawing) (others : List OwnGlyph) (s : PdfFont) (t : TextFont) : Type 0 where
-  pub drawn : AreDrawn s.kind s.program.items others (length own) ds t.font.program.items (option_map (λ m. m.items) t.cid_to_gid_map)
+  pub drawn : AreDrawn s.kind s.program.items others (length own) t.font.exact_widths.items ds t.font.program.items (option_map (λ m. m.items) t.cid_to_gid_map)
   pub kind : t.font.kind ≡ s.kind
   pub count : t.font.glyph_count ≡ length ps
   -- the width of a code is that of its glyph, in thousandths of the em and in the font's units; that of a blank is 0

@@ -135,6 +135,7 @@ fn filled(
         subset.program,
         others,
         own.len(),
+        &exact_widths,
         drawings,
     )?;
     let font_name = renamed(

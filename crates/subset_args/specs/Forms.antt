@@ -68,6 +68,7 @@ without_pdf choice =
     if choice.switches.vertical then Some (record { wrong = NoPdf; word = codes "--vertical" })
     else if is_some choice.coding then Some (record { wrong = NoPdf; word = codes "--codes" })
     else if choice.is_held then Some (record { wrong = NoPdf; word = codes "--rights" })
+    else if choice.switches.allow_blank then Some (record { wrong = NoPdf; word = codes "--allow-blank" })
     else None
 
 -- no file is written twice

@@ -8,7 +8,7 @@ use Rattle.subset_args.specs.Mistakes.{Fault, refused, or_refused, ◌>>=◌}
 use Rattle.subset_args.specs.declared.mistakes.Wrong.TheVariants as wrong
 use Rattle.subset_args.specs.declared.mistakes.Wrong.TheVariants.{Twice}
 use Rattle.subset_args.specs.declared.options.names.Switch.{Switch}
-use Rattle.subset_args.specs.declared.options.names.Switch.TheVariants.{Widths, NoHinting, NoNames, NoGlyphNames, Small, Json, Quiet, Verbose, Vertical, Strict}
+use Rattle.subset_args.specs.declared.options.names.Switch.TheVariants.{Widths, NoHinting, NoNames, NoGlyphNames, Small, Json, Quiet, Verbose, Vertical, Strict, AllowBlank}
 use Rattle.subset_args.specs.declared.options.names.Setting.{Setting}
 use Rattle.subset_args.specs.declared.options.names.Setting.TheVariants.{Limits, GidsFile, Text, At, Gids, FaceIndex, Output, TextFile, Unicodes, UnicodesFile, Pdf, Codes, Rights, MostInput}
 use Rattle.subset_args.specs.declared.options.names.Coding.{Coding}
@@ -32,6 +32,7 @@ switch_of word =
     else if bytes_eq word (codes "--verbose") then Some Verbose
     else if bytes_eq word (codes "--vertical") then Some Vertical
     else if bytes_eq word (codes "--strict") then Some Strict
+    else if bytes_eq word (codes "--allow-blank") then Some AllowBlank
     else None
 
 -- the option that a value follows, which an argument is
@@ -84,6 +85,7 @@ is_on Quiet all = all.quiet
 is_on Verbose all = all.verbose
 is_on Vertical all = all.vertical
 is_on Strict all = all.strict
+is_on AllowBlank all = all.allow_blank
 
 -- with one that is given
 abbrev pub switched_on : Switch → Switches → Switches
@@ -97,6 +99,7 @@ switched_on Quiet all = record all { quiet = true }
 switched_on Verbose all = record all { verbose = true }
 switched_on Vertical all = record all { vertical = true }
 switched_on Strict all = record all { strict = true }
+switched_on AllowBlank all = record all { allow_blank = true }
 
 -- where the glyphs are found that an option requests: in a file, by the characters of a text, or in a list of glyphs or of characters
 pub data GlyphSource : Type 0 where
@@ -142,7 +145,7 @@ pub record Choice : Type 0 where
 
 -- nothing
 abbrev pub no_choice : Choice
-no_choice = record { switches = record { widths = false; no_hinting = false; no_names = false; no_glyph_names = false; small = false; json = false; quiet = false; verbose = false; vertical = false; strict = false }; limits = None; sources = []; at = None; output = None; index = None; most_input = None; pdf = None; coding = None; is_held = false }
+no_choice = record { switches = record { widths = false; no_hinting = false; no_names = false; no_glyph_names = false; small = false; json = false; quiet = false; verbose = false; vertical = false; strict = false; allow_blank = false }; limits = None; sources = []; at = None; output = None; index = None; most_input = None; pdf = None; coding = None; is_held = false }
 
 -- with an option without a value
 abbrev pub with_switch : Switch → List ℕ → Choice → Result Choice Fault

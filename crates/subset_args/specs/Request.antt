@@ -155,7 +155,7 @@ position_option (Some text) = or_fault (list_fault Coordinates text) (option_map
 
 -- how it is made
 abbrev pub pdf_choice : Choice → PdfChoice
-pdf_choice choice = record { vertical = choice.switches.vertical; coding = choice.coding; is_held = choice.is_held }
+pdf_choice choice = record { vertical = choice.switches.vertical; coding = choice.coding; is_held = choice.is_held; allow_blank = choice.switches.allow_blank }
 
 abbrev pub pdf_of : Choice → Option PdfRequest
 pdf_of choice = option_map (λ file. record { file = file; choice = pdf_choice choice }) choice.pdf

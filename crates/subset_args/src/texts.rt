@@ -10,7 +10,7 @@ pub const PARTS_EXPECTED: &str = "expected: numbers to 65535 and ranges as 36-38
 
 /// What a list of characters may have.
 pub const CODES_EXPECTED: &str =
-    "expected: hexadecimal numbers and ranges, as U+0041-005A; U+ may be left out";
+    "expected: hexadecimal numbers to 10FFFF and ranges, as U+0041-005A";
 
 /// What is expected in place of a range whose ends aren't in order.
 pub const ORDER_EXPECTED: &str = "expected: the lesser number first, as 10-20";
@@ -133,7 +133,7 @@ fn expected(wrong: Wrong) -> &'static str {
         Wrong::NoBatchFile | Wrong::BehindBatch | Wrong::BatchLate => {
             "expected: --batch and a FILE of requests, and no more"
         }
-        Wrong::Late => "expected: options before IN",
+        Wrong::Late => "expected: options before IN; with -o or --pdf also after it",
         Wrong::Unknown => "see subset_font --help",
         Wrong::Twice => "expected: each option at most once",
         Wrong::NoValue => "see subset_font --help",
@@ -145,7 +145,7 @@ fn expected(wrong: Wrong) -> &'static str {
         Wrong::Glyph => "expected: numbers from 0 to 65535, with commas, as 36,37,38",
         Wrong::Limits => "expected: numbers, as 1000000,64, with DEPTH from 1 to 255",
         Wrong::Coordinate | Wrong::Tag => {
-            "expected: coordinates as wght=650,wdth=87.5, or a name alone"
+            "expected: numbers from -32768 to 32767, as wght=650,wdth=87.5, or a name"
         }
         Wrong::Part => PARTS_EXPECTED,
         Wrong::Codes => CODES_EXPECTED,

@@ -28,6 +28,7 @@ flag_of name =
     else if bytes_eq name (codes "verbose") then Some Flag
     else if bytes_eq name (codes "vertical") then Some Flag
     else if bytes_eq name (codes "strict") then Some Flag
+    else if bytes_eq name (codes "allow-blank") then Some Flag
     else None
 
 -- the options with a value that commas may divide

@@ -12,7 +12,7 @@ _subset_font() {
         ;;
     esac
     case $word in
-    -*) mapfile -t COMPREPLY < <(compgen -W "--gids --gids-file --text --text-file --unicodes --unicodes-file --strict -o --output-file --face-index --most-input --pdf --vertical --codes --rights --at --no-hinting --no-names --no-glyph-names --small --limits --widths --verbose --json --quiet --axes --info --batch -h --help --version" -- "$word") ;;
+    -*) mapfile -t COMPREPLY < <(compgen -W "--gids --gids-file --text --text-file --unicodes --unicodes-file --strict -o --output-file --face-index --most-input --pdf --vertical --codes --rights --allow-blank --at --no-hinting --no-names --no-glyph-names --small --limits --widths --verbose --json --quiet --axes --info --batch -h --help --version" -- "$word") ;;
     *) mapfile -t COMPREPLY < <(compgen -f -- "$word") ;;
     esac
 }

@@ -2,3 +2,4 @@
 
 pub(crate) mod hint;
 pub(crate) mod limit_hint;
+pub(crate) mod second_look;

@@ -3,5 +3,6 @@ pub mod Axes
 pub mod Info
 pub mod Names
 pub mod Outlines
+pub mod Pictures
 pub mod Settings
 pub mod Sizes

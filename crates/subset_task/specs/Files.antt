@@ -8,7 +8,7 @@ use Rattle.subset_args.specs.declared.jobs.command.Glyphs.{Glyphs}
 use Rattle.subset_args.specs.declared.jobs.command.Glyphs.TheVariants.{Listed, Characters, InFile, ByText, Every}
 use Rattle.subset_args.specs.declared.jobs.command.Job.{Job}
 use Rattle.subset_task.specs.declared.refusals.failure.Failure.{Failure}
-use Rattle.subset_task.specs.declared.refusals.failure.Failure.TheVariants.{Error, NoMapping, MissingCharacters, NoInstance, NotPermitted, Usage, List as WrongList, Read, ReadList, Write, WritePdf, Output, LongAnswer}
+use Rattle.subset_task.specs.declared.refusals.failure.Failure.TheVariants.{Error, NoMapping, MissingCharacters, BlankGlyphs, NoInstance, NotPermitted, Usage, List as WrongList, Read, ReadList, Write, WritePdf, Output, LongAnswer}
 
 -- the name of the PDF's file
 abbrev pub pdf_name : Job → Option (List ℕ)
@@ -36,6 +36,7 @@ name_by (Error e) job = None
 name_by NoMapping job = None
 name_by NoInstance job = None
 name_by MissingCharacters job = None
+name_by BlankGlyphs job = None
 name_by (NotPermitted permission) job = None
 name_by Usage job = None
 name_by (WrongList place) job = None
@@ -68,6 +69,7 @@ IsReasonBy (Error e) kept reason = reason ≡ None
 IsReasonBy NoMapping kept reason = reason ≡ None
 IsReasonBy NoInstance kept reason = reason ≡ None
 IsReasonBy MissingCharacters kept reason = reason ≡ None
+IsReasonBy BlankGlyphs kept reason = reason ≡ None
 IsReasonBy (NotPermitted permission) kept reason = reason ≡ None
 IsReasonBy Usage kept reason = reason ≡ None
 IsReasonBy (WrongList place) kept reason = reason ≡ None

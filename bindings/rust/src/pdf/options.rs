@@ -125,8 +125,8 @@ impl TextOptions {
     }
 
     /// Whether the font gets own glyphs, which draw glyphs of it together: for a cluster whose glyphs are moved or are more than
-    /// its characters, and for a part of a ligature. Readers find such text better. The choice counts for outlines in `glyf` and
-    /// text along a horizontal line; else there are none. A licence may forbid glyphs that the font doesn't have.
+    /// its characters, and for a part of a ligature. Readers find such text better. They are made in horizontal text, with
+    /// outlines in `glyf` or, for a part of a ligature alone, `CFF `. A licence may forbid glyphs that the font doesn't have.
     #[must_use]
     pub fn own_glyphs(self, own_glyphs: bool) -> Self {
         Self { own_glyphs, ..self }

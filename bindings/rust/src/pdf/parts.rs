@@ -49,8 +49,8 @@ pub struct Part<'a> {
 }
 
 impl Part<'_> {
-    /// Packs a stream by a function, and says by which filter it is unpacked: the value of Filter, as `"/FlateDecode"`. Where
-    /// there is no stream, nothing happens.
+    /// Packs a stream by a function, and says by which filter it is unpacked: the value of Filter, as `"/FlateDecode"`, which isn't
+    /// checked. It is for a part that isn't packed yet. Where there is no stream, nothing happens.
     ///
     /// ```
     /// use subsetter::pdf::{pdf_font, FontOptions, Shown};

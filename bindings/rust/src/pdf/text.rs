@@ -77,8 +77,8 @@ pub struct Run {
 ///
 /// Readers of the PDF find the text, by copying and by searching, also those that don't know ActualText: each code says one
 /// character, and the characters of a cluster are shared among its glyphs. No glyph is further from where the shaper has it
-/// than half a thousandth of the em. A page can be written before the font is made, since codes stay. The font of TrueType
-/// outlines gets [own glyphs](TextOptions::own_glyphs), of marks with their letters and of parts of ligatures.
+/// than half a thousandth of the em. A page can be written before the font is made, since codes stay. The font gets
+/// [own glyphs](TextOptions::own_glyphs): of parts of ligatures, and with TrueType outlines of marks with their letters.
 ///
 /// ```
 /// use subsetter::pdf::{FontOptions, RunDirection, ShapedGlyph, Text, TextOptions};

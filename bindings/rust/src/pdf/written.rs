@@ -97,7 +97,7 @@ impl PdfFont {
     }
 
     /// A whole PDF file that shows glyphs in 36 points. `shown` are the entries that the font was made of, or the first of
-    /// them.
+    /// them (that isn't checked).
     ///
     /// ```
     /// use subsetter::pdf::{glyphs_of, pdf_font, FontOptions, Layout};

@@ -47,6 +47,9 @@ fn without_pdf<'a>(chosen: &Chosen<'_>) -> Option<Mistake<'a>>
     if chosen.is_held {
         return Some(mistake_in(Wrong::NoPdf, "--rights"));
     }
+    if chosen.switches.allow_blank {
+        return Some(mistake_in(Wrong::NoPdf, "--allow-blank"));
+    }
     None
 }
 

@@ -230,6 +230,7 @@ fn pdf_choice(chosen: &Chosen<'_>) -> PdfChoice
         vertical: chosen.switches.vertical,
         coding: chosen.coding,
         is_held: chosen.is_held,
+        allow_blank: chosen.switches.allow_blank,
     }
 }
 

@@ -26,6 +26,7 @@ pub struct Switches {
     pub verbose: bool,
     pub vertical: bool,
     pub strict: bool,
+    pub allow_blank: bool,
 }
 
 impl Switches {
@@ -41,6 +42,7 @@ impl Switches {
         verbose: false,
         vertical: false,
         strict: false,
+        allow_blank: false,
     };
 
     /// Whether an option was given.
@@ -58,6 +60,7 @@ impl Switches {
             Switch::Verbose => self.verbose,
             Switch::Vertical => self.vertical,
             Switch::Strict => self.strict,
+            Switch::AllowBlank => self.allow_blank,
         }
     }
 
@@ -77,6 +80,7 @@ impl Switches {
             Switch::Verbose => all.verbose = true,
             Switch::Vertical => all.vertical = true,
             Switch::Strict => all.strict = true,
+            Switch::AllowBlank => all.allow_blank = true,
         }
         all
     }
@@ -91,6 +95,8 @@ pub struct PdfChoice {
     pub coding: Option<Coding>,
     /// Whether the user holds the rights to embed the font, whatever it says.
     pub is_held: bool,
+    /// Whether it may show blanks of glyphs that have another picture than an outline.
+    pub allow_blank: bool,
 }
 
 /// What the options choose.

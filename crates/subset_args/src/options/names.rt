@@ -28,6 +28,8 @@ pub enum Switch {
     Vertical,
     /// `--strict`
     Strict,
+    /// `--allow-blank`
+    AllowBlank,
 }
 
 /// An option that a value follows.
@@ -102,8 +104,8 @@ pub enum Kind {
     Place,
 }
 
-/// The options with a name, in the order of the help.
-pub const OPTIONS: [&str; 29] = [
+/// The options with a name, in the order of the help; but `--at` is nearer than `--allow-blank`.
+pub const OPTIONS: [&str; 30] = [
     "--gids",
     "--gids-file",
     "--text",
@@ -119,6 +121,7 @@ pub const OPTIONS: [&str; 29] = [
     "--codes",
     "--rights",
     "--at",
+    "--allow-blank",
     "--no-hinting",
     "--no-names",
     "--no-glyph-names",
@@ -150,6 +153,7 @@ fn switch_of(word: &str) -> Option<Switch>
         "--verbose" => Some(Switch::Verbose),
         "--vertical" => Some(Switch::Vertical),
         "--strict" => Some(Switch::Strict),
+        "--allow-blank" => Some(Switch::AllowBlank),
         _ => None,
     }
 }

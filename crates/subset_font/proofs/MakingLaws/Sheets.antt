@@ -1,5 +1,5 @@
 -- The PDF that is made beside the font.
-use Rattle.std.proofs.Common.{◌≡◌, ◌⊎◌, inl, inr, ℕ, List, [], ◌++◌, append-nil, refl, sym, ap, subst}
+use Rattle.std.proofs.Common.{◌≡◌, ◌⊎◌, inl, inr, ℕ, List, [], ◌++◌, Some, append-nil, refl, sym, ap, subst}
 use Rattle.subsetter_base.specs.declared.error.Error.TheVariants.{OutOfMemory}
 use Rattle.subset_args.specs.declared.options.chosen.PdfChoice.{PdfChoice}
 use Rattle.subset_pdf.specs.Sheet.{HasSheetFault, IsSheetFor}
@@ -7,7 +7,7 @@ use Rattle.subset_pdf.specs.declared.options.PdfRequest.{PdfRequest}
 use Rattle.subset_pdf.specs.declared.sheet.Sheet.{Sheet}
 use Rattle.subset_pdf.specs.declared.sheet.SheetError.{SheetError}
 use Rattle.subset_pdf.specs.declared.sheet.SheetError.TheVariants.{Font}
-use Rattle.subset_font.specs.Making.Sheet.{failure_of, IsRequestOf, IsShown, IsUnshown}
+use Rattle.subset_font.specs.Making.Sheet.{failure_of, IsRequestOf, IsShown, IsUnshown, IsUnshownIf}
 use Rattle.subset_task.specs.declared.refusals.failure.Failure.TheVariants.{Error}
 use Rattle.subset_font.specs.declared.making.subset.Made.{Made}
 use Rattle.subset_task.specs.declared.task.Task.{Task}
@@ -30,9 +30,9 @@ module _ (choice : PdfChoice) (task : Task) (bytes : List ℕ) (made : Made) (re
   }
 
   -- a refusal under its name
-  pub unshown_by : (text lengths glyphs : List ℕ) (why : SheetError) → IsRequestOf task choice request → text ≡ made.picked.text.items → lengths ≡ made.picked.lengths.items → glyphs ≡ made.picked.glyphs.items → (why ≡ Font OutOfMemory) ⊎ HasSheetFault bytes request text lengths glyphs why → (failure_of why ≡ Error OutOfMemory) ⊎ IsUnshown choice task bytes made (failure_of why)
+  pub unshown_by : (text lengths glyphs : List ℕ) (why : SheetError) → IsRequestOf task choice request → text ≡ made.picked.text.items → lengths ≡ made.picked.lengths.items → glyphs ≡ made.picked.glyphs.items → (why ≡ Font OutOfMemory) ⊎ HasSheetFault bytes request text lengths glyphs why → (failure_of why ≡ Error OutOfMemory) ⊎ IsUnshownIf (Some choice) task bytes made (failure_of why)
   unshown_by text lengths glyphs why is t n g (inl memory) = inl (ap failure_of memory)
-  unshown_by text lengths glyphs why is t n g (inr fault) = inr (fault_of text lengths glyphs why is t n g fault)
+  unshown_by text lengths glyphs why is t n g (inr fault) = inr (inl (fault_of text lengths glyphs why is t n g fault))
 
 -- where nothing comes behind
 pub nothing_more : (text : List ℕ) → text ≡ text ++ []

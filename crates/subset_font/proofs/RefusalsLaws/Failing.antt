@@ -21,7 +21,7 @@ use Rattle.subset_font.specs.declared.making.subset.Made.{Made}
 use Rattle.subset_font.specs.declared.making.outcome.Outcome.{Outcome}
 use Rattle.subset_task.specs.declared.task.Plan.{Plan}
 use Rattle.subset_task.specs.declared.refusals.failure.Failure.{Failure}
-use Rattle.subset_task.specs.declared.refusals.failure.Failure.TheVariants.{Error, NoMapping, MissingCharacters, NoInstance, NotPermitted, Usage, List as WrongList, Read, ReadList, Write, WritePdf, Output, LongAnswer}
+use Rattle.subset_task.specs.declared.refusals.failure.Failure.TheVariants.{Error, NoMapping, MissingCharacters, BlankGlyphs, NoInstance, NotPermitted, Usage, List as WrongList, Read, ReadList, Write, WritePdf, Output, LongAnswer}
 
 no_kind : (kind : Option FontKind) (failure : Failure) → IsOfMaking failure → IsOfMaking (unless_no_kind kind failure)
 no_kind (Some kind) failure h = h
@@ -74,7 +74,8 @@ sheet_error_kind TextTooLong = tt
 
 unshown_if_kind : (choice : Option PdfChoice) (task : Task) (bytes : List ℕ) (made : Made) (failure : Failure) → IsUnshownIf choice task bytes made failure → IsOfMaking failure
 unshown_if_kind None task bytes made failure u = elim u [ ]
-unshown_if_kind (Some choice) task bytes made failure u = subst IsOfMaking (sym u.failure_is) (sheet_error_kind u.why)
+unshown_if_kind (Some choice) task bytes made failure (inl u) = subst IsOfMaking (sym u.failure_is) (sheet_error_kind u.why)
+unshown_if_kind (Some choice) task bytes made failure (inr u) = subst IsOfMaking (sym u.0) tt
 
 no_outcome_kind : (plan : Plan) (bytes : List ℕ) (failure : Failure) → IsNoOutcome plan bytes failure → IsOfMaking failure
 no_outcome_kind plan bytes failure (inl memory) = subst IsOfMaking (sym memory) tt
@@ -102,6 +103,7 @@ making_before (Error e) h = tt
 making_before NoMapping h = tt
 making_before NoInstance h = tt
 making_before MissingCharacters h = tt
+making_before BlankGlyphs h = tt
 making_before (NotPermitted permission) h = tt
 making_before Usage h = elim h [ ]
 making_before (WrongList place) h = elim h [ ]
@@ -141,6 +143,7 @@ IsElse (Error e) = Unit {0}
 IsElse NoMapping = Unit {0}
 IsElse NoInstance = Unit {0}
 IsElse MissingCharacters = Unit {0}
+IsElse BlankGlyphs = Unit {0}
 IsElse (NotPermitted permission) = Unit {0}
 IsElse Usage = ⊥
 IsElse (WrongList place) = Unit {0}
@@ -156,6 +159,7 @@ making_else (Error e) h = tt
 making_else NoMapping h = tt
 making_else NoInstance h = tt
 making_else MissingCharacters h = tt
+making_else BlankGlyphs h = tt
 making_else (NotPermitted permission) h = tt
 making_else Usage h = elim h [ ]
 making_else (WrongList place) h = tt

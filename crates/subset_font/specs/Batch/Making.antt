@@ -16,7 +16,7 @@ use Rattle.subset_task.specs.Batch.Answers.{IsFailedWith}
 use Rattle.subset_task.specs.declared.task.Plan.{Plan}
 use Rattle.subset_font.specs.declared.making.outcome.Outcome.{Outcome}
 use Rattle.subset_task.specs.declared.refusals.failure.Failure.{Failure}
-use Rattle.subset_task.specs.declared.refusals.failure.Failure.TheVariants.{Error, NoMapping, MissingCharacters, NoInstance, NotPermitted, Usage, List as WrongList, Read, ReadList, Write, WritePdf, Output, LongAnswer}
+use Rattle.subset_task.specs.declared.refusals.failure.Failure.TheVariants.{Error, NoMapping, MissingCharacters, BlankGlyphs, NoInstance, NotPermitted, Usage, List as WrongList, Read, ReadList, Write, WritePdf, Output, LongAnswer}
 use Rattle.subset_task.specs.declared.batch.answers.Answer.{Answer}
 use Rattle.subset_task.specs.declared.batch.answers.Answer.TheVariants.{Done, Failed, NoMemory}
 
@@ -55,6 +55,7 @@ message_of (Error e) job = failure_text (Error e)
 message_of NoMapping job = failure_text NoMapping
 message_of NoInstance job = failure_text NoInstance
 message_of MissingCharacters job = failure_text MissingCharacters
+message_of BlankGlyphs job = failure_text BlankGlyphs
 message_of (NotPermitted permission) job = failure_text (NotPermitted permission)
 message_of Usage job = failure_text Usage
 message_of (WrongList place) job = named_text (codes "no list of glyphs in") (file_at job.glyphs.items place)

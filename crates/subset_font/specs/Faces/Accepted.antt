@@ -18,7 +18,7 @@ use Rattle.subset_task.specs.declared.task.RequestedGlyphs.TheVariants.{These, E
 use Rattle.subset_task.specs.declared.task.Task.{Task}
 use Rattle.subset_font.specs.declared.making.subset.Made.{Made}
 use Rattle.subset_task.specs.declared.refusals.failure.Failure.{Failure}
-use Rattle.subset_task.specs.declared.refusals.failure.Failure.TheVariants.{Error, NoMapping, MissingCharacters, NoInstance, NotPermitted, Usage, List as WrongList, Read, ReadList, Write, WritePdf, Output, LongAnswer}
+use Rattle.subset_task.specs.declared.refusals.failure.Failure.TheVariants.{Error, NoMapping, MissingCharacters, BlankGlyphs, NoInstance, NotPermitted, Usage, List as WrongList, Read, ReadList, Write, WritePdf, Output, LongAnswer}
 
 -- its task: the font as it is given, with all extras, within limits, and without widths
 abbrev pub IsPlain : ℕ → Limits → RequestedGlyphs → Task → Type 0
@@ -72,6 +72,7 @@ is_of_memory (Error e) = is_memory_error e
 is_of_memory NoMapping = false
 is_of_memory NoInstance = false
 is_of_memory MissingCharacters = false
+is_of_memory BlankGlyphs = false
 is_of_memory (NotPermitted permission) = false
 is_of_memory Usage = false
 is_of_memory (WrongList place) = false

@@ -1,10 +1,14 @@
 -- What a face is, and what is written of it.
-use Rattle.std.specs.Prelude.{◌≡◌, ◌≢◌, ℕ, Bool, true, false, List, length, Option, None, is_some, codes}
+use Rattle.std.specs.Prelude.{◌≡◌, ◌≢◌, ℕ, nat_lt, Bool, true, false, List, [], filter, length, Option, None, is_some, codes, Result, Ok, Err}
 use Rattle.std.specs.Io.KnownBytes.{Appends}
 use Rattle.std.specs.Option.{option_and_then, option_copied, unwrap_or}
 use Rattle.subsetter_base.specs.Bytes.{number}
+use Rattle.subsetter_base.specs.declared.error.Error.{Error as Refusal}
 use Rattle.subsetter_base.specs.declared.error.Error.TheVariants.{UnknownKind}
 use Rattle.subsetter_sfnt.specs.Read.{Font, header_offset, records, stored}
+use Rattle.glyph_kinds.specs.Counts.{kind_counts}
+use Rattle.glyph_kinds.specs.Kinds.{kinds_of}
+use Rattle.subset_args.specs.Listing.Lists.{counting}
 use Rattle.subset_lines.specs.Faces.Info.{info_lines, info_json}
 use Rattle.subset_lines.specs.declared.faces.info.face.Info.{Info}
 use Rattle.subset_font.specs.Faces.Accepted.{IsAnswer}
@@ -20,6 +24,18 @@ use Rattle.subset_task.specs.declared.refusals.failure.Failure.TheVariants.{Erro
 abbrev pub permission_of : Font → Option ℕ
 permission_of font = option_and_then (λ table. number table 8 2) (stored font (codes "OS/2"))
 
+-- the kinds of pictures of glyphs; none where the directory can't be read
+abbrev pub kinds_or_none : Result (List ℕ) Refusal → List ℕ
+kinds_or_none (Ok kinds) = kinds
+kinds_or_none (Err e) = []
+
+abbrev pub known_kinds : Font → List ℕ → List ℕ
+known_kinds font glyphs = kinds_or_none (kinds_of font glyphs)
+
+-- each kind that glyphs have, with how many have it
+abbrev pub pictures_of : Font → List (ℕ × ℕ)
+pictures_of font = filter (λ k. nat_lt 0 k.1) (kind_counts (known_kinds font (counting 0 (unwrap_or (face_glyphs font) 0))))
+
 -- what a face is
 pub record IsInfo (font : Font) (info : Info) : Type 0 where
   pub outlines_are : info.outlines ≡ outlines_of font
@@ -27,6 +43,7 @@ pub record IsInfo (font : Font) (info : Info) : Type 0 where
   -- a file that isn't a collection has one face
   pub faces_are : info.faces ≡ unwrap_or (face_count font.bytes) 1
   pub glyphs_are : info.glyphs ≡ face_glyphs font
+  pub pictures_are : info.pictures.now ≡ pictures_of font
   pub bytes_are : info.bytes ≡ length font.bytes
   pub is_permitted : info.permission ≡ permission_of font
   pub is_answered : IsAnswer font (option_copied info.refusal) (option_copied info.reason)

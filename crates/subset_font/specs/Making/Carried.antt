@@ -7,7 +7,7 @@ use Rattle.subset_font.specs.Report.{report_of}
 use Rattle.subset_task.specs.declared.task.Plan.{Plan}
 use Rattle.subset_font.specs.declared.making.outcome.Outcome.{Outcome}
 use Rattle.subset_task.specs.declared.refusals.failure.Failure.{Failure}
-use Rattle.subset_task.specs.declared.refusals.failure.Failure.TheVariants.{Error, NoMapping, MissingCharacters, NoInstance, NotPermitted, Usage, List as WrongList, Read, ReadList, Write, WritePdf, Output, LongAnswer}
+use Rattle.subset_task.specs.declared.refusals.failure.Failure.TheVariants.{Error, NoMapping, MissingCharacters, BlankGlyphs, NoInstance, NotPermitted, Usage, List as WrongList, Read, ReadList, Write, WritePdf, Output, LongAnswer}
 
 -- a font was written: what the plan makes of the bytes that were read, where these are known
 pub record WritesFont (plan : Plan) (source old new : Option (List ℕ)) : Type 0 where
@@ -29,6 +29,7 @@ IsOfMaking (Error e) = Unit {0}
 IsOfMaking NoMapping = Unit {0}
 IsOfMaking NoInstance = Unit {0}
 IsOfMaking MissingCharacters = Unit {0}
+IsOfMaking BlankGlyphs = Unit {0}
 IsOfMaking (NotPermitted permission) = Unit {0}
 IsOfMaking Usage = ⊥
 IsOfMaking (WrongList place) = ⊥
@@ -49,6 +50,7 @@ IsBeforeWriting (Error e) = Unit {0}
 IsBeforeWriting NoMapping = Unit {0}
 IsBeforeWriting NoInstance = Unit {0}
 IsBeforeWriting MissingCharacters = Unit {0}
+IsBeforeWriting BlankGlyphs = Unit {0}
 IsBeforeWriting (NotPermitted permission) = Unit {0}
 IsBeforeWriting Usage = Unit {0}
 IsBeforeWriting (WrongList place) = Unit {0}

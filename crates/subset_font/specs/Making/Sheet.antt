@@ -1,8 +1,10 @@
 -- The PDF that is made beside the font, and why there is none.
-use Rattle.std.specs.Prelude.{◌≡◌, ℕ, ℤ, List, [], ◌∷◌, length, Option, Some, None, unwrap_or, IsSome, IfSome}
+use Rattle.std.specs.Prelude.{◌≡◌, ◌⊎◌, ℕ, ℤ, nat_lt, not, ◌&&◌, Bool, true, false, List, [], ◌∷◌, length, Option, Some, None, unwrap_or, IsSome, IfSome, Result, Ok, Err}
 use Rattle.std.specs.Option.{option_copied}
 use Rattle.subsetter_base.specs.declared.tag.Tag.{Tag}
+use Rattle.subsetter_base.specs.declared.error.Error.{Error as Refusal}
 use Rattle.subsetter_base.specs.declared.error.Error.TheVariants.{OverflowError}
+use Rattle.glyph_kinds.specs.Kinds.{unseen_glyphs}
 use Rattle.subset_args.specs.declared.options.chosen.PdfChoice.{PdfChoice}
 use Rattle.subset_lines.specs.Objects.Pdf.{pdf_member}
 use Rattle.pdf_sheet.specs.declared.frame.Layout.{Layout}
@@ -13,7 +15,8 @@ use Rattle.subset_pdf.specs.declared.sheet.Sheet.{Sheet}
 use Rattle.subset_pdf.specs.declared.sheet.SheetError.{SheetError}
 use Rattle.subset_pdf.specs.declared.sheet.SheetError.TheVariants.{Font, NotPermitted as Forbidden, TextTooLong}
 use Rattle.subset_task.specs.declared.refusals.failure.Failure.{Failure}
-use Rattle.subset_task.specs.declared.refusals.failure.Failure.TheVariants.{Error, NotPermitted}
+use Rattle.subset_task.specs.declared.refusals.failure.Failure.TheVariants.{Error, NotPermitted, BlankGlyphs}
+use Rattle.subset_font.specs.Making.Made.{face_of}
 use Rattle.subset_font.specs.declared.making.subset.Made.{Made}
 use Rattle.subset_task.specs.declared.task.RequestedGlyphs.{RequestedGlyphs}
 use Rattle.subset_task.specs.declared.task.RequestedGlyphs.TheVariants.{These, Every, ByText, ByCharacters}
@@ -49,9 +52,18 @@ pub record IsShown (choice : PdfChoice) (task : Task) (bytes : List ℕ) (made :
   pub is_requested : IsRequestOf task choice request
   pub is_sheet : IsSheetFor bytes request made.picked.text.items made.picked.lengths.items made.picked.glyphs.items sheet
 
+-- whether the font has another picture of a glyph, whose outline is empty
+abbrev pub is_any_unseen : Result (List ℕ) Refusal → Bool
+is_any_unseen (Ok glyphs) = nat_lt 0 (length glyphs)
+is_any_unseen (Err e) = false
+
+-- a PDF would show a blank of it, and may show none
+abbrev pub is_blank : PdfChoice → Task → List ℕ → Made → Bool
+is_blank choice task bytes made = not choice.allow_blank && is_any_unseen (unseen_glyphs (face_of task bytes) made.picked.glyphs.items)
+
 abbrev pub IsSheetIf : Option PdfChoice → Task → List ℕ → Made → Option Sheet → Type 0
 IsSheetIf None task bytes made sheet = sheet ≡ None
-IsSheetIf (Some choice) task bytes made sheet = IsSome sheet × IfSome sheet (IsShown choice task bytes made)
+IsSheetIf (Some choice) task bytes made sheet = IsSome sheet × IfSome sheet (IsShown choice task bytes made) × (is_blank choice task bytes made ≡ false)
 
 -- ---- why there is none
 
@@ -69,7 +81,7 @@ pub record IsUnshown (choice : PdfChoice) (task : Task) (bytes : List ℕ) (made
 
 abbrev pub IsUnshownIf : Option PdfChoice → Task → List ℕ → Made → Failure → Type 0
 IsUnshownIf None task bytes made failure = ⊥
-IsUnshownIf (Some choice) task bytes made failure = IsUnshown choice task bytes made failure
+IsUnshownIf (Some choice) task bytes made failure = IsUnshown choice task bytes made failure ⊎ ((failure ≡ BlankGlyphs) × (is_blank choice task bytes made ≡ true))
 
 -- ---- what is written and printed of it
 

@@ -21,7 +21,7 @@ use Rattle.subset_task.specs.declared.task.Task.{Task}
 use Rattle.pdf_values.specs.Permission.{is_usable}
 use Rattle.pdf_values.specs.declared.permission.Permission.{Permission}
 use Rattle.subset_task.specs.declared.refusals.failure.Failure.{Failure}
-use Rattle.subset_task.specs.declared.refusals.failure.Failure.TheVariants.{Error, NoMapping, MissingCharacters, NoInstance, NotPermitted, Usage, List as WrongList, Read, ReadList, Write, WritePdf, Output, LongAnswer}
+use Rattle.subset_task.specs.declared.refusals.failure.Failure.TheVariants.{Error, NoMapping, MissingCharacters, BlankGlyphs, NoInstance, NotPermitted, Usage, List as WrongList, Read, ReadList, Write, WritePdf, Output, LongAnswer}
 use Rattle.subset_task.specs.declared.refusals.hint.text.Hint.{Hint}
 use Rattle.subset_task.specs.declared.refusals.hint.text.Hint.TheVariants.{Font, Cff2, NoUnicode, WrongAxes, NoAxes, Forbidden}
 
@@ -113,6 +113,7 @@ axes_hint (Error e) bytes index = axes_hint_of_error e bytes index
 axes_hint NoMapping bytes index = None
 axes_hint NoInstance bytes index = None
 axes_hint MissingCharacters bytes index = None
+axes_hint BlankGlyphs bytes index = None
 axes_hint (NotPermitted permission) bytes index = None
 axes_hint Usage bytes index = None
 axes_hint (WrongList place) bytes index = None
@@ -133,6 +134,7 @@ hint_of (Error e) task bytes = hint_of_error e task bytes
 hint_of NoMapping task bytes = hint_of_mapping (face_of task bytes)
 hint_of NoInstance task bytes = None
 hint_of MissingCharacters task bytes = None
+hint_of BlankGlyphs task bytes = None
 hint_of (NotPermitted permission) task bytes = Some (Forbidden (forbidden_bit permission))
 hint_of Usage task bytes = None
 hint_of (WrongList place) task bytes = None

@@ -1,12 +1,13 @@
 //! The PDF that is made beside the font.
 
-ghost use Rattle.std.specs.Prelude.{◌≡◌, ◌⊎◌, ◌++◌, IfOk, IfErr};
+ghost use Rattle.std.specs.Prelude.{◌≡◌, ◌⊎◌, ◌++◌, IfOk, IfErr, Some};
 ghost use Rattle.std.specs.Option.{option_copied};
-ghost use Rattle.subset_font.specs.Making.Sheet.{layout_by, layout_of, settings_of, pdf_text, pdf_text_of, IsRequestOf, IsShown, IsUnshown, IsSheetIf, IsUnshownIf};
+ghost use Rattle.subset_font.specs.Making.Sheet.{layout_by, layout_of, settings_of, is_blank, pdf_text, pdf_text_of, IsRequestOf, IsShown, IsSheetIf, IsUnshownIf};
 ghost use Rattle.subset_task.specs.declared.refusals.failure.Failure.TheVariants.{Error as Refused};
 ghost use Rattle.subsetter_base.specs.declared.error.Error.TheVariants.{OutOfMemory};
 
 use crate::making::subset::Made;
+use glyph_kinds::unseen_glyphs;
 use std::alloc::{AllocError, Global};
 use subset_args::PdfChoice;
 use subset_lines::json_pdf;
@@ -70,7 +71,7 @@ fn make_shown(
     made: &Made,
 ) -> Result<Sheet, Failure>
     ensures ok { IfOk result (IsShown choice task.now font.now made.now) }
-    ensures err { IfErr result (λ e. (e ≡ Refused OutOfMemory) ⊎ IsUnshown choice task.now font.now made.now e) }
+    ensures err { IfErr result (λ e. (e ≡ Refused OutOfMemory) ⊎ IsUnshownIf (Some choice) task.now font.now made.now e) }
 {
     let request = request_of(task, choice);
     let picked = &made.picked;
@@ -89,6 +90,46 @@ fn make_shown(
     }
 }
 
+/// Whether the PDF shows a blank of a glyph that has another picture, and may show none.
+fn is_blank(
+    alloc: Global,
+    font: &[u8],
+    choice: PdfChoice,
+    task: &Task<'_>,
+    made: &Made,
+) -> Result<bool, AllocError>
+    ensures { IfOk result (λ b. b ≡ is_blank choice task.now font.now made.now) }
+{
+    if choice.allow_blank {
+        return Ok(false);
+    }
+    match unseen_glyphs(alloc, font, task.index, &made.picked.glyphs) {
+        Ok(unseen) => Ok(unseen.len() > 0),
+        Err(Error::OutOfMemory) => Err(AllocError),
+        Err(_) => Ok(false),
+    }
+}
+
+/// The PDF, unless it shows a blank and may show none.
+fn unless_blank(
+    alloc: Global,
+    font: &[u8],
+    choice: PdfChoice,
+    task: &Task<'_>,
+    made: &Made,
+    sheet: Sheet,
+) -> Result<Option<Sheet>, Failure>
+    requires { IsShown choice task.now font.now made.now sheet }
+    ensures ok { IfOk result (IsSheetIf (Some choice) task.now font.now made.now) }
+    ensures err { IfErr result (λ e. (e ≡ Refused OutOfMemory) ⊎ IsUnshownIf (Some choice) task.now font.now made.now e) }
+{
+    match is_blank(alloc, font, choice, task, made) {
+        Ok(false) => Ok(Some(sheet)),
+        Ok(true) => Err(Failure::BlankGlyphs),
+        Err(_) => Err(Failure::Error(Error::OutOfMemory)),
+    }
+}
+
 /// The PDF of what a task made, if one is requested.
 pub fn sheet_if(
     alloc: Global,
@@ -102,7 +143,7 @@ pub fn sheet_if(
 {
     match choice {
         Some(choice) => match make_shown(alloc, font, choice, task, made) {
-            Ok(sheet) => Ok(Some(sheet)),
+            Ok(sheet) => unless_blank(alloc, font, choice, task, made, sheet),
             Err(failure) => Err(failure),
         },
         None => Ok(None),

@@ -7,6 +7,8 @@ ghost use Rattle.subset_font.specs.Report.{has_notes};
 use crate::making::outcome::{other_face, takes_default};
 use crate::refusals::hint::found::{find_axes_hint, find_hint, no_axes};
 use crate::refusals::limit_hint::find_limit_hint;
+use crate::refusals::second_look::{call_of, look_again};
+use glyph_kinds::unseen_glyphs;
 use std::alloc::{AllocError, Global};
 use std::io;
 use subset_args::{
@@ -16,7 +18,7 @@ use subset_args::{
 use subset_lines::note_lines;
 use subset_task::faces::missing::first_missing;
 use subset_task::faces::named::instance_names;
-use subset_task::making::requested::pick;
+use subset_task::making::requested::{Picked, pick};
 use subset_task::notes::{known_axes, notes_for};
 use subset_task::refusals::failure::{Failure, Report, file_of, status_of_run};
 use subset_task::refusals::hint::text::Hint;
@@ -121,13 +123,18 @@ fn has_notes(form: Form, is_font_there: bool) -> bool
     }
 }
 
-/// The characters that a face lacks of those that are requested; none where no glyphs are found.
-fn missing_in(alloc: Global, font: &[u8], task: &Task<'_>) -> Vec<char> {
+/// The glyphs that are requested, whichever characters the face lacks.
+fn picked_in(alloc: Global, font: &[u8], task: &Task<'_>) -> Result<Picked, Failure> {
     let asked = Requests {
         pieces: task.requested.pieces,
         is_strict: false,
     };
-    match pick(alloc, font, task.index, &asked) {
+    pick(alloc, font, task.index, &asked)
+}
+
+/// The characters that a face lacks of those that are requested; none where no glyphs are found.
+fn missing_in(alloc: Global, font: &[u8], task: &Task<'_>) -> Vec<char> {
+    match picked_in(alloc, font, task) {
         Ok(picked) => picked.missing,
         Err(_) => Vec::new(alloc),
     }
@@ -167,35 +174,42 @@ fn report_names<R: Eprint + AllocGlobal>(rt: &R, font: &[u8], index: u32) {
     }
 }
 
-/// How many characters the line of those without a glyph names.
+/// How many characters without a glyph, or glyphs without an outline, a line names.
 const MOST_NAMED: usize = 20;
 
-/// Adds a character behind a text.
-fn push_named(
-    alloc: Global,
-    text: &mut String,
-    before: &str,
-    character: char,
-) -> Result<(), AllocError> {
-    let code = u32::from(character);
-    let name = format!(in alloc; "{before}U+{code:04X}")?;
-    text.push_str(&name)
+/// The names of characters.
+fn names_of(alloc: Global, characters: &[char]) -> Result<Vec<String>, AllocError> {
+    let mut names = Vec::new(alloc);
+    for character in characters {
+        let code = u32::from(*character);
+        names.push(format!(in alloc; "U+{code:04X}")?)?;
+    }
+    Ok(names)
 }
 
-/// The line of characters without a glyph, which ascend: the first twenty, each once, and how many more there are.
-fn missing_text(alloc: Global, characters: &[char]) -> Result<String, AllocError> {
-    let mut text = String::from_str(alloc, "no glyph for ")?;
-    let mut last = None;
+/// The numbers of glyphs.
+fn numbers_of(alloc: Global, glyphs: &[u16]) -> Result<Vec<String>, AllocError> {
+    let mut names = Vec::new(alloc);
+    for glyph in glyphs {
+        names.push(format!(in alloc; "{glyph}")?)?;
+    }
+    Ok(names)
+}
+
+/// The line of names, equal ones side by side, behind a text: the first twenty, each once, and how many more there are.
+fn lacking_text(alloc: Global, front: &str, names: &[String]) -> Result<String, AllocError> {
+    let mut text = String::from_str(alloc, front)?;
+    let mut last = "";
     let mut count = 0usize;
-    for character in characters {
-        if last == Some(*character) {
+    for name in names {
+        if last == name.as_str() {
             continue;
         }
         if count < MOST_NAMED {
-            let before = if count == 0 { "" } else { ", " };
-            push_named(alloc, &mut text, before, *character)?;
+            text.push_str(if count == 0 { "" } else { ", " })?;
+            text.push_str(name)?;
         }
-        last = Some(*character);
+        last = name.as_str();
         count = count.saturating_add(1);
     }
     if count > MOST_NAMED {
@@ -205,12 +219,33 @@ fn missing_text(alloc: Global, characters: &[char]) -> Result<String, AllocError
     Ok(text)
 }
 
+/// Reports the line of names behind a text.
+fn report_lacking<R: Eprint + AllocGlobal>(rt: &R, front: &str, names: &[String]) {
+    if let Ok(text) = lacking_text(rt.alloc(), front, names) {
+        let _ = eprintln!(rt; "{text}");
+    }
+}
+
 /// Reports the characters without a glyph, where there may be none. They are passed over where memory runs out.
 fn report_missing<R: Eprint + AllocGlobal>(rt: &R, font: &[u8], task: &Task<'_>) {
     let mut characters = missing_in(rt.alloc(), font, task);
     characters.sort_unstable();
-    if let Ok(text) = missing_text(rt.alloc(), &characters) {
-        let _ = eprintln!(rt; "{text}");
+    if let Ok(names) = names_of(rt.alloc(), &characters) {
+        report_lacking(rt, "no glyph for ", &names);
+    }
+}
+
+/// Reports the glyphs of which a PDF would show blanks, where it may show none. They are passed over where memory runs out.
+fn report_blank<R: Eprint + AllocGlobal>(rt: &R, font: &[u8], task: &Task<'_>) {
+    let Ok(picked) = picked_in(rt.alloc(), font, task) else {
+        return;
+    };
+    let Ok(mut glyphs) = unseen_glyphs(rt.alloc(), font, task.index, &picked.glyphs) else {
+        return;
+    };
+    glyphs.sort_unstable();
+    if let Ok(names) = numbers_of(rt.alloc(), &glyphs) {
+        report_lacking(rt, "no outline for ", &names);
     }
 }
 
@@ -236,15 +271,36 @@ fn task_for_hint<'a>(font: &[u8], plan: &Plan<'a>) -> Task<'a> {
     }
 }
 
+/// What a second look at the glyphs of a plan shows of a font that is refused.
+fn second_look(alloc: Global, failure: &Failure, font: &[u8], plan: &Plan<'_>) -> Option<Hint> {
+    let task = task_for_hint(font, plan);
+    match (failure, picked_in(alloc, font, &task)) {
+        (Failure::Error(error), Ok(picked)) => {
+            let call = call_of(plan.pdf.is_some(), task.at.is_some(), task.widths);
+            look_again(alloc, call, *error, font, &task, &picked.glyphs)
+        }
+        _ => None,
+    }
+}
+
+/// What more is known of a font that is refused: by its tables, by the limits, or else by a second look.
+fn hint_for(alloc: Global, failure: &Failure, font: &[u8], plan: &Plan<'_>) -> Option<Hint> {
+    if let Some(hint) = find_hint(failure, font, &task_for_hint(font, plan)) {
+        return Some(hint);
+    }
+    match find_limit_hint(alloc, failure, font, plan) {
+        Some(hint) => Some(hint),
+        None => second_look(alloc, failure, font, plan),
+    }
+}
+
 /// Reports more of a run that failed, as far as it can be seen in the font.
 fn report_more<R: Eprint + AllocGlobal>(rt: &R, failure: &Failure, font: &[u8], plan: &Plan<'_>) {
-    match find_hint(failure, font, &task_for_hint(font, plan)) {
-        Some(hint) => report_hint(rt, Some(hint)),
-        None => report_hint(rt, find_limit_hint(rt.alloc(), failure, font, plan)),
-    }
+    report_hint(rt, hint_for(rt.alloc(), failure, font, plan));
     match failure {
         Failure::NoInstance => report_names(rt, font, plan.task.index),
         Failure::MissingCharacters => report_missing(rt, font, &plan.task),
+        Failure::BlankGlyphs => report_blank(rt, font, &plan.task),
         _ => {}
     }
 }

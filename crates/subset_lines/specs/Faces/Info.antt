@@ -4,6 +4,7 @@ use Rattle.std.specs.Option.{option_copied}
 use Rattle.subsetter_base.specs.declared.tag.Tag.{Tag}
 use Rattle.subset_lines.specs.Faces.Axes.{shown}
 use Rattle.subset_lines.specs.Faces.Outlines.{outlines_line, outlines_members}
+use Rattle.subset_lines.specs.Faces.Pictures.{pictures_line, pictures_member}
 use Rattle.subset_lines.specs.Objects.Json.{number_or_null}
 use Rattle.subset_lines.specs.Objects.Quoted.{quoted}
 use Rattle.subset_lines.specs.declared.faces.info.face.Info.{Info}
@@ -71,7 +72,7 @@ table_lines [] = []
 table_lines (t ∷ tables) = table_line t.0 t.1 ++ table_lines tables
 
 abbrev pub head_lines : Info → List (List ℕ) → List ℕ
-head_lines info words = outlines_line info.outlines info.is_variable ++ counts_lines info.faces info.bytes ++ glyphs_line info.glyphs ++ permission_lines words ++ refusal_lines (option_copied info.refusal) (option_copied info.reason)
+head_lines info words = outlines_line info.outlines info.is_variable ++ counts_lines info.faces info.bytes ++ glyphs_line info.glyphs ++ pictures_line info.pictures.now ++ permission_lines words ++ refusal_lines (option_copied info.refusal) (option_copied info.reason)
 
 abbrev pub info_lines : Info → List ℕ
 info_lines info = head_lines info (permission_words info.permission) ++ table_lines info.tables.now
@@ -104,7 +105,7 @@ abbrev pub tables_member : List (Tag × ℕ) → List ℕ
 tables_member tables = codes ",\"tables\":[" ++ table_objects [] tables ++ codes "]}\n"
 
 abbrev pub info_members : Info → List (List ℕ) → List ℕ
-info_members info words = outlines_members info.outlines info.is_variable ++ counts_members info ++ refusal_members info words ++ tables_member info.tables.now
+info_members info words = outlines_members info.outlines info.is_variable ++ counts_members info ++ pictures_member info.pictures.now ++ refusal_members info words ++ tables_member info.tables.now
 
 abbrev pub info_json : Info → List ℕ
 info_json info = info_members info (permission_words info.permission)

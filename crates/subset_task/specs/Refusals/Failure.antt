@@ -1,7 +1,7 @@
 -- How a run of the program ends that has no subset.
 use Rattle.std.specs.Prelude.{ℕ, Result, Ok, Err}
 use Rattle.subset_task.specs.declared.refusals.failure.Failure.{Failure}
-use Rattle.subset_task.specs.declared.refusals.failure.Failure.TheVariants.{Error, NoMapping, MissingCharacters, NoInstance, NotPermitted, Usage, List, Read, ReadList, Write, WritePdf, Output, LongAnswer}
+use Rattle.subset_task.specs.declared.refusals.failure.Failure.TheVariants.{Error, NoMapping, MissingCharacters, BlankGlyphs, NoInstance, NotPermitted, Usage, List, Read, ReadList, Write, WritePdf, Output, LongAnswer}
 
 -- 1 for a refusal, 2 for wrong arguments, 3 for a file that failed
 abbrev pub status_of : Failure → ℕ
@@ -9,6 +9,7 @@ status_of (Error e) = 1
 status_of NoMapping = 1
 status_of NoInstance = 1
 status_of MissingCharacters = 1
+status_of BlankGlyphs = 1
 status_of (NotPermitted permission) = 1
 status_of Usage = 2
 status_of (List place) = 2

@@ -3,7 +3,7 @@ use Rattle.std.specs.Prelude.{ℕ, ◌==◌, if◌then◌else◌, List, ◌++◌
 use Rattle.subsetter_base.specs.Texts.{error_text}
 use Rattle.font_reasons.specs.Texts.{reason_text}
 use Rattle.subset_task.specs.declared.refusals.failure.Failure.{Failure}
-use Rattle.subset_task.specs.declared.refusals.failure.Failure.TheVariants.{Error, NoMapping, MissingCharacters, NoInstance, NotPermitted, Usage, List as WrongList, Read, ReadList, Write, WritePdf, Output, LongAnswer}
+use Rattle.subset_task.specs.declared.refusals.failure.Failure.TheVariants.{Error, NoMapping, MissingCharacters, BlankGlyphs, NoInstance, NotPermitted, Usage, List as WrongList, Read, ReadList, Write, WritePdf, Output, LongAnswer}
 use Rattle.subset_task.specs.declared.refusals.hint.text.Hint.{Hint}
 use Rattle.subset_task.specs.declared.refusals.hint.text.Hint.TheVariants.{Font, Cff2, NoUnicode, WrongAxes, NoAxes, MoreBytes, LittleLimits, GivenLimits, Forbidden}
 
@@ -12,6 +12,7 @@ failure_text (Error e) = error_text e
 failure_text NoMapping = codes "no Unicode cmap in font"
 failure_text NoInstance = codes "no such instance in font"
 failure_text MissingCharacters = codes "characters without a glyph"
+failure_text BlankGlyphs = codes "glyphs without an outline"
 failure_text (NotPermitted permission) = codes "embedding not permitted"
 failure_text Usage = codes "usage: subset_font IN OUT INDEX GID[,GID..]"
 failure_text (WrongList place) = codes "usage: subset_font IN OUT INDEX GID[,GID..]"

@@ -96,12 +96,13 @@ metrics_as u ms is = record { units = u; metrics = ms; inked = is }
 pub kept_as : (m : Metrics) (u : ℕ) (ms : List GlyphMetrics) (is : List Bool) → u ≡ m.units → ms ≡ m.metrics → is ≡ m.inked → metrics_as u ms is ≡ m
 kept_as m u ms is p q r = ap (λ (n : ℕ). metrics_as n ms is) p ∙ ap (λ (l : List GlyphMetrics). metrics_as m.units l is) q ∙ ap (λ (l : List Bool). metrics_as m.units m.metrics l) r
 
-abbrev pub chosen_as : Metrics → List ℕ → List Bool → ℕ → Chosen
-chosen_as m ws ps n = record { lines = m; advances = ws; can_be_part = ps; most_parts = n }
+abbrev pub chosen_as : Metrics → List ℕ → List Bool → ℕ → Bool → Chosen
+chosen_as m ws ps n b = record { lines = m; advances = ws; can_be_part = ps; most_parts = n; is_still = b }
 
-pub all_as : (c : Chosen) (m : Metrics) (ws : List ℕ) (ps : List Bool) (n : ℕ) → m ≡ c.lines → ws ≡ c.advances → ps ≡ c.can_be_part → n ≡ c.most_parts → chosen_as m ws ps n ≡ c
-all_as c m ws ps n p q r s =
-    ap (λ (x : Metrics). chosen_as x ws ps n) p ∙ ap (λ (x : List ℕ). chosen_as c.lines x ps n) q ∙ ap (λ (x : List Bool). chosen_as c.lines c.advances x n) r ∙ ap (λ (x : ℕ). chosen_as c.lines c.advances c.can_be_part x) s
+pub all_as : (c : Chosen) (m : Metrics) (ws : List ℕ) (ps : List Bool) (n : ℕ) (b : Bool) → m ≡ c.lines → ws ≡ c.advances → ps ≡ c.can_be_part → n ≡ c.most_parts → b ≡ c.is_still → chosen_as m ws ps n b ≡ c
+all_as c m ws ps n b p q r s t =
+    ap (λ (x : Metrics). chosen_as x ws ps n b) p ∙ ap (λ (x : List ℕ). chosen_as c.lines x ps n b) q ∙ ap (λ (x : List Bool). chosen_as c.lines c.advances x n b) r ∙ ap (λ (x : ℕ). chosen_as c.lines c.advances c.can_be_part x b) s
+    ∙ ap (λ (x : Bool). chosen_as c.lines c.advances c.can_be_part c.most_parts x) t
 
 -- where there are no metrics, there is nothing to be kept
 abbrev plain_of : Result Metrics Error → Result Chosen Error

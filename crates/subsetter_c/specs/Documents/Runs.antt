@@ -1,5 +1,5 @@
 -- How runs of text are handed to C: by operators, the pairs and own glyphs that the text then has, and a status.
-use Rattle.std.specs.Prelude.{◌≡◌, ◌<◌, ℕ, ◌==◌, ◌&&◌, ◌||◌, nat_lt, Bool, false, if◌then◌else◌, List, [], map}
+use Rattle.std.specs.Prelude.{◌≡◌, ◌<◌, ℕ, ◌==◌, ◌&&◌, ◌||◌, not, nat_lt, Bool, if◌then◌else◌, List, [], map}
 use Rattle.pdf_figures.specs.declared.choice.Choice.{Choice}
 use Rattle.pdf_operators.specs.declared.order.Order.{Order}
 use Rattle.pdf_operators.specs.declared.order.Order.TheVariants.{Visual, Logical}
@@ -61,7 +61,7 @@ pub record IsChoiceOf (t : TextMade) (c : Choice) : Type 0 where
   pub inked : c.inked.now ≡ t.inked.now
   pub can_be_part : c.can_be_part.now ≡ t.partable.now
   pub most_parts : c.most_parts ≡ t.most_parts
-  pub is_still : c.is_still ≡ false
+  pub is_still : c.is_still ≡ not (t.is_still == 0)
 
 -- the lists of a text that runs make longer
 abbrev pub lists_of : TextMade → Lists

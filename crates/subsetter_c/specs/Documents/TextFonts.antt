@@ -26,7 +26,7 @@ use Rattle.text_metrics.specs.Metrics.{Metrics, text_metrics}
 use Rattle.subsetter_text_c.specs.Own.{are_own, inks_in}
 use Rattle.subsetter_text_c.specs.Pairs.{pairs_in}
 use Rattle.subsetter_c.specs.Answers.Status.{status_of}
-use Rattle.subsetter_c.specs.Documents.PdfFonts.{bytes_of, refusal_status}
+use Rattle.subsetter_c.specs.Documents.PdfFonts.{bytes_of, number_of, refusal_status}
 use Rattle.subsetter_c.specs.Documents.PdfOptions.{AreFontOptionsChosen, direction_chosen}
 use Rattle.subsetter_c.specs.Documents.Runs.{text_size}
 use Rattle.subsetter_c.specs.Documents.Whole.{IsWholeEmpty, IsWholeLaidOut}
@@ -58,7 +58,7 @@ makes_own words = word words 13 == 0
 
 -- a text that makes none
 abbrev pub without_own : Metrics → Chosen
-without_own m = record { lines = m; advances = []; can_be_part = []; most_parts = 0 }
+without_own m = record { lines = m; advances = []; can_be_part = []; most_parts = 0; is_still = false }
 
 abbrev pub plain_by : Direction → Limits → Font → List (Tag × ℤ) → Result Chosen Error
 plain_by direction limits font settings = metrics_by direction limits font settings >>= (λ m. Ok (without_own m))
@@ -69,7 +69,7 @@ chosen_by true direction limits font settings = own_choice font settings limits.
 chosen_by false direction limits font settings = plain_by direction limits font settings
 
 abbrev pub kept_seen : TextKept → Chosen
-kept_seen k = record { lines = record { units = k.units; metrics = k.metrics.items; inked = k.inked.items }; advances = k.advances.items; can_be_part = k.partable.items; most_parts = k.most_parts }
+kept_seen k = record { lines = record { units = k.units; metrics = k.metrics.items; inked = k.inked.items }; advances = k.advances.items; can_be_part = k.partable.items; most_parts = k.most_parts; is_still = k.is_still }
 
 -- the text of a font at coordinates, before its first run
 pub record IsTextOf (m : Chosen) (font : List ℕ) (index : ℕ) (coordinates : List Coordinate) (direction : Direction) (made : TextMade) : Type 0 where
@@ -86,9 +86,9 @@ pub record IsTextOf (m : Chosen) (font : List ℕ) (index : ℕ) (coordinates : 
   pub advances : made.advances.now ≡ m.advances
   pub partable : made.partable.now ≡ m.can_be_part
   pub most_parts : made.most_parts ≡ m.most_parts
+  pub is_still : made.is_still ≡ number_of m.is_still
   pub own : made.own.now ≡ []
   pub parts : made.parts.now ≡ []
-  pub reserved : made.reserved ≡ 0
 
 -- all lists are empty, and all numbers 0, but for the size
 pub record IsNoText (made : TextMade) : Type 0 where
@@ -104,9 +104,9 @@ pub record IsNoText (made : TextMade) : Type 0 where
   pub advances : made.advances.now ≡ []
   pub partable : made.partable.now ≡ []
   pub most_parts : made.most_parts ≡ 0
+  pub is_still : made.is_still ≡ 0
   pub own : made.own.now ≡ []
   pub parts : made.parts.now ≡ []
-  pub reserved : made.reserved ≡ 0
 
 -- a text that keeps what `Is` holds of, or an error of which `Why` holds, is handed over
 pub data IsTextHanded (Is : TextKept → Type 0) (Why : Error → Type 0) (font : List ℕ) (index : ℕ) (direction : Direction) (made : TextMade) (status : ℕ) : Type 0 where

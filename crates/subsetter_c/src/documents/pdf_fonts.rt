@@ -52,7 +52,7 @@ fn usage_number(usage: Usage) -> u32
 }
 
 /// 1 for yes.
-fn number_of(flag: bool) -> u32
+pub fn number_of(flag: bool) -> u32
     ensures { result ≡ number_of flag }
 {
     if flag { 1 } else { 0 }

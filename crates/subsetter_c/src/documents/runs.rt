@@ -47,8 +47,8 @@ pub struct TextMade {
     pub parts: &'static [TextPart],
     /// How many parts an own glyph can have; 0: runs make none.
     pub most_parts: u32,
-    /// 0.
-    pub reserved: u32,
+    /// Not 0: an own glyph is a glyph at the origin, with another advance.
+    pub is_still: u32,
 }
 
 /// The one size that is known, where a pointer has 8 bytes.
@@ -114,7 +114,7 @@ fn choice_of(text: &TextMade) -> Choice<'static>
         inked: text.inked,
         can_be_part: text.partable,
         most_parts: text.most_parts as u16,
-        is_still: false,
+        is_still: text.is_still != 0,
     }
 }
 

@@ -18,7 +18,7 @@ ghost use Rattle.subsetter_c.specs.Settings.{settings_of};
 
 use crate::answers::kept::{kept_bytes, kept_coordinates, kept_flags, kept_metrics, kept_shorts};
 use crate::answers::status::{DONE, UNKNOWN_OPTION, status_of};
-use crate::documents::pdf_fonts::refusal_status;
+use crate::documents::pdf_fonts::{number_of, refusal_status};
 use crate::documents::pdf_options::font_options_of;
 use crate::documents::runs::{TEXT_SIZE, TextMade, is_text};
 use crate::documents::text_kept::TextKept;
@@ -83,6 +83,7 @@ fn kept_of(
         advances: Vec::new(alloc),
         partable: Vec::new(alloc),
         most_parts: 0,
+        is_still: false,
     })
 }
 
@@ -111,6 +112,7 @@ fn kept_with(
         advances,
         partable,
         most_parts: choice.most_parts,
+        is_still: choice.is_still,
     })
 }
 
@@ -242,7 +244,7 @@ fn no_text() -> TextMade
         own: &[],
         parts: &[],
         most_parts: 0,
-        reserved: 0,
+        is_still: 0,
     }
 }
 
@@ -266,6 +268,7 @@ fn hand_text(
                 advances,
                 partable,
                 most_parts,
+                is_still,
             } = kept;
             *made = TextMade {
                 size: TEXT_SIZE,
@@ -282,7 +285,7 @@ fn hand_text(
                 own: &[],
                 parts: &[],
                 most_parts: u32::from(most_parts),
-                reserved: 0,
+                is_still: number_of(is_still),
             };
             DONE
         }

@@ -15,5 +15,6 @@ pub struct TextKept {
     pub advances: Vec<u16>,
     pub partable: Vec<bool>,
     pub most_parts: u16,
+    pub is_still: bool,
     ghost divides: { 0 < units },
 }

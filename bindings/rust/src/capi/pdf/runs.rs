@@ -36,6 +36,8 @@ pub struct TextLists {
     pub partable: Vec<bool>,
     /// How many parts an own glyph can have.
     pub most_parts: u16,
+    /// Whether these stay at the origin.
+    pub is_still: bool,
 }
 
 /// A copy of a list.
@@ -80,6 +82,7 @@ pub fn text_lists(
             advances: copy_of(choice.advances)?,
             partable: copy_of(choice.can_be_part)?,
             most_parts: choice.most_parts,
+            is_still: choice.is_still,
         });
     }
     let found = if is_vertical {
@@ -97,6 +100,7 @@ pub fn text_lists(
         advances: Vec::new(),
         partable: Vec::new(),
         most_parts: 0,
+        is_still: false,
     })
 }
 
@@ -121,6 +125,8 @@ pub struct TextView<'a> {
     pub parts: &'a [TextPart],
     /// How many parts an own glyph can have.
     pub most_parts: u16,
+    /// Whether these stay at the origin.
+    pub is_still: bool,
 }
 
 impl<'a> TextView<'a> {
@@ -139,7 +145,7 @@ impl<'a> TextView<'a> {
             inked: self.inked,
             can_be_part: self.partable,
             most_parts: self.most_parts,
-            is_still: false,
+            is_still: self.is_still,
         }
     }
 

@@ -3,12 +3,13 @@
 
 use crate::proved::font_reasons::charstrings::cff_reason;
 use crate::proved::font_reasons::names::lost_name;
+use crate::proved::font_reasons::outlines::tree_reason;
 use crate::proved::font_reasons::parts::{no_metric, no_table, wrong_metrics};
 use crate::proved::font_reasons::reason::Reason;
 use crate::proved::font_reasons::request::{
     no_font_or_glyph, not_kept, reason_of_unknown, wrong_source, wrong_table,
 };
-use crate::proved::font_reasons::short::short_hhea;
+use crate::proved::font_reasons::short::{short_header, short_post};
 use crate::proved::font_reasons::variations::{other_variations, wrong_variations};
 use crate::proved::subsetter_base::{Error, Tag};
 use crate::proved::subsetter_sfnt::directory::table;
@@ -118,7 +119,7 @@ fn not_read(call: Call, font: &[u8], index: u32) -> Option<Reason> {
 
 /// What is wrong with the tables that are read for advances.
 fn wrong_advances(font: &[u8], index: u32) -> Option<Reason> {
-    short_hhea(font, index).or(wrong_table(font, index))
+    short_header(font, index).or(wrong_table(font, index))
 }
 
 /// What is wrong with the tables that a call reads.
@@ -181,24 +182,78 @@ fn of_charstrings(
     Ok(None)
 }
 
+/// Whether a call is one on outlines.
+fn takes_outlines(call: Call) -> bool {
+    match call {
+        Call::GlyphsOf | Call::Advances => false,
+        Call::Subset | Call::SubsetAt | Call::Embed | Call::EmbedAt | Call::PdfFont => true,
+    }
+}
+
+/// What components show, at any level down to a depth.
+fn of_components(
+    alloc: Global,
+    call: Call,
+    error: Error,
+    font: &[u8],
+    index: u32,
+    depth: u8,
+    glyphs: &[u16],
+) -> Result<Option<Reason>, Error> {
+    match error {
+        Error::MalformedFont => {
+            if takes_outlines(call) {
+                return tree_reason(alloc, font, index, depth, glyphs);
+            }
+            Ok(None)
+        }
+        _ => Ok(None),
+    }
+}
+
+/// What charstrings show, or components.
+fn of_outlines(
+    alloc: Global,
+    call: Call,
+    error: Error,
+    font: &[u8],
+    index: u32,
+    limits: &Limits,
+    glyphs: &[u16],
+) -> Result<Option<Reason>, Error> {
+    match of_charstrings(alloc, error, font, index, limits, glyphs)? {
+        Some(reason) => Ok(Some(reason)),
+        None => of_components(alloc, call, error, font, index, limits.depth(), glyphs),
+    }
+}
+
 /// What is wrong with what a call keeps besides outlines.
 fn not_kept_by(call: Call, font: &[u8], index: u32, glyphs: &[u16]) -> Option<Reason> {
     match call {
         Call::GlyphsOf | Call::Advances => None,
-        Call::PdfFont => no_metric(font, index, glyphs),
+        Call::PdfFont => no_metric(font, index, glyphs).or(short_post(font, index)),
         Call::Subset | Call::SubsetAt | Call::Embed | Call::EmbedAt => {
             not_kept(font, index, glyphs)
         }
     }
 }
 
+/// Whether a face lacks what variations are read with.
+fn no_metrics(font: &[u8], index: u32) -> Option<Reason> {
+    let others = no_table(font, index, Tag::MAXP).or(no_table(font, index, Tag::HEAD));
+    no_table(font, index, Tag::HMTX).or(others)
+}
+
+/// What is wrong with what varies, or isn't there with it.
+fn wrong_at(font: &[u8], index: u32) -> Option<Reason> {
+    wrong_variations(font, index).or(no_metrics(font, index))
+}
+
 /// What is wrong with what varies, where a call is at coordinates.
 fn wrong_variations_for(call: Call, font: &[u8], index: u32) -> Option<Reason> {
     match call {
         Call::Subset | Call::Embed | Call::GlyphsOf => None,
-        Call::SubsetAt | Call::EmbedAt | Call::PdfFont | Call::Advances => {
-            wrong_variations(font, index)
-        }
+        Call::SubsetAt | Call::EmbedAt | Call::PdfFont | Call::Advances => wrong_at(font, index),
     }
 }
 
@@ -216,7 +271,7 @@ fn shown_last(call: Call, error: Error, font: &[u8], index: u32, glyphs: &[u16])
     }
 }
 
-/// What charstrings show, or what is kept besides outlines.
+/// What outlines show, or what is kept besides them.
 fn seen_last(
     alloc: Global,
     call: Call,
@@ -226,12 +281,15 @@ fn seen_last(
     limits: &Limits,
     glyphs: &[u16],
 ) -> Result<Option<Reason>, Error> {
-    let found = of_charstrings(alloc, error, font, index, limits, glyphs)?;
+    let found = of_outlines(alloc, call, error, font, index, limits, glyphs)?;
     Ok(found.or(shown_last(call, error, font, index, glyphs)))
 }
 
 /// Why a call on these glyphs is refused with an error, if the font shows it. A charstring of `CFF ` is run within the limits of the
-/// call, at most once, and none after the first that can't be.
+/// call, at most once, and none after the first that can't be; components of `glyf` are followed down to their depth.
+///
+/// There is none where memory ran out, or what was asked for is why: more bytes than the call may make, or glyphs that leave no
+/// number for glyph 0. At coordinates there is none of what a glyph varies by, and none of a charstring of `CFF2`.
 ///
 /// # Errors
 ///

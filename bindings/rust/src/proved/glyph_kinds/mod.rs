@@ -14,6 +14,8 @@ mod bitmaps;
 mod call;
 #[cfg(feature = "variable-fonts")]
 mod colour;
+#[cfg(feature = "program")]
+mod counts;
 #[cfg(feature = "variable-fonts")]
 mod graphics;
 #[cfg(feature = "variable-fonts")]
@@ -24,3 +26,7 @@ mod strikes;
 pub use alone::{bitmaps_alone, has_outlines};
 #[cfg(feature = "variable-fonts")]
 pub use call::kinds_of;
+#[cfg(feature = "program")]
+pub use call::unseen_glyphs;
+#[cfg(feature = "program")]
+pub use counts::kind_counts;

@@ -13,6 +13,7 @@ pub struct OwnChoice {
     pub(crate) advances: Vec<u16>,
     pub(crate) can_be_part: Vec<bool>,
     pub(crate) most_parts: u16,
+    pub(crate) is_still: bool,
 }
 
 impl OwnChoice {
@@ -30,7 +31,7 @@ impl OwnChoice {
             inked: font.inked,
             can_be_part: &self.can_be_part,
             most_parts: self.most_parts,
-            is_still: false,
+            is_still: self.is_still,
         }
     }
 }

@@ -100,6 +100,11 @@ fn has_pictures(face: &Face<'_>) -> bool {
         || has(face, Tag::new(b"sbix"))
 }
 
+/// Whether outlines are in `CFF `.
+pub fn has_charstrings(face: &Face<'_>) -> bool {
+    !has(face, Tag::GLYF) && has(face, Tag::CFF)
+}
+
 /// Whether a font may be off its default.
 fn may_move(face: &Face<'_>, settings: &[(Tag, i32)]) -> bool {
     !settings.is_empty() && has(face, Tag::new(b"fvar"))
@@ -114,22 +119,30 @@ fn reach_of(moves: bool) -> u16 {
     }
 }
 
-/// Whether the first glyphs of a font can be parts, so many; the list is empty without outlines in `glyf`, and where
-/// there may be other pictures.
+/// So many times yes.
+fn each_one(alloc: Global, count: u16) -> Result<Vec<bool>, Error> {
+    Ok(vec![in alloc; true; usize::from(count)]?)
+}
+
+/// Whether the first glyphs of a font can be parts, so many; the list is empty where there may be other pictures, and
+/// without outlines in `glyf` or `CFF `.
 pub fn parts_in(
     alloc: Global,
     face: &Face<'_>,
     settings: &[(Tag, i32)],
     count: u16,
 ) -> Result<Vec<bool>, Error> {
+    if has_pictures(face) {
+        return Ok(Vec::new(alloc));
+    }
+    if has_charstrings(face) {
+        return each_one(alloc, count);
+    }
     let tables = match outlines_in(face) {
         Some(tables) => tables,
         _ => {
             return Ok(Vec::new(alloc));
         }
     };
-    if has_pictures(face) {
-        return Ok(Vec::new(alloc));
-    }
     small_outlines(alloc, reach_of(may_move(face, settings)), tables, count)
 }

@@ -4,10 +4,11 @@
 use crate::rattle::prelude::Vec;
 
 use crate::proved::cff_repeats::with_repeats;
-use crate::proved::own_glyphs::{with_own_glyphs, OwnGlyph};
+use crate::proved::own_glyphs::{with_own_glyphs, OwnGlyph, Part};
 use crate::proved::pdf_text::ProgramKind;
 use crate::proved::pdf_text_font::glyph_map::map_to_glyphs;
 use crate::proved::pdf_text_font::pairs::Drawing;
+use crate::proved::pdf_widths::with_widths;
 use crate::proved::subsetter_base::{Error, Tag};
 use crate::proved::subsetter_sfnt::extras::Extras;
 use crate::proved::subsetter_sfnt::face::Face;
@@ -80,39 +81,100 @@ fn mapped(
     })
 }
 
+/// Whether an own glyph is a glyph at the origin, or a blank.
+fn is_still(parts: &[Part]) -> bool {
+    match parts {
+        [] => true,
+        [part] => part.x == 0 && part.y == 0,
+        _ => false,
+    }
+}
+
+/// Whether all own glyphs are.
+fn are_still(others: &[OwnGlyph<'_>]) -> bool {
+    for other in others {
+        if !is_still(other.parts) {
+            return false;
+        }
+    }
+    true
+}
+
+/// The glyph that an own glyph is; none of a blank.
+fn part_glyph(parts: &[Part]) -> Option<u16> {
+    let part = parts.first()?;
+    Some(part.glyph)
+}
+
+/// The glyph that the own glyph with this place is.
+fn own_figure(others: &[OwnGlyph<'_>], place: u16) -> Option<u16> {
+    let own = others.get(usize::from(place))?;
+    part_glyph(own.parts)
+}
+
 /// The glyph of a `CFF ` that draws a code.
-fn figure_of(drawing: Drawing) -> Option<u16> {
+fn figure_of(others: &[OwnGlyph<'_>], drawing: Drawing) -> Option<u16> {
     match drawing {
         Drawing::Glyph(number) => Some(number),
-        Drawing::Own(_) | Drawing::Nothing => None,
+        Drawing::Own(place) => own_figure(others, place),
+        Drawing::Nothing => None,
     }
 }
 
 /// The glyphs of a `CFF ` that draw the codes.
-fn figures_of(alloc: Global, drawings: &[Drawing]) -> Result<Vec<Option<u16>>, Error> {
+fn figures_of(
+    alloc: Global,
+    others: &[OwnGlyph<'_>],
+    drawings: &[Drawing],
+) -> Result<Vec<Option<u16>>, Error> {
     let mut figures = Vec::with_capacity(alloc, drawings.len())?;
     for drawing in drawings {
-        figures.push(figure_of(*drawing))?;
+        figures.push(figure_of(others, *drawing))?;
     }
     Ok(figures)
 }
 
-/// A `CFF ` with the charstring of each code's figure; it gets no own glyphs.
-fn repeated(alloc: Global, cff: &[u8], owns: usize, drawings: &[Drawing]) -> Result<Drawn, Error> {
-    if owns != 0 {
+/// A `CFF ` whose codes have these advances, where there are own glyphs.
+fn with_advances(
+    alloc: Global,
+    owns: usize,
+    advances: &[u16],
+    cff: Vec<u8>,
+) -> Result<Vec<u8>, Error> {
+    if owns == 0 {
+        return Ok(cff);
+    }
+    match with_widths(alloc, &cff, advances)? {
+        Some(new) => Ok(new),
+        None => Ok(cff),
+    }
+}
+
+/// A `CFF ` with the charstring of each code's figure, and with its advance.
+fn repeated(
+    alloc: Global,
+    cff: &[u8],
+    others: &[OwnGlyph<'_>],
+    owns: usize,
+    advances: &[u16],
+    drawings: &[Drawing],
+) -> Result<Drawn, Error> {
+    if !are_still(others) {
         return Err(Error::OverflowError);
     }
-    let figures = figures_of(alloc, drawings)?;
-    let program = with_repeats(alloc, cff, &figures)?;
+    let figures = figures_of(alloc, others, drawings)?;
+    let again = with_repeats(alloc, cff, &figures)?;
+    let program = with_advances(alloc, owns, advances, again)?;
     Ok(Drawn { program, map: None })
 }
 
-/// What draws the codes, of glyphs of a subset and others after these, of which so many are own ones.
+/// What draws the codes, of glyphs of a subset and others after these, of which so many are own ones; these are the advances of the
+/// codes, in the font's units.
 ///
 /// # Errors
 ///
-/// - `OverflowError`: there would be more than 65,535 glyphs, or what else `with_own_glyphs` answers; with outlines in `CFF ` there
-///   are own ones, or what `with_repeats` answers.
+/// - `OverflowError`: there would be more than 65,535 glyphs, or what else `with_own_glyphs` answers; with outlines in `CFF ` an own
+///   glyph has several parts or one that isn't at the origin, or what `with_repeats` answers.
 /// - `MalformedFont`: the program isn't that of a subset.
 /// - `OutOfMemory`: a request for memory was refused.
 pub fn draw_codes(
@@ -121,10 +183,13 @@ pub fn draw_codes(
     program: Vec<u8>,
     others: &[OwnGlyph<'_>],
     owns: usize,
+    advances: &[u16],
     drawings: &[Drawing],
 ) -> Result<Drawn, Error> {
     match kind {
         ProgramKind::TrueType => mapped(alloc, program, others, owns, drawings),
-        ProgramKind::BareCff | ProgramKind::OpenType => repeated(alloc, &program, owns, drawings),
+        ProgramKind::BareCff | ProgramKind::OpenType => {
+            repeated(alloc, &program, others, owns, advances, drawings)
+        }
     }
 }

@@ -108,6 +108,7 @@ fn filled(
         subset.program,
         others,
         own.len(),
+        &exact_widths,
         drawings,
     )?;
     let font_name = renamed(

@@ -29,6 +29,7 @@ fn flag_of(name: &str) -> Option<Kind> {
         "verbose" => Some(Kind::Flag),
         "vertical" => Some(Kind::Flag),
         "strict" => Some(Kind::Flag),
+        "allow-blank" => Some(Kind::Flag),
         _ => None,
     }
 }

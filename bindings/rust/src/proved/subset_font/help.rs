@@ -69,6 +69,8 @@ A PDF that shows the glyphs, also in place of OUT:
                     glyph with each text)
   --rights RIGHTS   held: you may embed the font, whatever
                     it says (fsType)
+  --allow-blank     takes glyphs that have other pictures
+                    and no outline, as blanks
 
 What the new font has:
   --at TAG=VALUE[,TAG=VALUE..]
@@ -102,9 +104,9 @@ What is printed:
                     and greatest coordinate; and its named
                     instances
   --info            must be the first argument: outlines,
-                    glyphs and tables of IN, what its maker
-                    permits, and whether a subset is made
-                    of it
+                    glyphs, pictures of these and tables of
+                    IN, what its maker permits, and whether
+                    a subset is made of it
   --batch FILE      must be the first argument: does what
                     each line of FILE requests, a JSON
                     object with the members in, out, index

@@ -1,12 +1,16 @@
-use Rattle.std.proofs.Common.{ℕ, List, refl, ap, subst, ◌∙◌}
+use Rattle.std.proofs.Common.{ℕ, List, length, Vec, Global, refl, ap, subst, ◌∙◌}
+use Rattle.std.specs.Option.{option_map}
 use Rattle.pdf_source.specs.Frequent.{IsMostFrequent}
+use Rattle.pdf_text_font.specs.Drawn.{AreDrawn}
 use Rattle.pdf_text_font.specs.Pairs.{values_of}
 use Rattle.pdf_text_font.specs.TextFont.{renamed}
 use Rattle.pdf_text_font.proofs.font.filled.Goals as goal
 
 pub returns-clause-ok : goal.returns-clause-ok
 returns-clause-ok c = record {
-  drawn = c.in_ok-drawn.ensures.ok;
+  drawn =
+      subst (λ (ws : List ℕ). AreDrawn c.args.subset.kind c.args.subset.program.items c.args.others.now (length c.args.own.now) ws c.args.drawings.now c.in_ok-drawn.drawn.program.items (option_map (λ (m : Vec ℕ Global). m.items) c.in_ok-drawn.drawn.map))
+      c.deref-6.ensures.value c.in_ok-drawn.ensures.ok;
   kind = refl;
   count = refl;
   widths =
@@ -20,8 +24,8 @@ returns-clause-ok c = record {
   columns = c.in_ok-columns.ensures.each;
   default_column = c.in_ok-columns.ensures.default;
   name =
-      c.in_ok-font_name.ensures.ok ∙ ap (λ (p : List ℕ). renamed c.args.options.now.tag p c.deref-7.result.now) c.deref-6.ensures.value
-      ∙ ap (λ (n : List ℕ). renamed c.args.options.now.tag c.in_ok-drawn.drawn.program.items n) c.deref-7.ensures.value;
+      c.in_ok-font_name.ensures.ok ∙ ap (λ (p : List ℕ). renamed c.args.options.now.tag p c.deref-8.result.now) c.deref-7.ensures.value
+      ∙ ap (λ (n : List ℕ). renamed c.args.options.now.tag c.in_ok-drawn.drawn.program.items n) c.deref-8.ensures.value;
   values = refl;
   unknown_axes = refl;
   permission = refl;

@@ -10,6 +10,7 @@ use crate::entry::Unwritten;
 use crate::faces::axes::tag_bytes;
 use crate::faces::info::face::{Info, permission_words};
 use crate::faces::outlines::write_outlines_members;
+use crate::faces::pictures::write_pictures_member;
 use crate::objects::quoted::write_quoted;
 use crate::plain::flush;
 use crate::text::write_text;
@@ -125,6 +126,7 @@ fn write_members<W: Write>(info: &Info<'_>, words: &[&str], out: &mut W) -> Resu
 {
     write_outlines_members(info.outlines, info.is_variable, out)?;
     write_counts_members(info, out)?;
+    write_pictures_member(info.pictures, out)?;
     write_refusal_members(info, words, out)?;
     write_tables_member(info.tables, out)
 }

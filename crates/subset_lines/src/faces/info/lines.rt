@@ -9,6 +9,7 @@ use crate::entry::Unwritten;
 use crate::faces::axes::write_tag;
 use crate::faces::info::face::{Info, permission_words};
 use crate::faces::outlines::write_outlines;
+use crate::faces::pictures::write_pictures_line;
 use crate::plain::flush;
 use crate::text::write_text;
 use std::alloc::Global;
@@ -133,11 +134,12 @@ fn write_head<W: Write>(info: &Info<'_>, words: &[&str], out: &mut W) -> Result<
     write_outlines(info.outlines, info.is_variable, out)?;
     write_counts(info.faces, info.bytes, out)?;
     write_glyphs(info.glyphs, out)?;
+    write_pictures_line(info.pictures, out)?;
     write_permissions(words, out)?;
     write_refusal(info.refusal, info.reason, out)
 }
 
-/// Writes what a face is as lines of at most 60 columns. Then it passes on what the writer keeps back.
+/// Writes what a face is as lines. Then it passes on what the writer keeps back.
 #[tactic(auto, using(crate::proofs::Written::both, crate::proofs::Written::flushed))]
 pub fn write_info<W: Write>(alloc: Global, info: &Info<'_>, out: &mut W) -> Result<(), Unwritten>
     ensures { OnOk result (Appends (W.contents out.old) (W.contents out.new) (info_lines info.now)) }

@@ -22,6 +22,7 @@ pub struct Switches {
     pub verbose: bool,
     pub vertical: bool,
     pub strict: bool,
+    pub allow_blank: bool,
 }
 
 impl Switches {
@@ -37,6 +38,7 @@ impl Switches {
         verbose: false,
         vertical: false,
         strict: false,
+        allow_blank: false,
     };
 
     /// Whether an option was given.
@@ -52,6 +54,7 @@ impl Switches {
             Switch::Verbose => self.verbose,
             Switch::Vertical => self.vertical,
             Switch::Strict => self.strict,
+            Switch::AllowBlank => self.allow_blank,
         }
     }
 
@@ -69,6 +72,7 @@ impl Switches {
             Switch::Verbose => all.verbose = true,
             Switch::Vertical => all.vertical = true,
             Switch::Strict => all.strict = true,
+            Switch::AllowBlank => all.allow_blank = true,
         }
         all
     }
@@ -83,6 +87,8 @@ pub struct PdfChoice {
     pub coding: Option<Coding>,
     /// Whether the user holds the rights to embed the font, whatever it says.
     pub is_held: bool,
+    /// Whether it may show blanks of glyphs that have another picture than an outline.
+    pub allow_blank: bool,
 }
 
 /// What the options choose.

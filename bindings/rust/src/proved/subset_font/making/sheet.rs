@@ -3,6 +3,7 @@
 
 use crate::rattle::prelude::Vec;
 
+use crate::proved::glyph_kinds::unseen_glyphs;
 use crate::proved::subset_args::PdfChoice;
 use crate::proved::subset_font::making::subset::Made;
 use crate::proved::subset_lines::json_pdf;
@@ -75,6 +76,40 @@ fn make_shown(
     }
 }
 
+/// Whether the PDF shows a blank of a glyph that has another picture, and may show none.
+fn is_blank(
+    alloc: Global,
+    font: &[u8],
+    choice: PdfChoice,
+    task: &Task<'_>,
+    made: &Made,
+) -> Result<bool, AllocError> {
+    if choice.allow_blank {
+        return Ok(false);
+    }
+    match unseen_glyphs(alloc, font, task.index, &made.picked.glyphs) {
+        Ok(unseen) => Ok(unseen.len() > 0),
+        Err(Error::OutOfMemory) => Err(AllocError),
+        Err(_) => Ok(false),
+    }
+}
+
+/// The PDF, unless it shows a blank and may show none.
+fn unless_blank(
+    alloc: Global,
+    font: &[u8],
+    choice: PdfChoice,
+    task: &Task<'_>,
+    made: &Made,
+    sheet: Sheet,
+) -> Result<Option<Sheet>, Failure> {
+    match is_blank(alloc, font, choice, task, made) {
+        Ok(false) => Ok(Some(sheet)),
+        Ok(true) => Err(Failure::BlankGlyphs),
+        Err(_) => Err(Failure::Error(Error::OutOfMemory)),
+    }
+}
+
 /// The PDF of what a task made, if one is requested.
 pub fn sheet_if(
     alloc: Global,
@@ -85,7 +120,7 @@ pub fn sheet_if(
 ) -> Result<Option<Sheet>, Failure> {
     match choice {
         Some(choice) => match make_shown(alloc, font, choice, task, made) {
-            Ok(sheet) => Ok(Some(sheet)),
+            Ok(sheet) => unless_blank(alloc, font, choice, task, made, sheet),
             Err(failure) => Err(failure),
         },
         None => Ok(None),

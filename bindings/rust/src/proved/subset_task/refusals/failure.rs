@@ -17,6 +17,8 @@ pub enum Failure {
     NoMapping,
     /// The face has no glyph for one of the characters, and may lack none.
     MissingCharacters,
+    /// A PDF would show a blank of a glyph that has another picture than an outline, and may show none.
+    BlankGlyphs,
     /// The face has no named instance of the requested name.
     NoInstance,
     /// The font's maker doesn't permit to embed it, and the user holds no rights.
@@ -45,6 +47,7 @@ impl fmt::Display for Failure {
             Failure::Error(error) => write!(f, "{error}"),
             Failure::NoMapping => f.write_str("no Unicode cmap in font"),
             Failure::MissingCharacters => f.write_str("characters without a glyph"),
+            Failure::BlankGlyphs => f.write_str("glyphs without an outline"),
             Failure::NoInstance => f.write_str("no such instance in font"),
             Failure::NotPermitted(_) => f.write_str("embedding not permitted"),
             Failure::Usage | Failure::List(_) => {
@@ -72,7 +75,7 @@ impl Failure {
         match self {
             Failure::Error(_) => 1,
             Failure::NoMapping | Failure::NoInstance | Failure::NotPermitted(_) => 1,
-            Failure::MissingCharacters | Failure::LongAnswer => 1,
+            Failure::MissingCharacters | Failure::BlankGlyphs | Failure::LongAnswer => 1,
             Failure::Usage | Failure::List(_) => 2,
             Failure::Read | Failure::ReadList(_) => 3,
             Failure::Write | Failure::WritePdf | Failure::Output => 3,

@@ -18,6 +18,8 @@ pub struct Info<'a> {
     pub faces: u32,
     /// How many glyphs the face has, if `maxp` says it.
     pub glyphs: Option<u16>,
+    /// Each kind of pictures, by its bit in `kinds_of` of `glyph_kinds`, that glyphs have, with how many have it.
+    pub pictures: &'a [(u8, usize)],
     /// How many bytes the file has.
     pub bytes: u64,
     /// The bits of fsType in the table `OS/2`, if it has them.

@@ -5,6 +5,7 @@ use crate::proved::subset_lines::entry::Unwritten;
 use crate::proved::subset_lines::faces::axes::tag_bytes;
 use crate::proved::subset_lines::faces::info::face::{permission_words, Info};
 use crate::proved::subset_lines::faces::outlines::write_outlines_members;
+use crate::proved::subset_lines::faces::pictures::write_pictures_member;
 use crate::proved::subset_lines::objects::quoted::write_quoted;
 use crate::proved::subset_lines::plain::flush;
 use crate::proved::subset_lines::text::write_text;
@@ -100,6 +101,7 @@ fn write_tables_member<W: Write>(tables: &[(Tag, u32)], out: &mut W) -> Result<(
 fn write_members<W: Write>(info: &Info<'_>, words: &[&str], out: &mut W) -> Result<(), Unwritten> {
     write_outlines_members(info.outlines, info.is_variable, out)?;
     write_counts_members(info, out)?;
+    write_pictures_member(info.pictures, out)?;
     write_refusal_members(info, words, out)?;
     write_tables_member(info.tables, out)
 }

@@ -5,6 +5,7 @@ use crate::proved::subset_lines::entry::Unwritten;
 use crate::proved::subset_lines::faces::axes::write_tag;
 use crate::proved::subset_lines::faces::info::face::{permission_words, Info};
 use crate::proved::subset_lines::faces::outlines::write_outlines;
+use crate::proved::subset_lines::faces::pictures::write_pictures_line;
 use crate::proved::subset_lines::plain::flush;
 use crate::proved::subset_lines::text::write_text;
 use crate::proved::subsetter_base::Tag;
@@ -115,11 +116,12 @@ fn write_head<W: Write>(info: &Info<'_>, words: &[&str], out: &mut W) -> Result<
     write_outlines(info.outlines, info.is_variable, out)?;
     write_counts(info.faces, info.bytes, out)?;
     write_glyphs(info.glyphs, out)?;
+    write_pictures_line(info.pictures, out)?;
     write_permissions(words, out)?;
     write_refusal(info.refusal, info.reason, out)
 }
 
-/// Writes what a face is as lines of at most 60 columns. Then it passes on what the writer keeps back.
+/// Writes what a face is as lines. Then it passes on what the writer keeps back.
 pub fn write_info<W: Write>(alloc: Global, info: &Info<'_>, out: &mut W) -> Result<(), Unwritten> {
     let words = match permission_words(alloc, info.permission) {
         Ok(words) => words,
