@@ -230,7 +230,8 @@ fn of_outlines(
 /// What is wrong with what a call keeps besides outlines.
 fn not_kept_by(call: Call, font: &[u8], index: u32, glyphs: &[u16]) -> Option<Reason> {
     match call {
-        Call::GlyphsOf | Call::Advances => None,
+        Call::GlyphsOf => None,
+        Call::Advances => no_metric(font, index, glyphs),
         Call::PdfFont => no_metric(font, index, glyphs).or(short_post(font, index)),
         Call::Subset | Call::SubsetAt | Call::Embed | Call::EmbedAt => {
             not_kept(font, index, glyphs)

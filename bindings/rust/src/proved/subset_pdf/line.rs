@@ -127,9 +127,16 @@ fn line_of<'a>(
     if !is_run(direction, font.metrics.len(), items) {
         return Err(Error::MalformedFont);
     }
-    let (order, size) = (Order::Visual, 36_000);
     let mut pairs = no_pairs(alloc)?;
-    let operators = match show_run(alloc, font, direction, order, size, &mut pairs, items) {
+    let operators = match show_run(
+        alloc,
+        font,
+        direction,
+        Order::Visual,
+        36_000,
+        &mut pairs,
+        items,
+    ) {
         Ok(operators) => operators,
         Err(error) => return Err(named(error)),
     };
@@ -160,9 +167,11 @@ pub fn line_for(
     shown: &[Shown<'_>],
 ) -> Result<Line, Error> {
     let metrics = metrics_for(alloc, data, request)?;
+    let found = metrics.font();
     let font = Font {
         units: 1000,
-        ..metrics.font()
+        metrics: found.metrics,
+        inked: found.inked,
     };
     let vertical = request.choice.vertical;
     let items = items_of(alloc, vertical, font.metrics, shown)?;

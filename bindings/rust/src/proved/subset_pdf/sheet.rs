@@ -95,8 +95,16 @@ fn text_for(
     line: &Line,
 ) -> Result<TextFont, SheetError> {
     let options = options_of(request);
-    let (index, at, count) = (request.index, request.at, line.glyph_count);
-    let text = text_font(alloc, data, index, at, &line.pairs, count, &[], &options)?;
+    let text = text_font(
+        alloc,
+        data,
+        request.index,
+        request.at,
+        &line.pairs,
+        line.glyph_count,
+        &[],
+        &options,
+    )?;
     Ok(text)
 }
 
