@@ -132,7 +132,7 @@ fn codes_for(
     pairs: &mut Remapper<u16, Pair>,
     items: &[Item<'_>],
 ) -> Result<Vec<u16>, Error>
-    requires coded { AreCoded pairs.old (pieces_of_run direction font.entry.inked.now items.now) }
+    requires coded { AreCoded pairs.old (pieces_of_run direction font.inked.now items.now) }
     requires few { length pairs.old ≤ 65535 }
     ensures stay { OnOk result (pairs.new ≡ pairs.old) }
     ensures codes { IfOk result (λ codes. AreCodes pairs.old (pieces_of_run direction font.entry.inked.now items.now) codes.items) }
