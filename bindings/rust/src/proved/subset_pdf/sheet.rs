@@ -123,7 +123,8 @@ fn page_of(alloc: Global, text: &TextFont, line: &Line) -> Result<Vec<u8>, Error
         operators: &line.operators,
         advance: line.advance,
     };
-    write_lines(alloc, view.values, &[shown])
+    let file = write_lines(alloc, view.values, &[shown])?;
+    Ok(file)
 }
 
 /// The PDF that shows glyphs in use as the line of a text.
