@@ -66,6 +66,7 @@ ALLOWED = {
     ("subset_font", "known_kinds"): (2, "that of `kinds_of`, by its name"),
     ("subset_font", "is_blank"): (2, "that of `unseen_glyphs`, by its name"),
     ("subset_font", "unless_blank"): (1, "`is_blank` has no other error"),
+    ("subset_pdf", "named"): (2, "that of `show_run`, by its name"),
     ("subset_task", "report_none"): (1, "`NameTable::new` has no other error"),
     ("subset_task", "push_name"): (1, "`text_of_name` writes into a vector, which has no other error"),
     ("subset_task", "instance_settings"): (1, "`settings_of` has no other error"),

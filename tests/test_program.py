@@ -107,7 +107,8 @@ def what_is_shown(page):
 
     def led(value, key):
         return stream_of(objects[int(re.search(key + rb" (\d+) 0 R", value)[1])])
-    codes = [int(it, 16) for page in objects.values() if b"/Type /Page " in page for it in re.findall(rb"^<([0-9A-F]{4})> Tj$", led(page, rb"/Contents"), re.M)]
+    strings = b"".join(it for page in objects.values() if b"/Type /Page " in page for it in re.findall(rb"<([0-9A-F]+)>(?=.*T[jJ]$)", led(page, rb"/Contents"), re.M))
+    codes = [int(it, 16) for it in re.findall(b"....", strings)]
     texts = dict(re.findall(rb"<([0-9A-F]{4})> <([0-9A-F]*)>\n", led(font, rb"/ToUnicode").partition(b"endcodespacerange")[2]))
     text = "".join(bytes.fromhex(texts.get(b"%04X" % code, b"").decode()).decode("utf-16-be") for code in codes)
     encoding = re.search(rb"/Encoding (/Identity-[HV]|\d+ 0 R)", font)[1].decode()

@@ -1,3 +1,4 @@
 pub mod Options
 pub mod Shown
+pub mod Line
 pub mod Sheet

@@ -1,49 +1,135 @@
 -- A PDF that shows glyphs of a font, and why there is none.
-use Rattle.std.specs.Prelude.{◌≡◌, ◌⊎◌, ℕ, List, map}
-use Rattle.subsetter_base.specs.declared.error.Error.TheVariants.{OverflowError}
+use Rattle.std.specs.Prelude.{◌≡◌, ℕ, Bool, true, false, not, is_some, List, [], ◌∷◌, map, length}
+use Rattle.std.specs.Option.{option_map}
+use Rattle.subsetter_base.specs.declared.error.Error.{Error}
+use Rattle.subsetter_base.specs.declared.error.Error.TheVariants.{OverflowError, UnknownKind}
 use Rattle.pdf_codes.specs.Shown.{uses_of}
 use Rattle.pdf_codes.specs.declared.shown.Shown.{Shown}
 use Rattle.pdf_font.specs.PdfFont.{HasFontFault, IsPdfFont, font_of}
 use Rattle.pdf_font.specs.declared.error.FontError.{FontError}
-use Rattle.pdf_font.specs.declared.error.FontError.TheVariants.{Subset, NotPermitted as Forbidden, TextTooLong as TooLong}
+use Rattle.pdf_font.specs.declared.error.FontError.TheVariants.{Subset, NotPermitted as Forbidden, TextTooLong as TooLong, BitmapsAlone}
 use Rattle.pdf_font.specs.declared.font.PdfFont.{PdfFont}
 use Rattle.pdf_objects.specs.Glyphs.{IsSheetOfFont, IsTooLargeForFont}
+use Rattle.pdf_objects.specs.View.{IsViewWith}
+use Rattle.pdf_objects.specs.declared.view.FontView.{FontView}
+use Rattle.pdf_sheet.specs.File.{AreInTable, body_of, file_of}
+use Rattle.pdf_sheet.specs.Lines.{AreTooLarge, lines_values}
 use Rattle.pdf_sheet.specs.declared.frame.Layout.{Layout}
+use Rattle.pdf_sheet.specs.declared.frame.Layout.TheVariants.{Line as InLine, Grid}
+use Rattle.pdf_sheet.specs.declared.lines.SheetLine.{SheetLine}
+use Rattle.pdf_text_font.specs.Pairs.{by_code}
+use Rattle.pdf_text_font.specs.TextFont.{HasTextFault, IsTextFont}
+use Rattle.pdf_text_font.specs.declared.font.TextFont.{TextFont}
+use Rattle.subset_pdf.specs.Line.{HasLineFault, IsLineFor}
 use Rattle.subset_pdf.specs.Options.{options_of}
 use Rattle.subset_pdf.specs.Shown.{entries_of, entry_of}
+use Rattle.subset_pdf.specs.declared.line.Line.{Line}
 use Rattle.subset_pdf.specs.declared.options.PdfRequest.{PdfRequest}
 use Rattle.subset_pdf.specs.declared.sheet.Sheet.{Sheet}
 use Rattle.subset_pdf.specs.declared.sheet.SheetError.{SheetError}
 use Rattle.subset_pdf.specs.declared.sheet.SheetError.TheVariants.{Font, NotPermitted, TextTooLong}
 
--- ---- for glyphs in use
+-- the error of a font by its name here
+abbrev pub named : FontError → SheetError
+named (Subset e) = Font e
+named (Forbidden p) = NotPermitted p
+named TooLong = TextTooLong
+named BitmapsAlone = Font UnknownKind
+
+-- a fault under its name
+pub record IsNamed (Why : FontError → Type 0) (why : SheetError) : Type 0 where
+  pub error : FontError
+  pub name : why ≡ named error
+  pub fault : Why error
+
+-- ---- glyphs in use by their codes
 
 -- what `pdf_font` answers
 abbrev pub IsFontFor : List ℕ → PdfRequest → List Shown → PdfFont → Type 0
 IsFontFor bytes request shown font = IsPdfFont (font_of bytes request.index (options_of request)) request.at.now (options_of request) (uses_of shown) font
 
 -- its sheet
-pub record IsSheetBy (bytes : List ℕ) (request : PdfRequest) (shown : List Shown) (sheet : Sheet) : Type 0 where
+pub record IsCodedSheet (bytes : List ℕ) (request : PdfRequest) (shown : List Shown) (sheet : Sheet) : Type 0 where
   pub font : IsFontFor bytes request shown sheet.font
   pub file : IsSheetOfFont sheet.font shown request.layout sheet.file.items
 
--- the error of `pdf_font` by this name
-abbrev pub fault_of : SheetError → FontError
-fault_of (Font e) = Subset e
-fault_of (NotPermitted p) = Forbidden p
-fault_of TextTooLong = TooLong
-
 -- a fault for which `pdf_font` answers nothing
 abbrev pub HasFaultFor : List ℕ → PdfRequest → List Shown → SheetError → Type 0
-HasFaultFor bytes request shown why = (order : List ℕ) × HasFontFault (font_of bytes request.index (options_of request)) request.at.now (options_of request) (uses_of shown) order (fault_of why)
+HasFaultFor bytes request shown why = IsNamed (λ e. (order : List ℕ) × HasFontFault (font_of bytes request.index (options_of request)) request.at.now (options_of request) (uses_of shown) order e) why
 
 -- the sheet of a font is too large
 abbrev pub IsTooLargeAs : PdfFont → List Shown → Layout → SheetError → Type 0
 IsTooLargeAs font shown layout why = (why ≡ Font OverflowError) × IsTooLargeForFont font shown layout
 
-pub data HasSheetFaultBy (bytes : List ℕ) (request : PdfRequest) (shown : List Shown) (why : SheetError) : Type 0 where
-  in_font : HasFaultFor bytes request shown why → HasSheetFaultBy bytes request shown why
-  too_large : (font : PdfFont) → IsFontFor bytes request shown font → IsTooLargeAs font shown request.layout why → HasSheetFaultBy bytes request shown why
+pub data HasCodedFault (bytes : List ℕ) (request : PdfRequest) (shown : List Shown) (why : SheetError) : Type 0 where
+  in_font : HasFaultFor bytes request shown why → HasCodedFault bytes request shown why
+  too_large : (font : PdfFont) → IsFontFor bytes request shown font → IsTooLargeAs font shown request.layout why → HasCodedFault bytes request shown why
+
+-- ---- glyphs as the line of a text
+
+-- what `text_font` answers for a line, without own glyphs
+abbrev pub IsTextFor : List ℕ → PdfRequest → Line → TextFont → Type 0
+IsTextFor bytes request line text = IsTextFont (font_of bytes request.index (options_of request)) request.at.now (options_of request) line.glyph_count [] (by_code line.pairs) text
+
+abbrev pub HasTextFaultFor : List ℕ → PdfRequest → Line → SheetError → Type 0
+HasTextFaultFor bytes request line why = IsNamed (HasTextFault (font_of bytes request.index (options_of request)) request.at.now (options_of request) line.glyph_count [] (by_code line.pairs)) why
+
+-- its font and the line, as `write_lines` takes them
+pub record IsViewOfLine (text : TextFont) (line : Line) (view : FontView) (shown : SheetLine) : Type 0 where
+  pub font : IsViewWith text.font (option_map (λ m. m.items) text.cid_to_gid_map) view
+  pub operators : shown.operators.now ≡ line.operators.items
+  pub advance : shown.advance ≡ line.advance
+
+pub record IsPage (text : TextFont) (line : Line) (file : List ℕ) : Type 0 where
+  pub view : FontView
+  pub shown : SheetLine
+  pub is : IsViewOfLine text line view shown
+  pub whole : file ≡ file_of (lines_values view.values (shown ∷ []))
+  pub at : AreInTable file (length (body_of (lines_values view.values (shown ∷ [])))) (lines_values view.values (shown ∷ []))
+
+pub record HasNoPage (text : TextFont) (line : Line) : Type 0 where
+  pub view : FontView
+  pub shown : SheetLine
+  pub is : IsViewOfLine text line view shown
+  pub large : AreTooLarge view.values (shown ∷ [])
+
+-- the page of their line; the codes are those that it shows
+pub record IsTextSheet (bytes : List ℕ) (request : PdfRequest) (shown : List Shown) (sheet : Sheet) : Type 0 where
+  pub line : Line
+  pub text : TextFont
+  pub is_line : IsLineFor bytes request shown line
+  pub is_text : IsTextFor bytes request line text
+  pub font : sheet.font ≡ record text.font { codes = line.codes }
+  pub page : IsPage text line sheet.file.items
+
+pub data HasTextSheetFault (bytes : List ℕ) (request : PdfRequest) (shown : List Shown) (why : SheetError) : Type 0 where
+  no_line : (e : Error) → why ≡ Font e → HasLineFault bytes request shown e → HasTextSheetFault bytes request shown why
+  no_text : (line : Line) → IsLineFor bytes request shown line → HasTextFaultFor bytes request line why → HasTextSheetFault bytes request shown why
+  no_page : (line : Line) (text : TextFont) → IsLineFor bytes request shown line → IsTextFor bytes request line text → why ≡ Font OverflowError → HasNoPage text line → HasTextSheetFault bytes request shown why
+
+-- ---- both
+
+-- glyphs in a line are a text, unless a way of getting codes is given
+abbrev pub is_text_by : Layout → Bool → Bool
+is_text_by InLine is_coded = not is_coded
+is_text_by Grid is_coded = false
+
+abbrev pub is_text : PdfRequest → Bool
+is_text request = is_text_by request.layout (is_some request.choice.coding)
+
+abbrev pub IsSheetAs : Bool → List ℕ → PdfRequest → List Shown → Sheet → Type 0
+IsSheetAs true bytes request shown sheet = IsTextSheet bytes request shown sheet
+IsSheetAs false bytes request shown sheet = IsCodedSheet bytes request shown sheet
+
+abbrev pub IsSheetBy : List ℕ → PdfRequest → List Shown → Sheet → Type 0
+IsSheetBy bytes request shown sheet = IsSheetAs (is_text request) bytes request shown sheet
+
+abbrev pub HasSheetFaultAs : Bool → List ℕ → PdfRequest → List Shown → SheetError → Type 0
+HasSheetFaultAs true bytes request shown why = HasTextSheetFault bytes request shown why
+HasSheetFaultAs false bytes request shown why = HasCodedFault bytes request shown why
+
+abbrev pub HasSheetFaultBy : List ℕ → PdfRequest → List Shown → SheetError → Type 0
+HasSheetFaultBy bytes request shown why = HasSheetFaultAs (is_text request) bytes request shown why
 
 -- ---- for glyphs and their texts
 

@@ -7,6 +7,7 @@
 //! ```
 #![tactic(auto)]
 
+mod line;
 mod options;
 mod sheet;
 mod shown;

@@ -1,22 +1,26 @@
 //! The PDF.
 
 ghost use Rattle.std.specs.Prelude.{◌≡◌, ◌⊎◌, IfOk, IfErr};
+ghost use Rattle.std.specs.Option.{option_copied, option_map};
 ghost use Rattle.pdf_objects.specs.Glyphs.{IsSheetOfFont};
-ghost use Rattle.subset_pdf.specs.Sheet.{HasFaultFor, HasSheetFault, HasSheetFaultBy, IsFontFor, IsSheetBy, IsSheetFor, IsTooLargeAs};
+ghost use Rattle.subset_pdf.specs.Sheet.{HasCodedFault, HasFaultFor, HasNoPage, HasSheetFault, HasSheetFaultBy, HasTextFaultFor, HasTextSheetFault, IsCodedSheet, IsFontFor, IsPage, IsSheetBy, IsSheetFor, IsTextFor, IsTextSheet, IsTooLargeAs, is_text, named};
 ghost use Rattle.subset_pdf.specs.declared.sheet.SheetError.TheVariants.{Font as RefusedFont};
-ghost use Rattle.subsetter_base.specs.declared.error.Error.TheVariants.{OutOfMemory};
+ghost use Rattle.subsetter_base.specs.declared.error.Error.TheVariants.{OutOfMemory, OverflowError};
 
+use crate::line::{Line, line_for};
 use crate::options::{PdfRequest, options_of};
 use crate::shown::shown_of;
 use pdf_font::{FontError, PdfFont, Permission, Shown, pdf_font};
-use pdf_objects::{view_of, write_sheet};
+use pdf_objects::{Layout, view_of, view_with, write_sheet};
+use pdf_sheet::{SheetLine, write_lines};
+use pdf_text_font::{TextFont, text_font};
 use std::alloc::Global;
 use subsetter_base::Error;
 
 /// A PDF that shows glyphs, and all that it has of their font.
 #[derive(Drop)]
 pub struct Sheet {
-    /// What the PDF has of the font.
+    /// What the PDF has of the font. Its codes are those that are shown, in order.
     pub font: PdfFont,
     /// The bytes of the PDF.
     pub file: Vec<u8>,
@@ -33,8 +37,31 @@ pub enum SheetError {
     TextTooLong,
 }
 
+impl From<Error> for SheetError {
+    ghost from_gives = { λ error why. why ≡ RefusedFont error };
+
+    fn from(error: Error) -> SheetError {
+        SheetError::Font(error)
+    }
+}
+
+impl From<FontError> for SheetError {
+    ghost from_gives = { λ error why. why ≡ named error };
+
+    fn from(error: FontError) -> SheetError {
+        match error {
+            FontError::Subset(error) => SheetError::Font(error),
+            FontError::NotPermitted(permission) => SheetError::NotPermitted(permission),
+            FontError::TextTooLong => SheetError::TextTooLong,
+            FontError::BitmapsAlone => SheetError::Font(Error::UnknownKind),
+        }
+    }
+}
+
+// ---- by codes
+
 /// What the PDF has of the font for glyphs in use.
-#[tactic(auto, using(crate::proofs::Sheets::font_made, crate::proofs::Sheets::font_refused, crate::proofs::Sheets::font_forbidden, crate::proofs::Sheets::font_too_long))]
+#[tactic(auto, using(crate::proofs::Sheets::font_made, crate::proofs::Sheets::font_refused))]
 fn font_for(
     alloc: Global,
     data: &[u8],
@@ -45,13 +72,8 @@ fn font_for(
     ensures err { IfErr result (λ e. (e ≡ RefusedFont OutOfMemory) ⊎ HasFaultFor «data».now request.now shown.now e) }
 {
     let options = options_of(request);
-    match pdf_font(alloc, data, request.index, request.at, shown, &options) {
-        Ok(font) => Ok(font),
-        Err(FontError::Subset(error)) => Err(SheetError::Font(error)),
-        Err(FontError::NotPermitted(permission)) => Err(SheetError::NotPermitted(permission)),
-        Err(FontError::TextTooLong) => Err(SheetError::TextTooLong),
-        Err(FontError::BitmapsAlone) => Err(SheetError::Font(Error::UnknownKind)),
-    }
+    let font = pdf_font(alloc, data, request.index, request.at, shown, &options)?;
+    Ok(font)
 }
 
 /// The PDF of a font.
@@ -66,14 +88,112 @@ fn drawn(
     ensures ok { IfOk result (λ sheet. IsSheetOfFont sheet.font shown.now request.now.layout sheet.file.items) }
     ensures err { IfErr result (λ e. (e ≡ RefusedFont OutOfMemory) ⊎ IsTooLargeAs font shown.now request.now.layout e) }
 {
-    match write_sheet(alloc, view_of(&font), shown, request.layout) {
-        Ok(file) => Ok(Sheet { font, file }),
-        Err(error) => Err(SheetError::Font(error)),
+    let file = write_sheet(alloc, view_of(&font), shown, request.layout)?;
+    Ok(Sheet { font, file })
+}
+
+/// The PDF that shows glyphs in use by their codes.
+#[tactic(auto, using(crate::proofs::Sheets::sheet_by, crate::proofs::Sheets::no_sheet_by, crate::proofs::Sheets::no_font_by))]
+fn coded_sheet(
+    alloc: Global,
+    data: &[u8],
+    request: &PdfRequest<'_>,
+    shown: &[Shown<'_>],
+) -> Result<Sheet, SheetError>
+    ensures ok { IfOk result (IsCodedSheet «data».now request.now shown.now) }
+    ensures err { IfErr result (λ e. (e ≡ RefusedFont OutOfMemory) ⊎ HasCodedFault «data».now request.now shown.now e) }
+{
+    let font = font_for(alloc, data, request, shown)?;
+    drawn(alloc, request, font, shown)
+}
+
+// ---- as a text
+
+/// What a PDF has of the font of a line.
+#[tactic(auto, using(crate::proofs::Sheets::text_made, crate::proofs::Sheets::text_refused))]
+fn text_for(
+    alloc: Global,
+    data: &[u8],
+    request: &PdfRequest<'_>,
+    line: &Line,
+) -> Result<TextFont, SheetError>
+    ensures ok { IfOk result (IsTextFor «data».now request.now line.now) }
+    ensures err { IfErr result (λ e. (e ≡ RefusedFont OutOfMemory) ⊎ HasTextFaultFor «data».now request.now line.now e) }
+{
+    let options = options_of(request);
+    let text = text_font(
+        alloc,
+        data,
+        request.index,
+        request.at,
+        &line.pairs,
+        line.glyph_count,
+        &[],
+        &options,
+    )?;
+    Ok(text)
+}
+
+/// The bytes of CIDToGIDMap, if that is a stream.
+fn map_of(text: &TextFont) -> Option<&[u8]>
+    ensures { option_copied result ≡ option_map (λ m. m.items) text.now.cid_to_gid_map }
+{
+    match &text.cid_to_gid_map {
+        None => None,
+        Some(map) => Some(map),
+    }
+}
+
+/// The page of a line.
+#[tactic(auto, using(crate::proofs::Sheets::page_made, crate::proofs::Sheets::page_unmade))]
+fn page_of(alloc: Global, text: &TextFont, line: &Line) -> Result<Vec<u8>, Error>
+    ensures ok { IfOk result (λ file. IsPage text.now line.now file.items) }
+    ensures err { IfErr result (λ e. (e ≡ OutOfMemory) ⊎ ((e ≡ OverflowError) × HasNoPage text.now line.now)) }
+{
+    let view = view_with(&text.font, map_of(text));
+    let shown = SheetLine {
+        operators: &line.operators,
+        advance: line.advance,
+    };
+    let file = write_lines(alloc, view.values, &[shown])?;
+    Ok(file)
+}
+
+/// The PDF that shows glyphs in use as the line of a text.
+#[tactic(auto, using(crate::proofs::Sheets::text_drawn, crate::proofs::Sheets::no_line_for, crate::proofs::Sheets::no_text_for, crate::proofs::Sheets::no_page_for))]
+fn text_sheet(
+    alloc: Global,
+    data: &[u8],
+    request: &PdfRequest<'_>,
+    shown: &[Shown<'_>],
+) -> Result<Sheet, SheetError>
+    ensures ok { IfOk result (IsTextSheet «data».now request.now shown.now) }
+    ensures err { IfErr result (λ e. (e ≡ RefusedFont OutOfMemory) ⊎ HasTextSheetFault «data».now request.now shown.now e) }
+{
+    let line = line_for(alloc, data, request, shown)?;
+    let text = text_for(alloc, data, request, &line)?;
+    let file = page_of(alloc, &text, &line)?;
+    let font = PdfFont {
+        codes: line.codes,
+        ..text.font
+    };
+    Ok(Sheet { font, file })
+}
+
+// ---- both
+
+/// Whether glyphs are a text: they are in a line, and no way of getting codes is given.
+fn is_text(request: &PdfRequest<'_>) -> bool
+    ensures { result ≡ is_text request.now }
+{
+    match request.layout {
+        Layout::Line => request.choice.coding.is_none(),
+        Layout::Grid => false,
     }
 }
 
 /// The PDF that shows glyphs in use.
-#[tactic(auto, using(crate::proofs::Sheets::sheet_by, crate::proofs::Sheets::no_sheet_by, crate::proofs::Sheets::no_font_by))]
+#[tactic(auto, using(crate::proofs::Sheets::sheet_as, crate::proofs::Sheets::no_sheet_as))]
 fn sheet_of(
     alloc: Global,
     data: &[u8],
@@ -83,20 +203,22 @@ fn sheet_of(
     ensures ok { IfOk result (IsSheetBy «data».now request.now shown.now) }
     ensures err { IfErr result (λ e. (e ≡ RefusedFont OutOfMemory) ⊎ HasSheetFaultBy «data».now request.now shown.now e) }
 {
-    match font_for(alloc, data, request, shown) {
-        Ok(font) => drawn(alloc, request, font, shown),
-        Err(error) => Err(error),
+    if is_text(request) {
+        text_sheet(alloc, data, request, shown)
+    } else {
+        coded_sheet(alloc, data, request, shown)
     }
 }
 
 /// A PDF that shows glyphs of a font in 36 points, each with its text, so many of the characters that are left: in a line, or in
-/// a grid of 12 by 16 a page.
+/// a grid of 12 by 16 a page. A line is that of a text, unless it is chosen how glyphs get codes.
 ///
 /// # Errors
 ///
 /// - `NotPermitted`: `fsType` forbids it, and the user holds no rights.
 /// - `TextTooLong`: the text of a glyph is too long.
-/// - `Font`: what `pdf_font` answers; the PDF would have 10,000,000,000 bytes or more (`OverflowError`); a request for memory was
+/// - `Font`: what `pdf_font` answers, and of a text `text_metrics`; a glyph of a text isn't the font's (`MalformedFont`), or the
+///   text is too long (`OverflowError`); the PDF would have 10,000,000,000 bytes or more (`OverflowError`); a request for memory was
 ///   refused (`OutOfMemory`).
 #[tactic(auto, using(crate::proofs::Sheets::sheet_for, crate::proofs::Sheets::no_sheet_for))]
 pub fn make_sheet(
@@ -107,13 +229,11 @@ pub fn make_sheet(
     lengths: &[usize],
     glyphs: &[u16],
 ) -> Result<Sheet, SheetError>
-    // What is made is the sheet of what `pdf_font` answers for the glyphs.
+    // What is made is the sheet of what `pdf_font` answers for the glyphs, or of their line and what `text_font` answers for it.
     ensures ok { IfOk result (IsSheetFor «data».now request.now text.now lengths.now glyphs.now) }
     // What is refused has a fault of that name.
     ensures err { IfErr result (λ e. (e ≡ RefusedFont OutOfMemory) ⊎ HasSheetFault «data».now request.now text.now lengths.now glyphs.now e) }
 {
-    match shown_of(alloc, text, lengths, glyphs) {
-        Ok(shown) => sheet_of(alloc, data, request, &shown),
-        Err(error) => Err(SheetError::Font(error)),
-    }
+    let shown = shown_of(alloc, text, lengths, glyphs)?;
+    sheet_of(alloc, data, request, &shown)
 }

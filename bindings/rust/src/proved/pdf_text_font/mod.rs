@@ -17,3 +17,5 @@ mod pairs;
 mod texts;
 
 pub use call::text_font;
+#[cfg(feature = "program")]
+pub use font::TextFont;

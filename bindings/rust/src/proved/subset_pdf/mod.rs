@@ -7,6 +7,7 @@
 //! // sheet.file, and sheet.font of which it is a sheet
 //! ```
 
+mod line;
 mod options;
 mod sheet;
 mod shown;

@@ -4,7 +4,10 @@
 use crate::rattle::prelude::Vec;
 
 use crate::proved::pdf_font::{pdf_font, FontError, PdfFont, Permission, Shown};
-use crate::proved::pdf_objects::{view_of, write_sheet};
+use crate::proved::pdf_objects::{view_of, view_with, write_sheet, Layout};
+use crate::proved::pdf_sheet::{write_lines, SheetLine};
+use crate::proved::pdf_text_font::{text_font, TextFont};
+use crate::proved::subset_pdf::line::{line_for, Line};
 use crate::proved::subset_pdf::options::{options_of, PdfRequest};
 use crate::proved::subset_pdf::shown::shown_of;
 use crate::proved::subsetter_base::Error;
@@ -12,7 +15,7 @@ use crate::rattle::alloc::Global;
 
 /// A PDF that shows glyphs, and all that it has of their font.
 pub struct Sheet {
-    /// What the PDF has of the font.
+    /// What the PDF has of the font. Its codes are those that are shown, in order.
     pub font: PdfFont,
     /// The bytes of the PDF.
     pub file: Vec<u8>,
@@ -29,6 +32,25 @@ pub enum SheetError {
     TextTooLong,
 }
 
+impl From<Error> for SheetError {
+    fn from(error: Error) -> SheetError {
+        SheetError::Font(error)
+    }
+}
+
+impl From<FontError> for SheetError {
+    fn from(error: FontError) -> SheetError {
+        match error {
+            FontError::Subset(error) => SheetError::Font(error),
+            FontError::NotPermitted(permission) => SheetError::NotPermitted(permission),
+            FontError::TextTooLong => SheetError::TextTooLong,
+            FontError::BitmapsAlone => SheetError::Font(Error::UnknownKind),
+        }
+    }
+}
+
+// ---- by codes
+
 /// What the PDF has of the font for glyphs in use.
 fn font_for(
     alloc: Global,
@@ -37,13 +59,8 @@ fn font_for(
     shown: &[Shown<'_>],
 ) -> Result<PdfFont, SheetError> {
     let options = options_of(request);
-    match pdf_font(alloc, data, request.index, request.at, shown, &options) {
-        Ok(font) => Ok(font),
-        Err(FontError::Subset(error)) => Err(SheetError::Font(error)),
-        Err(FontError::NotPermitted(permission)) => Err(SheetError::NotPermitted(permission)),
-        Err(FontError::TextTooLong) => Err(SheetError::TextTooLong),
-        Err(FontError::BitmapsAlone) => Err(SheetError::Font(Error::UnknownKind)),
-    }
+    let font = pdf_font(alloc, data, request.index, request.at, shown, &options)?;
+    Ok(font)
 }
 
 /// The PDF of a font.
@@ -53,9 +70,87 @@ fn drawn(
     font: PdfFont,
     shown: &[Shown<'_>],
 ) -> Result<Sheet, SheetError> {
-    match write_sheet(alloc, view_of(&font), shown, request.layout) {
-        Ok(file) => Ok(Sheet { font, file }),
-        Err(error) => Err(SheetError::Font(error)),
+    let file = write_sheet(alloc, view_of(&font), shown, request.layout)?;
+    Ok(Sheet { font, file })
+}
+
+/// The PDF that shows glyphs in use by their codes.
+fn coded_sheet(
+    alloc: Global,
+    data: &[u8],
+    request: &PdfRequest<'_>,
+    shown: &[Shown<'_>],
+) -> Result<Sheet, SheetError> {
+    let font = font_for(alloc, data, request, shown)?;
+    drawn(alloc, request, font, shown)
+}
+
+// ---- as a text
+
+/// What a PDF has of the font of a line.
+fn text_for(
+    alloc: Global,
+    data: &[u8],
+    request: &PdfRequest<'_>,
+    line: &Line,
+) -> Result<TextFont, SheetError> {
+    let options = options_of(request);
+    let text = text_font(
+        alloc,
+        data,
+        request.index,
+        request.at,
+        &line.pairs,
+        line.glyph_count,
+        &[],
+        &options,
+    )?;
+    Ok(text)
+}
+
+/// The bytes of CIDToGIDMap, if that is a stream.
+fn map_of(text: &TextFont) -> Option<&[u8]> {
+    match &text.cid_to_gid_map {
+        None => None,
+        Some(map) => Some(map),
+    }
+}
+
+/// The page of a line.
+fn page_of(alloc: Global, text: &TextFont, line: &Line) -> Result<Vec<u8>, Error> {
+    let view = view_with(&text.font, map_of(text));
+    let shown = SheetLine {
+        operators: &line.operators,
+        advance: line.advance,
+    };
+    let file = write_lines(alloc, view.values, &[shown])?;
+    Ok(file)
+}
+
+/// The PDF that shows glyphs in use as the line of a text.
+fn text_sheet(
+    alloc: Global,
+    data: &[u8],
+    request: &PdfRequest<'_>,
+    shown: &[Shown<'_>],
+) -> Result<Sheet, SheetError> {
+    let line = line_for(alloc, data, request, shown)?;
+    let text = text_for(alloc, data, request, &line)?;
+    let file = page_of(alloc, &text, &line)?;
+    let font = PdfFont {
+        codes: line.codes,
+        ..text.font
+    };
+    Ok(Sheet { font, file })
+}
+
+// ---- both
+
+/// Whether glyphs are a text: they are in a line, and no way of getting codes is given.
+fn is_text(request: &PdfRequest<'_>) -> bool {
+    match request.layout {
+        Layout::Line => request.choice.coding.is_none(),
+        Layout::Grid => false,
     }
 }
 
@@ -66,20 +161,22 @@ fn sheet_of(
     request: &PdfRequest<'_>,
     shown: &[Shown<'_>],
 ) -> Result<Sheet, SheetError> {
-    match font_for(alloc, data, request, shown) {
-        Ok(font) => drawn(alloc, request, font, shown),
-        Err(error) => Err(error),
+    if is_text(request) {
+        text_sheet(alloc, data, request, shown)
+    } else {
+        coded_sheet(alloc, data, request, shown)
     }
 }
 
 /// A PDF that shows glyphs of a font in 36 points, each with its text, so many of the characters that are left: in a line, or in
-/// a grid of 12 by 16 a page.
+/// a grid of 12 by 16 a page. A line is that of a text, unless it is chosen how glyphs get codes.
 ///
 /// # Errors
 ///
 /// - `NotPermitted`: `fsType` forbids it, and the user holds no rights.
 /// - `TextTooLong`: the text of a glyph is too long.
-/// - `Font`: what `pdf_font` answers; the PDF would have 10,000,000,000 bytes or more (`OverflowError`); a request for memory was
+/// - `Font`: what `pdf_font` answers, and of a text `text_metrics`; a glyph of a text isn't the font's (`MalformedFont`), or the
+///   text is too long (`OverflowError`); the PDF would have 10,000,000,000 bytes or more (`OverflowError`); a request for memory was
 ///   refused (`OutOfMemory`).
 pub fn make_sheet(
     alloc: Global,
@@ -89,8 +186,6 @@ pub fn make_sheet(
     lengths: &[usize],
     glyphs: &[u16],
 ) -> Result<Sheet, SheetError> {
-    match shown_of(alloc, text, lengths, glyphs) {
-        Ok(shown) => sheet_of(alloc, data, request, &shown),
-        Err(error) => Err(SheetError::Font(error)),
-    }
+    let shown = shown_of(alloc, text, lengths, glyphs)?;
+    sheet_of(alloc, data, request, &shown)
 }
