@@ -20,7 +20,7 @@ use crate::proved::subset_task::notes::{known_axes, notes_for};
 use crate::proved::subset_task::refusals::failure::{file_of, status_of_run, Failure, Report};
 use crate::proved::subset_task::refusals::hint::text::Hint;
 use crate::proved::subset_task::task::{Form, Plan, Requests, Task};
-use crate::proved::subsetter::Tag;
+use crate::proved::subsetter::{Error, Tag};
 use crate::rattle::alloc::{AllocError, Global};
 use crate::rattle::io;
 
@@ -285,15 +285,16 @@ fn task_for_hint<'a>(font: &[u8], plan: &Plan<'a>) -> Task<'a> {
 }
 
 /// What a second look at the glyphs of a plan shows of a font that is refused.
-fn second_look(alloc: Global, failure: &Failure, font: &[u8], plan: &Plan<'_>) -> Option<Hint> {
+fn second_look(alloc: Global, error: Error, font: &[u8], plan: &Plan<'_>) -> Option<Hint> {
     let task = task_for_hint(font, plan);
-    match (failure, picked_in(alloc, font, &task)) {
-        (Failure::Error(error), Ok(picked)) => {
-            let call = call_of(plan.pdf.is_some(), task.at.is_some(), task.widths);
-            look_again(alloc, call, *error, font, &task, &picked.glyphs)
+    let picked = match picked_in(alloc, font, &task) {
+        Ok(picked) => picked,
+        _ => {
+            return None;
         }
-        _ => None,
-    }
+    };
+    let call = call_of(plan.pdf.is_some(), task.at.is_some(), task.widths);
+    look_again(alloc, call, error, font, &task, &picked.glyphs)
 }
 
 /// What more is known of a font that is refused: by its tables, by the limits, or else by a second look.
@@ -301,9 +302,13 @@ fn hint_for(alloc: Global, failure: &Failure, font: &[u8], plan: &Plan<'_>) -> O
     if let Some(hint) = find_hint(failure, font, &task_for_hint(font, plan)) {
         return Some(hint);
     }
-    match find_limit_hint(alloc, failure, font, plan) {
-        Some(hint) => Some(hint),
-        None => second_look(alloc, failure, font, plan),
+    if let Some(hint) = find_limit_hint(alloc, failure, font, plan) {
+        return Some(hint);
+    }
+    match failure {
+        Failure::Error(Error::OutOfMemory) => None,
+        Failure::Error(error) => second_look(alloc, *error, font, plan),
+        _ => None,
     }
 }
 
