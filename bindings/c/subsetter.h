@@ -122,9 +122,9 @@ enum {
     SUBSETTER_CALL_SUBSET_AT = 1,
     SUBSETTER_CALL_EMBED = 2,
     SUBSETTER_CALL_EMBED_AT = 3,
-    SUBSETTER_CALL_PDF_FONT = 4,
-    SUBSETTER_CALL_GLYPHS_OF = 5,
-    SUBSETTER_CALL_ADVANCES = 6
+    SUBSETTER_CALL_PDF_FONT = 4,    /* also subsetter_make_text_font, with the glyphs of the runs */
+    SUBSETTER_CALL_GLYPHS_OF = 5,   /* also subsetter_glyph_kinds */
+    SUBSETTER_CALL_ADVANCES = 6     /* also subsetter_new_text, without glyphs */
 };
 
 /* Why a call was refused with a status, as the font shows it: the table or the glyph, in words ("glyph 60000: the font's glyphs are 0

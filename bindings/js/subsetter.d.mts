@@ -454,7 +454,8 @@ export interface Subsetter {
     /**
      * All kinds of pictures that a font has of each glyph, in the order in which a reader of OpenType prefers them; the last is
      * "outline" or "empty". A PDF shows the outline alone, so a glyph that is "empty" and has another picture is blank there. A picture
-     * is what a table lists, whether it can be drawn or not; a table that is cut or wrong lists none. The font needs no outlines.
+     * is what a table lists, whether it can be drawn or not; a table that is cut or wrong lists none. The font needs no outlines, and a glyph
+     * that it lacks is "empty".
      */
     kindsOf(data: FontData, glyphs: Iterable<number>, options?: Face): GlyphKind[][];
     /** The subset of a font for glyph 0 and the given glyphs. */
@@ -464,7 +465,7 @@ export interface Subsetter {
      * has no `hmtx` or no `head`, or 0 units per em. With coordinates a width is the advance that its glyph has there.
      */
     embed(data: FontData, glyphs: Iterable<number>, options?: Face & Choices & Place): Embedded;
-    /** The text of a font, which is copied into the module. It throws what `advances` does. */
+    /** The text of a font, which is copied into the module. It throws what `advances` does, and MalformedFont without `maxp`. */
     readonly PdfText: new (data: FontData, options?: Face & TextChoices & Place) => PdfText;
     /** Copies a font into the module, for any number of calls. The first of them reports what is wrong with it. */
     open(data: FontData, options?: Face): Font;

@@ -135,7 +135,7 @@ function bytesOf(data) {
     if (isBuffer(data)) {
         return new Uint8Array(data);
     }
-    throw new TypeError(`a font must be the bytes of a file, an ArrayBuffer or a view of one, and not ${kindOf(data)}`);
+    throw new TypeError(`a font must be the bytes of a file, an ArrayBuffer or a view of one (readFileSync(path) and await response.arrayBuffer() have them), and not ${kindOf(data)}`);
 }
 
 /** The items of what is no text, each taken by a function; else TypeError. */
@@ -155,7 +155,8 @@ const objectsOf = (list, wanted) => listed(list, wanted, (it) => {
 });
 
 /** Glyph numbers, as a list; else TypeError or RangeError. */
-const glyphsOf = (glyphs) => listed(glyphs, "glyphs must be an iterable of numbers, as [36, 68] (glyphsOf has those of a text)", (it) => whole(it, 0, 65535, "a glyph"));
+const glyphsOf = (glyphs) => listed(glyphs, "glyphs must be an iterable of numbers, as [36, 68] (glyphsOf has those of a text)", (it) =>
+    whole(it, 0, 65535, kindOf(it) === "Object" ? "a glyph (.glyph of what glyphsOf answers)" : "a glyph"));
 
 /** The characters of a text as numbers; the library refuses an unpaired surrogate. */
 function charactersOf(text) {
@@ -184,7 +185,7 @@ function named(options, names, what) {
     if (options === undefined) {
         return {};
     }
-    if (typeof options !== "object" || options === null) {
+    if (typeof options !== "object" || options === null || Symbol.iterator in options) {
         throw new TypeError(`${what} must be an object, and not ${kindOf(options)}`);
     }
     for (const name of Object.keys(options)) {
@@ -252,12 +253,13 @@ function oneOf(value, names, what, older = {}) {
     if (value === undefined) {
         return 0;
     }
+    const wanted = `${what} must be one of ${names.join(", ")}, and not `;
     if (typeof value !== "string") {
-        throw new TypeError(`${what} must be a string, and not ${kindOf(value)}`);
+        throw new TypeError(wanted + kindOf(value));
     }
     const name = Object.hasOwn(older, value) ? older[value] : value;
     if (!names.includes(name)) {
-        throw new RangeError(`${what} must be one of ${names.join(", ")}, and not ${shown(value)}`);
+        throw new RangeError(wanted + shown(value));
     }
     return names.indexOf(name);
 }
@@ -498,14 +500,15 @@ class Library {
 
     /** What a font that is held here shows of why a call was refused, or which limits there were; nothing where memory is refused. */
     #reason(status, name, font, index, glyphs = [], { tokens = 0, depth = 0, bytes = 0 } = {}) {
-        const given = (at) => [CALLS.indexOf(name), status, font.at, font.size, index, at, glyphs.length, tokens, depth, 0, 0];
+        const isOfText = name === "subsetter_text_font", call = CALLS.indexOf(isOfText ? "subsetter_pdf_font" : name);
+        const given = (at) => [call, status, font.at, font.size, index, at, glyphs.length, tokens, depth, 0, 0];
         try {
             const { status: done, buffer, words } = this.#call("subsetter_explain", [listOf(2, glyphs)], given);
             const [at, length] = words.slice(-2);
             if (done === DONE && length > 0) {
                 const found = new TextDecoder().decode(new Uint8Array(buffer.slice(at, at + length)));
                 const isWithout = found.startsWith("CFF2") && /_(subset|embed)$/.test(name);
-                return `: ${found}${status === NOT_PERMITTED ? ": if you hold the rights, rights: \"held\"" : isWithout ? ": coordinates: {} is the default" : ""}`;
+                return `: ${found}${status === NOT_PERMITTED ? `: if you hold the rights, rights: "held"${isOfText ? " of new PdfText" : ""}` : isWithout ? ": coordinates: {} is the default" : ""}`;
             }
             const limits = [tokens && tokens !== TOKENS ? `tokens is ${tokens}` : "", bytes ? `mostBytes is ${bytes}` : ""].filter(Boolean);
             return status === OVERFLOW && limits.length > 0 ? `: ${limits.join(" and ")}` : "";
@@ -569,7 +572,7 @@ class Library {
             [font.at, font.size, index, coordinatesAt, coordinates.length / 2, ...counted(...places), tokens, depth, bytes, drop, ...further];
         const parts = Object.entries(PARTS), room = Array(2 * parts.length + NUMBERS + 5).fill(0);
         const { status, buffer, words } = this.#call(name, [listOf(4, coordinates), ...lists], (...places) => [...given(...places), ...room]);
-        this.#check(status, "subsetter_pdf_font", font, index, glyphs, { tokens, depth, bytes });
+        this.#check(status, name, font, index, glyphs, { tokens, depth, bytes });
         const made = words.slice(-room.length), raw = {};
         const [unitsPerEm, exactAt, exactCount, axesAt, axisCount] = made.splice(-5);
         const axes = numbersOf(4, buffer, axesAt, axisCount).map((it) => String.fromCharCode(it >>> 24, (it >> 16) & 255, (it >> 8) & 255, it & 255));
@@ -978,7 +981,7 @@ class PdfText {
     #show(name, sizes, glyphs, text, options, fault) {
         const known = this.#isVertical ? DIRECTIONS.slice(2) : DIRECTIONS.slice(0, 2);
         const { direction, size: points = 12 } = named(options, ["direction", "size"], "options");
-        const number = DIRECTIONS.indexOf(known[oneOf(direction, known, "direction")]);
+        const number = DIRECTIONS.indexOf(known[oneOf(direction, known, `direction of ${this.#isVertical ? "vertical" : "horizontal"} text`)]);
         if (typeof points !== "number") {
             throw new TypeError(`size must be a number, and not ${kindOf(points)}`);
         }
@@ -1026,10 +1029,7 @@ class PdfText {
     }
 
     shaped(text, glyphs, options) {
-        const wanted = "glyphs must be an iterable of objects with g, cl, ax, ay, dx and dy, as harfbuzzjs has them";
-        if (typeof text !== "string") {
-            throw new TypeError(`a text must be a string, and not ${kindOf(text)}`);
-        }
+        const wanted = "glyphs must be an iterable of objects with g, cl, ax, ay, dx and dy, as harfbuzzjs has them", characters = charactersOf(text);
         const rows = objectsOf(glyphs, wanted).map((it) => {
             if ([it.g, it.cl, ...SHAPED.map((name) => it[name])].includes(undefined)) {
                 throw new TypeError(wanted);
@@ -1037,7 +1037,7 @@ class PdfText {
             return [whole(it.g, 0, WORD_AT_MOST, "g"), whole(it.cl, 0, WORD_AT_MOST, "cl"), ...placesOf(it, SHAPED)];
         });
         const units = Array.from({ length: text.length }, (_, i) => text.charCodeAt(i));
-        const fault = (direction) => this.#fault(rows, charactersOf(text), SHAPED) ?? clusterFaultOf(text, rows.map((row) => row[1]), direction);
+        const fault = (direction) => this.#fault(rows, characters, SHAPED) ?? clusterFaultOf(text, rows.map((row) => row[1]), direction);
         return this.#show("subsetter_show_shaped", [24, 2], rows.flat(), units, options, fault);
     }
 

@@ -62,7 +62,7 @@ test("glyph numbers", () => {
 });
 
 test("options", () => {
-    for (const options of [5, null, "index", true]) {
+    for (const options of [5, null, "index", true, [], new Map([["index", 0]])]) {
         wrongOptions(TypeError, options);
         wrongOptions(TypeError, { limits: options });
         throws(() => subsetter.open(FONT, options), TypeError, "open");
@@ -190,13 +190,15 @@ test("messages say why, and what is wanted", () => {
         ["OverflowError", "overflow occurred: mostBytes is 9", () => subsetter.subset(TTF, [1], { limits: { mostBytes: 9 } })],
         ["OverflowError", "overflow occurred: tokens is 1", () => subsetter.pdfFont(made("made_variable.ttf"), SHOWN, { coordinates: { wght: 650 }, limits: { tokens: 1 } })],
         ["NotPermitted", 'embedding not permitted: OS/2: fsType 0x0002 forbids embedding: if you hold the rights, rights: "held"', () => subsetter.pdfFont(forbidding(2), SHOWN)],
+        ["NotPermitted", 'embedding not permitted: OS/2: fsType 0x0100 forbids subsets: if you hold the rights, rights: "held" of new PdfText', () => new subsetter.PdfText(forbidding(0x100)).font()],
         ["BitmapsAlone", "bitmaps alone in font: sbix: the face has bitmaps and no outlines", () => subsetter.pdfFont(Buffer.from(Buffer.from(TTF).toString("latin1").replace("glyf", "sbix"), "latin1"), SHOWN)],
         ["InvalidText", "invalid text: U+D800 is an unpaired surrogate", () => subsetter.glyphsOf(TTF, "\ud800")],
         ["InvalidText", "invalid text: U+DFFF is an unpaired surrogate", () => subsetter.codesOf([{ glyph: 1, text: "A\udfff" }])],
         ["InvalidText", "invalid text: a text has more than 256 UTF-16 units", () => subsetter.pdfFont(TTF, [...SHOWN, { glyph: 1, text: "\u{1f600}".repeat(129) }])],
-        [TypeError, "a font must be the bytes of a file, an ArrayBuffer or a view of one, and not string", () => subsetter.subset("font.ttf", [1])],
+        [TypeError, "a font must be the bytes of a file, an ArrayBuffer or a view of one (readFileSync(path) and await response.arrayBuffer() have them), and not string", () => subsetter.subset("font.ttf", [1])],
         [TypeError, "glyphs must be an iterable of numbers, as [36, 68] (glyphsOf has those of a text), and not string", () => subsetter.subset(TTF, "AB")],
         [RangeError, "a glyph must be a whole number from 0 to 65535, and not -1", () => subsetter.subset(TTF, [1, -1])],
+        [TypeError, "a glyph (.glyph of what glyphsOf answers) must be a number, and not Object", () => subsetter.subset(TTF, subsetter.glyphsOf(TTF, "A"))],
         [TypeError, 'glyphs with their texts must be an iterable of objects, as [{ glyph: 36, text: "A" }] (glyphsOf makes them of a text), and not string', () => subsetter.pdfFont(TTF, "AB")],
         [TypeError, 'glyphs with their texts must be an iterable of objects, as [{ glyph: 36, text: "A" }] (glyphsOf makes them of a text), and not of Array', () => subsetter.pdfFont(TTF, [[1, "A"]])],
         [TypeError, "a text must be a string, and not null", () => subsetter.pdfFont(TTF, [{ glyph: 1, text: null }])],

@@ -22,13 +22,13 @@ pub enum Call {
     /// [`embed_with_variations`](crate::embed_with_variations).
     #[cfg(feature = "variable-fonts")]
     EmbedWithVariations(Error),
-    /// [`pdf_font`](crate::pdf::pdf_font).
+    /// [`pdf_font`](crate::pdf::pdf_font), or [`Text::font`](crate::pdf::Text::font) with the glyphs of the runs.
     #[cfg(feature = "variable-fonts")]
     PdfFont(FontError),
-    /// [`glyphs_of`](crate::pdf::glyphs_of).
+    /// [`glyphs_of`](crate::pdf::glyphs_of), or [`kinds_of`](crate::pdf::kinds_of) by `error.into()`.
     #[cfg(feature = "variable-fonts")]
     GlyphsOf(FontError),
-    /// [`advances`](crate::pdf::advances).
+    /// [`advances`](crate::pdf::advances), or [`Text::new`](crate::pdf::Text::new) without glyphs.
     #[cfg(feature = "variable-fonts")]
     Advances(Error),
 }

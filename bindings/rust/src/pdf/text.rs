@@ -165,7 +165,7 @@ impl<'a> Text<'a> {
     ///
     /// # Errors
     ///
-    /// Those of [`advances`](super::advances) of all glyphs.
+    /// Those of [`advances`](super::advances) of all glyphs; [`Error::MalformedFont`] also where `maxp` is missing.
     pub fn new(
         data: &'a [u8],
         index: u32,
