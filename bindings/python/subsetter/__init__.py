@@ -662,7 +662,7 @@ def _text(library: ctypes.CDLL, status: int) -> str:
 
 
 class _Asked(NamedTuple):
-    """What a call was given of a font: its number for `subsetter_explain`, the font, the glyphs and the words of the options."""
+    """What a call was given of a font: its number for `subsetter_explain`, the font, the glyphs, the words of the options; what takes rights."""
 
     call: int
     font: Optional[int]
@@ -670,6 +670,7 @@ class _Asked(NamedTuple):
     face: int
     glyphs: array[int]
     words: array[int]
+    of: str = ""
 
 
 def _reason(library: ctypes.CDLL, status: int, asked: _Asked) -> str:
@@ -683,7 +684,7 @@ def _reason(library: ctypes.CDLL, status: int, asked: _Asked) -> str:
     )
     found = out.raw[:length.value].decode("utf-8", "replace") if done == 0 else ""
     if found and _ERRORS[status] is NotPermitted:
-        return f'{found}: if you hold the rights, rights="held"'
+        return f'{found}: if you hold the rights, rights="held"{asked.of}'
     if found.startswith("CFF2") and asked.call in (_SUBSET, _EMBED):
         return f"{found}: coordinates={{}} is the default"
     limits = {"tokens": tokens, "most_bytes": asked.words[4]} if _ERRORS[status] is OverflowError else {}
@@ -1639,7 +1640,7 @@ class PdfText:
             status = self._library.subsetter_make_text_font_by_words(text, words.buffer_info()[0], len(words), ctypes.byref(made))
         try:
             glyphs = array("H", [glyph or 0 for glyph, _ in self.codes if status])
-            _check(self._library, status, _Asked(_PDF_FONT, *self._font, self._index, glyphs, words))
+            _check(self._library, status, _Asked(_PDF_FONT, *self._font, self._index, glyphs, words, " of PdfText"))
             font = PdfFont(made.pdf, _Entries([]), made)
             font.unseen = []
             return font
