@@ -45,7 +45,7 @@ pub record IsAgain (old new : Cff) (glyph i : ℕ) : Type 0 where
   pub drawing : (tokens depth : ℕ) → glyph_trace new tokens depth i ≡ glyph_trace old tokens depth glyph
   pub advance : advance_in new i ≡ advance_in old glyph
 
--- endchar alone, behind a width or without one
+-- endchar alone, after a width or without one
 abbrev pub blank_trace : Option CharStringNumber → Trace
 blank_trace width = record { events = record { operator = one_byte endchar; operands = number_list width; mask = [] } ∷ []; left = [] }
 

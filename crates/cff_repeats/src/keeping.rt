@@ -1,4 +1,4 @@
-//! The glyphs of the new table, one behind the other.
+//! The glyphs of the new table, one after the other.
 
 ghost use Rattle.std.specs.Prelude.{◌≡◌, ◌++◌, OnOk, IfOk, IfErr};
 ghost use Rattle.subsetter_base.specs.Bytes.{IsBytes};

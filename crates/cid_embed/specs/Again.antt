@@ -51,7 +51,7 @@ requests_less names glyph_names font =
     record { bytes = font.bytes; index = font.index; extras = record { hinting = font.extras.hinting; names = names && font.extras.names; glyph_names = glyph_names && font.extras.glyph_names } }
 
 -- what is left out of a subset of a subset is left out of the first font; so a subset without names of a subset is one of the first font
--- hinting isn't among it: an outline that had its padding in the first subset keeps it behind what is left out, where the first font's has none
+-- hinting isn't among it: an outline that had its padding in the first subset keeps it after what is left out, where the first font's has none
 abbrev pub ComposesLessAfresh : Type 0
 ComposesLessAfresh = (names glyph_names : Bool) (tokens depth : ℕ) (font : Font) (glyphs out more again : List ℕ) → IsBytes font.bytes → 1 ≤ depth → 1 ≤ length more
     → (first : IsSubset tokens depth font glyphs out) (second : IsSubset tokens depth (requests_less names glyph_names (as_font out)) more again) → KeepsFirst tokens depth (requests_less names glyph_names font) first.keeps.order more second.keeps.order again

@@ -29,6 +29,6 @@ unfoldable pub by_groups : List ℕ → ℕ → ℕ → ℕ → Option ℕ
 by_groups table zero at c = None
 by_groups table (suc n) at c = option_and_then (λ bytes. let g = group_of bytes in if has g c then in_range (g.glyph + (c - g.start)) else by_groups table n (at + 12) c) (range table at 12)
 
--- the glyph of a character by a table of format 12: numGroups stands at byte 12, the groups behind it
+-- the glyph of a character by a table of format 12: numGroups stands at byte 12, the groups after it
 abbrev pub glyph_by_groups : List ℕ → ℕ → Option ℕ
 glyph_by_groups table c = option_and_then (λ n. by_groups table n 16 c) (number table 12 4)

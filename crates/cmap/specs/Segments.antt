@@ -11,7 +11,7 @@ segment_count table = option_map (λ twice. twice / 2) (number table 6 2)
 abbrev pub end_code : List ℕ → ℕ → Option ℕ
 end_code table i = number table (14 + 2 * i) 2
 
--- startCode, idDelta and idRangeOffset of segment i of n: lists that follow, behind two bytes of padding
+-- startCode, idDelta and idRangeOffset of segment i of n: lists that follow, after two bytes of padding
 abbrev pub start_code : List ℕ → ℕ → ℕ → Option ℕ
 start_code table n i = number table (16 + 2 * n + 2 * i) 2
 
@@ -30,7 +30,7 @@ shifted glyph delta = (glyph + delta) % 65536
 abbrev pub listed : ℕ → ℕ → Option ℕ
 listed glyph delta = if glyph == 0 then None else Some (shifted glyph delta)
 
--- the glyph of a character that stands at a distance from the start of its segment: by idDelta alone where idRangeOffset is 0, and else by a number that stands so far behind that offset
+-- the glyph of a character that stands at a distance from the start of its segment: by idDelta alone where idRangeOffset is 0, and else by a number that stands so far after that offset
 abbrev pub glyph_at : List ℕ → ℕ → ℕ → ℕ → ℕ → ℕ → Option ℕ
 glyph_at table place offset delta c start =
     if offset == 0 then Some (shifted c delta)

@@ -28,7 +28,7 @@ unfoldable pub table_from : ℕ → List ℕ → ℕ → ℕ → Option (List �
 table_from format cmap zero at = None
 table_from format cmap (suc n) at = first_of (unicode_table format cmap at) (table_from format cmap n (at + 8))
 
--- the first such table of a `cmap`: numTables stands at byte 2, the encoding records behind it
+-- the first such table of a `cmap`: numTables stands at byte 2, the encoding records after it
 abbrev pub table_of_format : ℕ → List ℕ → Option (List ℕ)
 table_of_format format cmap = option_and_then (λ n. table_from format cmap n 4) (number cmap 2 2)
 

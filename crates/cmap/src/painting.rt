@@ -15,7 +15,7 @@ use subsetter_base::read::Reader;
 /// One more than the last character of Unicode.
 const CHARACTERS: usize = 0x110000;
 
-/// The places of all characters and one behind them, each open.
+/// The places of all characters and one after them, each open.
 fn all_open(alloc: Global) -> Result<Vec<u32>, AllocError>
     ensures len { IfOk result (λ v. length v.items ≡ characters + 1) }
     ensures open { IfOk result (λ v. (k : ℕ) → k < characters + 1 → slice_index v.items k ≡ k) }

@@ -8,7 +8,7 @@ use std::fmt;
 pub enum Failure {
     /// The line is no row: its kind isn't known, or its words aren't as its kind has them.
     Row,
-    /// The row names a font that isn't in front of it.
+    /// The row names a font that isn't before it.
     Font,
     /// The arguments aren't as the usage says.
     Usage,

@@ -1,4 +1,4 @@
-//! Runs tables of worked rows: `dev_rows --subset FILE`, `dev_rows --instance FILE`, or both, one behind the other.
+//! Runs tables of worked rows: `dev_rows --subset FILE`, `dev_rows --instance FILE`, or both, one after the other.
 //!
 //! The head of each table, `data/subset.txt` and `data/instance.txt`, says what each kind of row holds.
 //!
@@ -7,7 +7,7 @@
 //! or what a call answered in place of what the row says. A line of the file that is no row, or names a font that isn't in front
 //! of it, is reported with its number. The last line counts the rows.
 //!
-//! Of a row of instances the calls below `instance` are printed: its name, and behind it lists of numbers, bytes in hexadecimal
+//! Of a row of instances the calls below `instance` are printed: its name, and after it lists of numbers, bytes in hexadecimal
 //! digits, `none`, or `error` and the text of the error. `stdout` has what is to be printed; its values come from outside. A line
 //! that is no row ends the run with its number.
 //!

@@ -29,12 +29,12 @@ module _ (glyf loca : List ℕ) (format g : ℕ) where
       ap (λ (b : Bool). cond b (wrong_components glyf loca format g k c.after) None) m
       ∙ ap (λ (x : Option Reason). or_else x (cond (has_more c.flags) (wrong_components glyf loca format g k c.after) None)) w ∙ first_is n k bytes c total is e h
 
--- a component that is cut, and none behind it
+-- a component that is cut, and none after it
 pub none_reached : (n : ℕ) (seen bytes total : List ℕ) → component_at bytes ≡ None → reached_by n seen bytes ≡ total → seen ≡ total
 none_reached zero seen bytes total e h = h
 none_reached (suc n) seen bytes total e h = sym (ap (reached_first seen (reached_by n)) e) ∙ h
 
--- one that is there, and those behind it, if there are any
+-- one that is there, and those after it, if there are any
 pub next_reached : (n k : ℕ) (seen new bytes : List ℕ) (c : Component) (more : Bool) (total : List ℕ) → n ≡ suc k → Some c ≡ component_at bytes → new ≡ reached seen c.glyph → more ≡ has_more c.flags
     → reached_by n seen bytes ≡ total → cond more (reached_by k new c.after) new ≡ total
 next_reached n k seen new bytes c more total is e r m h =

@@ -18,12 +18,12 @@ none : (n : ℕ) (bytes : List ℕ) → first_string bytes ≡ None → pascal_s
 unfolding pascal_strings
 none n bytes h = rw h refl
 
-pub string_next : (front : List (Bor (List ℕ))) (n i : ℕ) (rest : List ℕ) (s behind : Bor (List ℕ)) (total : List (List ℕ)) → i < n → first_string rest ≡ Some (s.now, behind.now) → map (λ x. x.now) front ++ pascal_strings (n - i) rest ≡ total → map (λ x. x.now) (front ++ s ∷ []) ++ pascal_strings (n - (i + 1)) behind.now ≡ total
-string_next front n i rest s behind total less h t =
+pub string_next : (front : List (Bor (List ℕ))) (n i : ℕ) (rest : List ℕ) (s following : Bor (List ℕ)) (total : List (List ℕ)) → i < n → first_string rest ≡ Some (s.now, following.now) → map (λ x. x.now) front ++ pascal_strings (n - i) rest ≡ total → map (λ x. x.now) (front ++ s ∷ []) ++ pascal_strings (n - (i + 1)) following.now ≡ total
+string_next front n i rest s following total less h t =
     let m = map-append (λ (x : Bor (List ℕ)). x.now) front (s ∷ []) in
     let now = map (λ (x : Bor (List ℕ)). x.now) front in
-    let left = pascal_strings (n - (i + 1)) behind.now in
-    let all = ap (λ (k : ℕ). pascal_strings k rest) (one_more n i less) ∙ here (n - (i + 1)) rest (s.now, behind.now) h in
+    let left = pascal_strings (n - (i + 1)) following.now in
+    let all = ap (λ (k : ℕ). pascal_strings k rest) (one_more n i less) ∙ here (n - (i + 1)) rest (s.now, following.now) h in
     ap (λ (l : List (List ℕ)). l ++ left) m ∙ (append_assoc now (s.now ∷ []) left ∙ (ap (λ (l : List (List ℕ)). now ++ l) (sym all) ∙ t))
 
 pub string_cut : (front : List (Bor (List ℕ))) (n i : ℕ) (rest : List ℕ) (total : List (List ℕ)) → i < n → first_string rest ≡ None → map (λ x. x.now) front ++ pascal_strings (n - i) rest ≡ total → map (λ x. x.now) front ≡ total

@@ -3,7 +3,7 @@ use Rattle.std.specs.Prelude.{ℕ, zero, suc, ◌+◌, ◌==◌, nat_le, if◌th
 use Rattle.std.specs.Option.{option_map, option_and_then, option_map_or}
 use Rattle.subsetter_base.specs.Bytes.{number}
 
--- SIDs in a row: the first, how many more there are, how many of them were taken, and the bytes behind
+-- SIDs in a row: the first, how many more there are, how many of them were taken, and the bytes after
 pub record Run : Type 0 where
   pub first : ℕ
   pub left : ℕ

@@ -14,13 +14,13 @@ unfoldable pub pascal_strings : ℕ → List ℕ → List (List ℕ)
 pascal_strings zero bytes = []
 pascal_strings (suc n) bytes = option_map_or (λ s. s.0 ∷ pascal_strings n s.1) (first_string bytes) []
 
--- the bytes behind the indexes, which the count at byte 32 says
-abbrev pub behind_indexes : List ℕ → List ℕ
-behind_indexes post = option_map_or (λ count. drop (34 + 2 * count) post) (number post 32 2) []
+-- the bytes after the indexes, which the count at byte 32 says
+abbrev pub past_indexes : List ℕ → List ℕ
+past_indexes post = option_map_or (λ count. drop (34 + 2 * count) post) (number post 32 2) []
 
 -- the font's own names: as an index has 16 bits, and those below 258 are of the Macintosh, 65,278 can be named
 abbrev pub own_names : List ℕ → List (List ℕ)
-own_names post = pascal_strings 65278 (behind_indexes post)
+own_names post = pascal_strings 65278 (past_indexes post)
 
 -- the name of an index, by the names of the Macintosh and the font's own
 abbrev pub name_of_index : List (List ℕ) → List (List ℕ) → ℕ → List ℕ

@@ -2,7 +2,7 @@
 
 ghost use Rattle.std.specs.Prelude.{◌≡◌, [], map, drop, get_or, IfOk};
 ghost use Rattle.std.specs.Option.{option_map};
-ghost use Rattle.glyph_names.specs.Post.{first_string, pascal_strings, behind_indexes, own_names, name_of_index, name_by_index, name_by_version, name_by_names};
+ghost use Rattle.glyph_names.specs.Post.{first_string, pascal_strings, past_indexes, own_names, name_of_index, name_by_index, name_by_version, name_by_names};
 
 use std::alloc::{AllocError, Global};
 use subsetter_base::read::Reader;
@@ -31,18 +31,18 @@ fn strings_in(alloc: Global, most: usize, bytes: &[u8]) -> Result<Vec<&[u8]>, Al
     let mut strings = Vec::new(alloc);
     let mut rest = bytes;
     for i in 0..most {
-        let Some((string, behind)) = first_string(rest) else {
+        let Some((string, following)) = first_string(rest) else {
             return Ok(strings);
         };
         strings.push(string)?;
-        rest = behind;
+        rest = following;
     }
     Ok(strings)
 }
 
-/// The bytes behind the indexes.
-fn behind_indexes(post: &[u8]) -> &[u8]
-    ensures { result.now ≡ behind_indexes post.now }
+/// The bytes after the indexes.
+fn past_indexes(post: &[u8]) -> &[u8]
+    ensures { result.now ≡ past_indexes post.now }
 {
     match num_glyphs(post) {
         Some(count) => post.get(INDEXES + 2 * usize::from(count)..).unwrap_or(&[]),
@@ -54,7 +54,7 @@ fn behind_indexes(post: &[u8]) -> &[u8]
 pub fn own_names(alloc: Global, post: &[u8]) -> Result<Vec<&[u8]>, AllocError>
     ensures { IfOk result (λ v. map (λ s. s.now) v.items ≡ own_names post.now) }
 {
-    strings_in(alloc, OWN_NAMES, behind_indexes(post))
+    strings_in(alloc, OWN_NAMES, past_indexes(post))
 }
 
 /// A name of the Macintosh; an empty one where it has no such number.

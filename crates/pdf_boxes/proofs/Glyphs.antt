@@ -3,7 +3,7 @@ use Rattle.std.proofs.Common.{◌≡◌, ℕ, suc, ◌+◌, ◌-◌, ◌<◌, Li
 use Rattle.pdf_glyphs.specs.Boxes.{joined}
 use Rattle.pdf_boxes.specs.Kept.{boxes_from, glyph_box}
 
--- none, from behind the last glyph on
+-- none, from after the last glyph on
 pub kept_begun : (entries : List (Option (List ℕ))) (count : ℕ) → boxes_from entries count (count - count) ≡ None
 kept_begun entries count = let none : count - count ≡ 0 = omega arith in ap (boxes_from entries count) none
 

@@ -28,7 +28,7 @@ entry_is : (units : ℕ) (bytes rest : List ℕ) (e : Entry) (xs : List Number) 
     → option_or (stem_of units (record { operator = e.operator; operands = xs })) (stem_in units (entries rest)) ≡ stem_in units (entries bytes)
 entry_is units bytes rest e xs is few = rw (entries_are bytes rest e is, few) (ap (λ (o : Option ℕ). option_or o (stem_in units (entries rest))) (two_say units e.operator e.operands))
 
--- the entry in front, else those behind it
+-- the entry in front, else those after it
 pub stem_next : (units : ℕ) (bytes operator rest : List ℕ) (limit : ℕ) (xs : List Number) → operator_part (entry_at bytes) ≡ Some (operator, rest) → limit ≡ 2 → Some xs ≡ operands_at limit bytes
     → option_or (stem_of units (record { operator = operator; operands = xs })) (stem_in units (entries rest)) ≡ stem_in units (entries bytes)
 stem_next units bytes operator rest limit xs h room shown =

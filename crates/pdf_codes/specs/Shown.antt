@@ -15,7 +15,7 @@ uses_of shown = map use_of shown
 abbrev pub has_long_text : List Used → Bool
 has_long_text us = list_any (λ u. is_long_text u.units) us
 
--- the texts, one behind the other
+-- the texts, one after the other
 abbrev pub all_units : List Used → List ℕ
 all_units [] = []
 all_units (u ∷ us) = u.units ++ all_units us

@@ -47,7 +47,7 @@ pub fn glyphs_of(alloc: Global, shown: &[Shown<'_>]) -> Result<Vec<u16>, Error>
     Ok(glyphs)
 }
 
-/// The texts in UTF-16, one behind the other.
+/// The texts in UTF-16, one after the other.
 #[tactic(auto, using(crate::proofs::CmapsLaws::Written::one_more))]
 pub fn units_of_all(alloc: Global, shown: &[Shown<'_>]) -> Result<Vec<u16>, Error>
     ensures ok { IfOk result (λ units. units.items ≡ all_units (uses_of shown.now)) }
@@ -72,7 +72,7 @@ fn entry_of<'a>(shown: Shown<'_>, units: &'a [u16]) -> Entry<'a>
 }
 
 /// Each glyph in use with the units of its text.
-#[tactic(auto, using(crate::proofs::ShownSteps::fits, crate::proofs::ShownSteps::text_here, crate::proofs::ShownSteps::texts_behind))]
+#[tactic(auto, using(crate::proofs::ShownSteps::fits, crate::proofs::ShownSteps::text_here, crate::proofs::ShownSteps::texts_after))]
 pub fn entries_of<'a>(
     alloc: Global,
     shown: &[Shown<'_>],
@@ -85,9 +85,9 @@ pub fn entries_of<'a>(
     let mut entries = Vec::with_capacity(alloc, shown.len())?;
     let mut rest = units;
     for entry in shown {
-        let (text, behind) = rest.split_at(count_of(entry.text, rest));
+        let (text, following) = rest.split_at(count_of(entry.text, rest));
         entries.push(entry_of(*entry, text))?;
-        rest = behind;
+        rest = following;
     }
     Ok(entries)
 }

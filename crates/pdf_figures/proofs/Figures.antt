@@ -17,7 +17,7 @@ use Rattle.pdf_figures.specs.Figures.{Figured, aside, at_place, beside, can_be_o
 use Rattle.pdf_figures.specs.Laws.{moved_by, shown, shown_at, texts_of, texts_of_items}
 use Rattle.pdf_figures.proofs.Cuts.{both, text_in, x_of, y_of}
 
--- ---- figures one behind the other
+-- ---- figures one after the other
 
 pub texts_append : (fs gs : List Figured) → texts_of (fs ++ gs) ≡ texts_of fs ++ texts_of gs
 texts_append fs gs = flat_map-append (λ (f : Figured). option_to_list f.text) fs gs

@@ -153,12 +153,12 @@ abbrev pub wide_count : List ℕ → ℕ
 wide_count [] = 0
 wide_count (c ∷ cs) = if is_mark c then wide_count cs else suc (wide_count cs)
 
--- how far the pen goes on at a part, with so many behind it: at the last one all the way
+-- how far the pen goes on at a part, with so many after it: at the last one all the way
 abbrev pub going : ℕ → ℤ → ℕ → ℤ
 going zero way part = way
 going (suc more) way part = pos part
 
--- the part of a character that is no mark, with so many of these behind it: the ink, and an equal part of what is left of the advance
+-- the part of a character that is no mark, with so many of these after it: the ink, and an equal part of what is left of the advance
 abbrev pub part_of : Figured → ℕ → ℕ → Figured
 part_of f width more = record { ink = own (ink_parts f.ink) (width / (more + 1)); text = f.text; x_advance = going more f.x_advance (width / (more + 1)); y_advance = f.y_advance; x_offset = f.x_offset; y_offset = f.y_offset }
 

@@ -1,4 +1,4 @@
--- Own glyphs by number: behind the glyphs of the font.
+-- Own glyphs by number: after the glyphs of the font.
 use Rattle.std.specs.Prelude.{ℕ, ◌-◌, Bool, true, nat_lt, if◌then◌else◌, List, [], get_or}
 use Rattle.pdf_runs.specs.declared.items.Item.{Item}
 use Rattle.pdf_figures.specs.Figures.{Figured, Ink, glyph, own}

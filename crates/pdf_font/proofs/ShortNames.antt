@@ -42,8 +42,8 @@ chosen_size false room name e h = let s = cut_size room name in omega arith
 short_size : (room : ℕ) (name : List ℕ) → 10 ≤ room → length (short_name room name) ≤ room
 short_size room name h = chosen_size (nat_le (length name) room) room name refl h
 
-whole_size : (name behind : List ℕ) → length name ≤ 127 - length behind → length behind ≤ 127 → length (name ++ behind) ≤ 127
-whole_size name behind h g = omega (arith, length-append name behind)
+whole_size : (name following : List ℕ) → length name ≤ 127 - length following → length following ≤ 127 → length (name ++ following) ≤ 127
+whole_size name following h g = omega (arith, length-append name following)
 
 -- ---- the name of the CMap
 
@@ -65,7 +65,7 @@ names_are_short font settings options us f p =
     let vertical = is_vertical options.direction in
     let few : length cmap ≤ 10 =
     subst (λ (o : Option (List ℕ)). length (unwrap_or o (identity_name vertical)) ≤ 10) (sym p.made.filled.coded.encoding_name) (cmap_size (are_cids (pairs_with f.codes.items f.cids.items)) vertical (code_lines (pairs_of_codes (pairs_with f.codes.items f.cids.items)))) in
-    let behind : length (name_end f.kind cmap) ≤ 11 = end_size f.kind cmap few in
+    let following : length (name_end f.kind cmap) ≤ 11 = end_size f.kind cmap few in
     let short = short_size (name_room f.kind cmap) (font_name (tag_in options.tag f.program.items) (name_there (stored font) settings)) (omega arith) in
     let name : length f.descriptor.font_name.items ≤ name_room f.kind cmap = omega (arith, ap length p.made.filled.name, short) in
     whole_size f.descriptor.font_name.items (name_end f.kind cmap) name (omega arith)

@@ -62,9 +62,9 @@ anew find advances new e =
     let m = file_made (present (rows (tables_with find d.0 b.0))) new d.1.1 in
     record { cff = a.0; cff_is = a.1.0; wide = b.0; wide_is = b.1.0; there = c.0; there_is = c.1.0; head = d.0; head_is = d.1.0; fit = m.0; is = m.1 }
 
--- ---- unitsPerEm is behind the adjustment
-units_behind : (w : ℕ) (h : List ℕ) → 12 ≤ length h → units_per_em (with_adjustment w h) ≡ number (drop 12 h) 6 2
-units_behind w h large =
+-- ---- unitsPerEm is after the adjustment
+units_after : (w : ℕ) (h : List ℕ) → 12 ≤ length h → units_per_em (with_adjustment w h) ≡ number (drop 12 h) 6 2
+units_after w h large =
     let front : List ℕ = take 8 h ++ to_be_bytes w32 w in
     let at : 18 ≡ length front + 6 = omega (arith, length-append (take 8 h) (to_be_bytes w32 w), length-take 8 h) in
     ap (λ (n : ℕ). number (front ++ drop 12 h) n 2) at ∙ ap (option_map be) (range-right front (drop 12 h) 6 2)
@@ -77,8 +77,8 @@ same_units v w first there head large is e =
     ∙ ap units_per_em (adjusted_again w 0 there u.0)
     ∙ ap (λ (l : List ℕ). units_per_em (with_adjustment w l)) is
     ∙ ap units_per_em (adjusted_again w v first large)
-    ∙ units_behind w first large
-    ∙ sym (units_behind v first large)
+    ∙ units_after w first large
+    ∙ sym (units_after v first large)
     ∙ ap units_per_em (sym is)
 
 module _ (find : List ℕ → Option (List ℕ)) (advances new : List ℕ) (a : IsAnew find advances new) where

@@ -146,7 +146,7 @@ fn front_of(bytes: &[u8], size: usize) -> &[u8]
 }
 
 /// The front of a name, and six letters that it determines, in so many bytes.
-#[tactic(auto, using(pdf_text::proofs::Pieces::four_behind_nothing))]
+#[tactic(auto, using(pdf_text::proofs::Pieces::four_after_nothing))]
 fn cut_name(alloc: Global, room: usize, name: &[u8]) -> Result<Vec<u8>, Error>
     ensures ok { IfOk result (λ t. t.items ≡ cut_name room name.now) }
     ensures err { IfErr result (λ e. e ≡ OutOfMemory) }

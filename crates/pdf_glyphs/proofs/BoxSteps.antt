@@ -14,7 +14,7 @@ box_is a a' b b' c c' d d' p q r s = ap (λ (v : ℤ). box v b c d) p ∙ ap (λ
 pub edge_is : (f : ℤ → ℤ → ℤ) (a b a' b' r r' : ℤ) → r' ≡ r → r ≡ f a' b' → a' ≡ a → b' ≡ b → r' ≡ f a b
 edge_is f a b a' b' r r' passed is first second = passed ∙ is ∙ ap (λ (v : ℤ). f v b') first ∙ ap (f a) second
 
--- none, from behind the last glyph on
+-- none, from after the last glyph on
 pub box_begun : (t : Outlines) (count : ℕ) → boxes_from t count (count - count) ≡ None
 box_begun t count = let none : count - count ≡ 0 = omega arith in ap (boxes_from t count) none
 

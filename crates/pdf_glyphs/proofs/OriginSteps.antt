@@ -70,7 +70,7 @@ origin_next vorg o n i g was now total lt is step h =
     ∙ ap (λ (m : ℕ). option_or was (origin_from vorg i m g)) (sym (left n i lt))
     ∙ h
 
--- ---- before the first record, and behind the last one
+-- ---- before the first record, and after the last one
 
 nothing : (n k : ℕ) → get_or (replicate {A = Option ℤ} n None) k None ≡ None
 nothing zero k = refl

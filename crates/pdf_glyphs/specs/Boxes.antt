@@ -23,7 +23,7 @@ is_short head = option_map_or (λ n. n == 0) (field head 50 2) true
 abbrev pub entry : Outlines → ℕ → Option ℕ
 entry t k = if is_short t.head then option_map (λ half. 2 * half) (field t.loca (2 * k) 2) else field t.loca (4 * k) 4
 
--- xMin, yMin, xMax and yMax of the header at an offset, behind numberOfContours
+-- xMin, yMin, xMax and yMax of the header at an offset, after numberOfContours
 abbrev pub box_at : Option (List ℕ) → ℕ → Option GlyphBox
 box_at glyf at =
     option_and_then (λ a.

@@ -40,7 +40,7 @@ pub record Origin : Type 0 where
   pub glyph : ℕ
   pub y : ℤ
 
--- record number k behind the header, if the table has it
+-- record number k after the header, if the table has it
 abbrev pub origin_at : Option (List ℕ) → ℕ → Option Origin
 origin_at vorg k = option_and_then (λ g. option_map (λ y. record { glyph = g; y = y }) (signed_field vorg (4 * k + 10))) (field vorg (4 * k + 8) 2)
 

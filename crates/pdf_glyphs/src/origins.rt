@@ -15,7 +15,7 @@ use subsetter_base::{Error, GlyphRemapper};
 const DEFAULT_VERT_ORIGIN_Y: usize = 4;
 /// numVertOriginYMetrics, two bytes.
 const NUM_VERT_ORIGIN_Y_METRICS: usize = 6;
-/// Where the first record's glyphIndex is, two bytes, and behind it vertOriginY.
+/// Where the first record's glyphIndex is, two bytes, and after it vertOriginY.
 const GLYPH_INDEX: usize = 8;
 
 const VERT_ORIGIN_Y: usize = 10;

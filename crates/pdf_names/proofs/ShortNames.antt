@@ -131,16 +131,16 @@ shortened_passes front text f t = chosen (nat_le (length text) 120) text (cut fr
 
 -- ---- its length
 
-behind : List ℕ → List ℕ
-behind text = codes "-" ++ (tag_of text ++ codes "...")
+following : List ℕ → List ℕ
+following text = codes "-" ++ (tag_of text ++ codes "...")
 
-ten : (text : List ℕ) → length (behind text) ≡ 10
-unfolding behind
+ten : (text : List ℕ) → length (following text) ≡ 10
+unfolding following
 ten text = refl
 
 cut_size : (front text : List ℕ) → length (cut front text) ≡ length (take 110 front) + 10
-unfolding behind
-cut_size front text = let b = ten text in omega (arith, length-append (take 110 front) (behind text))
+unfolding following
+cut_size front text = let b = ten text in omega (arith, length-append (take 110 front) (following text))
 
 cut_most : (front text : List ℕ) → length (cut front text) ≤ 120
 cut_most front text = let s = cut_size front text in let t : length (take 110 front) ≤ 110 = simp length-take (omega arith) in omega arith

@@ -18,21 +18,21 @@ use Rattle.subsetter_base.specs.Texts.{or_else}
 abbrev pub is_coordinate : Axis → List (Tag × ℤ) → Option ℕ → Bool
 is_coordinate a settings bits = option_map_or (λ b. int_eq (cast_signed w32 b) (clamped a settings)) bits false
 
--- the bytes behind the coordinates of all axes, four bytes each, where they are the font's
-abbrev pub behind_coordinates : List Axis → List (Tag × ℤ) → List ℕ → Option (List ℕ)
-behind_coordinates [] settings bytes = Some bytes
-behind_coordinates (a ∷ axes) settings bytes = if is_coordinate a settings (number bytes 0 4) then behind_coordinates axes settings (drop 4 bytes) else None
+-- the bytes after the coordinates of all axes, four bytes each, where they are the font's
+abbrev pub after_coordinates : List Axis → List (Tag × ℤ) → List ℕ → Option (List ℕ)
+after_coordinates [] settings bytes = Some bytes
+after_coordinates (a ∷ axes) settings bytes = if is_coordinate a settings (number bytes 0 4) then after_coordinates axes settings (drop 4 bytes) else None
 
--- a record has subfamilyNameID, flags, the coordinates, and may have postScriptNameID behind them
-abbrev pub behind_flags : List Axis → List (Tag × ℤ) → List ℕ → Option (List ℕ)
-behind_flags axes settings bytes = behind_coordinates axes settings (drop 4 bytes)
+-- a record has subfamilyNameID, flags, the coordinates, and may have postScriptNameID after them
+abbrev pub past_flags : List Axis → List (Tag × ℤ) → List ℕ → Option (List ℕ)
+past_flags axes settings bytes = after_coordinates axes settings (drop 4 bytes)
 
 -- the first of so many records of one size, from a place on, that has the font's coordinates
 abbrev pub record_from : List Axis → List (Tag × ℤ) → List ℕ → ℕ → ℕ → ℕ → Option (List ℕ)
 record_from axes settings fvar size zero at = None
-record_from axes settings fvar size (suc n) at = option_and_then (λ bytes. if is_some (behind_flags axes settings bytes) then Some bytes else record_from axes settings fvar size n (at + size)) (range fvar at size)
+record_from axes settings fvar size (suc n) at = option_and_then (λ bytes. if is_some (past_flags axes settings bytes) then Some bytes else record_from axes settings fvar size n (at + size)) (range fvar at size)
 
--- axesArrayOffset, axisCount, axisSize, instanceCount and instanceSize; the records of instances stand behind those of the axes
+-- axesArrayOffset, axisCount, axisSize, instanceCount and instanceSize; the records of instances stand after those of the axes
 unfoldable pub record_in : List Axis → List (Tag × ℤ) → List ℕ → Option (List ℕ)
 record_in axes settings fvar = do
   at ← number fvar 4 2
@@ -50,7 +50,7 @@ is_own id = id == 6 || (nat_le 256 id && nat_lt id 32768)
 
 -- its ID, if the record has it
 abbrev pub own_id : List Axis → List (Tag × ℤ) → List ℕ → Option ℕ
-own_id axes settings bytes = option_and_then (λ rest. number rest 0 2) (behind_flags axes settings bytes)
+own_id axes settings bytes = option_and_then (λ rest. number rest 0 2) (past_flags axes settings bytes)
 
 -- the PostScript name of an ID
 unfoldable pub own_name : Option (List ℕ) → Option ℕ → List ℕ

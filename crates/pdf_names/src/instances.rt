@@ -4,7 +4,7 @@ ghost use Rattle.std.specs.Prelude.{◌≡◌, ◌++◌, is_some, IfOk, IfErr};
 ghost use Rattle.std.specs.Option.{option_and_then, option_copied};
 ghost use Rattle.subsetter_base.specs.Bytes.{number};
 ghost use Rattle.subsetter_base.specs.declared.error.Error.TheVariants.{OutOfMemory};
-ghost use Rattle.pdf_names.specs.Instances.{behind_coordinates, behind_flags, hyphenated, instance_name, is_coordinate, is_own, names_or, own_id, own_name, record_from, record_in, subfamily};
+ghost use Rattle.pdf_names.specs.Instances.{after_coordinates, past_flags, hyphenated, instance_name, is_coordinate, is_own, names_or, own_id, own_name, record_from, record_in, subfamily};
 
 use crate::letters::plain_name;
 use pdf_values::table_name;
@@ -26,13 +26,13 @@ fn is_coordinate(axis: Axis, settings: &[(Tag, i32)], bytes: &[u8]) -> bool
     }
 }
 
-/// The bytes behind the coordinates of all axes, where they are the font's.
-fn behind_coordinates<'a>(
+/// The bytes after the coordinates of all axes, where they are the font's.
+fn after_coordinates<'a>(
     axes: &[Axis],
     settings: &[(Tag, i32)],
     bytes: &'a [u8],
 ) -> Option<&'a [u8]>
-    ensures { option_copied result ≡ behind_coordinates axes.now settings.now bytes.now }
+    ensures { option_copied result ≡ after_coordinates axes.now settings.now bytes.now }
 {
     let mut rest = bytes;
     for axis in axes {
@@ -44,18 +44,18 @@ fn behind_coordinates<'a>(
     Some(rest)
 }
 
-/// The bytes behind the coordinates of a record.
-fn behind_flags<'a>(axes: &[Axis], settings: &[(Tag, i32)], bytes: &'a [u8]) -> Option<&'a [u8]>
-    ensures { option_copied result ≡ behind_flags axes.now settings.now bytes.now }
+/// The bytes after the coordinates of a record.
+fn past_flags<'a>(axes: &[Axis], settings: &[(Tag, i32)], bytes: &'a [u8]) -> Option<&'a [u8]>
+    ensures { option_copied result ≡ past_flags axes.now settings.now bytes.now }
 {
-    behind_coordinates(axes, settings, after_four(bytes))
+    after_coordinates(axes, settings, after_four(bytes))
 }
 
 /// Whether a record has the font's coordinates.
 fn is_there(axes: &[Axis], settings: &[(Tag, i32)], bytes: &[u8]) -> bool
-    ensures { result ≡ is_some (behind_flags axes.now settings.now bytes.now) }
+    ensures { result ≡ is_some (past_flags axes.now settings.now bytes.now) }
 {
-    behind_flags(axes, settings, bytes).is_some()
+    past_flags(axes, settings, bytes).is_some()
 }
 
 /// The first of so many records that has the font's coordinates.
@@ -105,7 +105,7 @@ fn is_own(id: u16) -> bool
 fn own_id(axes: &[Axis], settings: &[(Tag, i32)], bytes: &[u8]) -> Option<u16>
     ensures { result ≡ own_id axes.now settings.now bytes.now }
 {
-    let rest = behind_flags(axes, settings, bytes)?;
+    let rest = past_flags(axes, settings, bytes)?;
     Reader::new(rest).read::<u16>()
 }
 

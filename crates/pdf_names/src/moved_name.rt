@@ -57,7 +57,7 @@ fn front_of(bytes: &[u8]) -> &[u8]
 }
 
 /// The front of a prefix, and six letters that a text determines.
-#[tactic(auto, using(pdf_text::proofs::Pieces::four_behind_nothing))]
+#[tactic(auto, using(pdf_text::proofs::Pieces::four_after_nothing))]
 fn cut_name(alloc: Global, front: &[u8], text: &[u8]) -> Result<Vec<u8>, Error>
     ensures ok { IfOk result (λ t. t.items ≡ take 110 front.now ++ (codes "-" ++ (tag_of text.now ++ codes "..."))) }
     ensures err { IfErr result (λ e. e ≡ OutOfMemory) }

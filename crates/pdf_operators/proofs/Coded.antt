@@ -66,7 +66,7 @@ pair_figure Blank s = refl
 pub figure_found : (pairs : List Pair) (p : Piece) → is_some (index_by same pairs (pair_of p)) ≡ true → figure_in pairs (code_of pairs (pair_of p)) ≡ p.figure
 figure_found pairs p s = ap (λ (q : Pair). q.figure) (pair_found pairs p s) ∙ pair_figure p.figure p.says
 
--- ---- pieces, one behind the other
+-- ---- pieces, one after the other
 
 module _ {X : Type 0} (P : X → Type 0) where
   pub All-front : (xs ys : List X) → All P (xs ++ ys) → All P xs

@@ -64,7 +64,7 @@ word_by : (b : Bool) (w : List (List Item)) → joined (if b then singles w else
 word_by true w = singles_joined w
 word_by false w = append-nil w
 
--- one behind the other the parts are the clusters
+-- one after the other the parts are the clusters
 pub parts_joined : (d : Direction) (cs : List (List Item)) → joined (parts d cs) ≡ cs
 parts_joined LeftToRight cs =
     joined_twice (λ (g : List (List Item)). g) word_parts (words cs)

@@ -6,7 +6,7 @@ use lib.IntN.{+ℤ_assoc}
 use Rattle.pdf_runs.specs.declared.items.Item.{Item}
 use Rattle.pdf_runs.specs.Laws.{total}
 use Rattle.pdf_operators.specs.declared.places.Advance.{Advance}
-use Rattle.pdf_operators.specs.Pens.{advance_of, are_pens, pen_behind}
+use Rattle.pdf_operators.specs.Pens.{advance_of, are_pens, pen_past}
 use Rattle.pdf_operators.specs.Places.{fits}
 
 both : (a b : Bool) → a ≡ true → (a && b) ≡ b
@@ -31,27 +31,27 @@ none_fits : (b : Bool) (a : Advance) → None ≡ (if b then Some a else None) �
 none_fits true a e = absurd cc
 none_fits false a e = refl
 
-pub pens_more : (is : List Item) (k : ℕ) (e : Item) (a n : Advance) (all : Bool) → k < length is → Some n ≡ (if fits (a.x +ℤ (get_or is k e).x_advance) && fits (a.y +ℤ (get_or is k e).y_advance) then Some (pen_behind a (get_or is k e)) else None)
+pub pens_more : (is : List Item) (k : ℕ) (e : Item) (a n : Advance) (all : Bool) → k < length is → Some n ≡ (if fits (a.x +ℤ (get_or is k e).x_advance) && fits (a.y +ℤ (get_or is k e).y_advance) then Some (pen_past a (get_or is k e)) else None)
     → are_pens a.x a.y (drop k is) ≡ all → are_pens n.x n.y (drop (k + 1) is) ≡ all
 pens_more is k e a n all l step h =
     let i : Item = get_or is k e in
     let rest : List Item = drop (k + 1) is in
-    let t = some_fits (fits (a.x +ℤ i.x_advance) && fits (a.y +ℤ i.y_advance)) n (pen_behind a i) step in
+    let t = some_fits (fits (a.x +ℤ i.x_advance) && fits (a.y +ℤ i.y_advance)) n (pen_past a i) step in
     ap (λ (m : Advance). are_pens m.x m.y rest) t.1
     ∙ sym (both (fits (a.x +ℤ i.x_advance) && fits (a.y +ℤ i.y_advance)) (are_pens (a.x +ℤ i.x_advance) (a.y +ℤ i.y_advance) rest) t.0)
     ∙ sym (ap (λ (l : List Item). are_pens a.x a.y l) (drop_more is k e l))
     ∙ h
 
-pub pen_is : (is : List Item) (k : ℕ) (e : Item) (a n : Advance) → Some n ≡ (if fits (a.x +ℤ (get_or is k e).x_advance) && fits (a.y +ℤ (get_or is k e).y_advance) then Some (pen_behind a (get_or is k e)) else None) → n ≡ pen_behind a (get_or is k e)
-pen_is is k e a n step = (some_fits (fits (a.x +ℤ (get_or is k e).x_advance) && fits (a.y +ℤ (get_or is k e).y_advance)) n (pen_behind a (get_or is k e)) step).1
+pub pen_is : (is : List Item) (k : ℕ) (e : Item) (a n : Advance) → Some n ≡ (if fits (a.x +ℤ (get_or is k e).x_advance) && fits (a.y +ℤ (get_or is k e).y_advance) then Some (pen_past a (get_or is k e)) else None) → n ≡ pen_past a (get_or is k e)
+pen_is is k e a n step = (some_fits (fits (a.x +ℤ (get_or is k e).x_advance) && fits (a.y +ℤ (get_or is k e).y_advance)) n (pen_past a (get_or is k e)) step).1
 
-pub pens_failed : (is : List Item) (k : ℕ) (e : Item) (a : Advance) (all : Bool) → k < length is → None ≡ (if fits (a.x +ℤ (get_or is k e).x_advance) && fits (a.y +ℤ (get_or is k e).y_advance) then Some (pen_behind a (get_or is k e)) else None)
+pub pens_failed : (is : List Item) (k : ℕ) (e : Item) (a : Advance) (all : Bool) → k < length is → None ≡ (if fits (a.x +ℤ (get_or is k e).x_advance) && fits (a.y +ℤ (get_or is k e).y_advance) then Some (pen_past a (get_or is k e)) else None)
     → are_pens a.x a.y (drop k is) ≡ all → all ≡ false
 pens_failed is k e a all l step h =
     let i : Item = get_or is k e in
     sym h
     ∙ ap (λ (l : List Item). are_pens a.x a.y l) (drop_more is k e l)
-    ∙ neither (fits (a.x +ℤ i.x_advance) && fits (a.y +ℤ i.y_advance)) (are_pens (a.x +ℤ i.x_advance) (a.y +ℤ i.y_advance) (drop (k + 1) is)) (none_fits (fits (a.x +ℤ i.x_advance) && fits (a.y +ℤ i.y_advance)) (pen_behind a i) step)
+    ∙ neither (fits (a.x +ℤ i.x_advance) && fits (a.y +ℤ i.y_advance)) (are_pens (a.x +ℤ i.x_advance) (a.y +ℤ i.y_advance) (drop (k + 1) is)) (none_fits (fits (a.x +ℤ i.x_advance) && fits (a.y +ℤ i.y_advance)) (pen_past a i) step)
 
 nothing_on : (z : ℤ) → z ≡ z +ℤ pos 0
 nothing_on z = omega (arith, ints)

@@ -31,9 +31,9 @@ use Rattle.pdf_operators.specs.Content.{Mark, code, ended, marks_of, number}
 use Rattle.pdf_operators.specs.Operators.{Act, back, code_of, finish, raise, show, text_of_all}
 use Rattle.pdf_operators.specs.Order.{is_turned, turned}
 use Rattle.pdf_operators.specs.Pens.{advance_of, end_of, first_pen, start}
-use Rattle.pdf_operators.specs.Places.{above, along, laid, last_back, metrics_of, next, origin_at, pen_at, pen_then, shown_at, stop_behind, x_of, y_of}
+use Rattle.pdf_operators.specs.Places.{above, along, laid, last_back, metrics_of, next, origin_at, pen_at, pen_then, shown_at, stop_after, x_of, y_of}
 use Rattle.pdf_operators.specs.Reading.{ArePlaced, AreCoded, Origin, ThousandthsAreNear, aimed, origin_of, origins, placed, risen, run_marks, width_in}
-use Rattle.pdf_operators.specs.Runs.{acts_behind, in_span, is_spanned, part_acts, part_pieces, part_stop, run_parts}
+use Rattle.pdf_operators.specs.Runs.{acts_after, in_span, is_spanned, part_acts, part_pieces, part_stop, run_parts}
 use Rattle.pdf_operators.proofs.Coded.{All-back, All-front, figure_found}
 use Rattle.pdf_operators.proofs.PartLaws.{All-turned, parts_written, pieces_written}
 
@@ -75,16 +75,16 @@ figure_aimed f d size (Source g) c x y =
     ap (λ (a : ℤ). record { glyph = g; at = a; rise = risen size (thousandths (above d y) f.units) } ∷ []) (off_again (thousandths (along d x y) f.units) (metrics_of f (Source g)).position)
 figure_aimed f d size Blank c x y = refl
 
--- what pieces draw behind a stop
+-- what pieces draw after a stop
 abbrev drawn_from : Bool → ℤ → ℤ → List Piece → List Drawn
 drawn_from b x y [] = []
 drawn_from b x y (p ∷ ps) = drawn_at p.figure (pen_at b x p.x_advance +ℤ p.x) (pen_at b y p.y_advance +ℤ p.y) ++ drawn_from b (pen_then b x p.x_advance) (pen_then b y p.y_advance) ps
 
-abbrev drawn_behind : Stop → List Piece → List Drawn
-drawn_behind s ps = drawn_from s.is_turned s.x s.y ps
+abbrev drawn_after : Stop → List Piece → List Drawn
+drawn_after s ps = drawn_from s.is_turned s.x s.y ps
 
 pieces_placed : (f : Font) (d : Direction) (size : ℕ) (pairs : List Pair) (ps : List Piece) (s : Stop) (rest : List Mark) → AreCoded pairs ps
-    → origins f pairs (placed (width_in f pairs) s.at (risen size s.rise) (flat_map (marks_of size pairs) (laid f d s ps) ++ rest)) ≡ map (aimed f d size) (drawn_behind s ps) ++ origins f pairs (placed (width_in f pairs) (stop_behind f d s ps).at (risen size (stop_behind f d s ps).rise) rest)
+    → origins f pairs (placed (width_in f pairs) s.at (risen size s.rise) (flat_map (marks_of size pairs) (laid f d s ps) ++ rest)) ≡ map (aimed f d size) (drawn_after s ps) ++ origins f pairs (placed (width_in f pairs) (stop_after f d s ps).at (risen size (stop_after f d s ps).rise) rest)
 pieces_placed f d size pairs [] s rest h = refl
 pieces_placed f d size pairs (p ∷ ps) s rest h =
     let w : ℕ → ℤ = width_in f pairs in
@@ -95,7 +95,7 @@ pieces_placed f d size pairs (p ∷ ps) s rest h =
     let marks : List Act → List Mark = flat_map (marks_of size pairs) in
     let more : List Mark = marks (laid f d n ps) ++ rest in
     let here : Figure → ℤ → List Origin = λ (g : Figure) (a : ℤ). origin_of f g (record { code = c; at = a; rise = up }) ++ origins f pairs (placed w (a +ℤ (metrics_of f g).displacement) up more) in
-    let behind : List Origin = origins f pairs (placed w (stop_behind f d n ps).at (risen size (stop_behind f d n ps).rise) rest) in
+    let following : List Origin = origins f pairs (placed w (stop_after f d n ps).at (risen size (stop_after f d n ps).rise) rest) in
     let first : List Drawn = drawn_at p.figure (x_of s p) (y_of s p) in
     ap (λ (ms : List Mark). origins f pairs (placed w s.at (risen size s.rise) (ms ++ rest))) (flat_map-append (marks_of size pairs) (shown_at s n (pair_of p)) (laid f d n ps))
     ∙ ap (λ (ms : List Mark). origins f pairs (placed w s.at (risen size s.rise) ms)) (append_assoc (marks (shown_at s n (pair_of p))) (marks (laid f d n ps)) rest)
@@ -104,8 +104,8 @@ pieces_placed f d size pairs (p ∷ ps) s rest h =
     ∙ ap (here p.figure) (back_to s.at shown)
     ∙ ap (λ (os : List Origin). os ++ origins f pairs (placed w n.at up more)) (figure_aimed f d size p.figure c (x_of s p) (y_of s p))
     ∙ ap (λ (os : List Origin). map (aimed f d size) first ++ os) (pieces_placed f d size pairs ps n rest (All-tail (λ (q : Piece). is_some (index_by same pairs (pair_of q)) ≡ true) p ps h))
-    ∙ sym (append_assoc (map (aimed f d size) first) (map (aimed f d size) (drawn_behind n ps)) behind)
-    ∙ ap (λ (os : List Origin). os ++ behind) (sym (map-append (aimed f d size) first (drawn_behind n ps)))
+    ∙ sym (append_assoc (map (aimed f d size) first) (map (aimed f d size) (drawn_after n ps)) following)
+    ∙ ap (λ (os : List Origin). os ++ following) (sym (map-append (aimed f d size) first (drawn_after n ps)))
 
 -- ---- parts
 
@@ -115,22 +115,22 @@ span_marks size pairs acts rest =
     ∙ append_assoc (flat_map (marks_of size pairs) acts) (ended ∷ []) rest
 
 part_by : (b : Bool) (f : Font) (d : Direction) (size : ℕ) (pairs : List Pair) (text : List ℕ) (ps : List Piece) (s : Stop) (rest : List Mark) → AreCoded pairs ps
-    → origins f pairs (placed (width_in f pairs) s.at (risen size s.rise) (flat_map (marks_of size pairs) (in_span b text (laid f d s ps)) ++ rest)) ≡ map (aimed f d size) (drawn_behind s ps) ++ origins f pairs (placed (width_in f pairs) (stop_behind f d s ps).at (risen size (stop_behind f d s ps).rise) rest)
+    → origins f pairs (placed (width_in f pairs) s.at (risen size s.rise) (flat_map (marks_of size pairs) (in_span b text (laid f d s ps)) ++ rest)) ≡ map (aimed f d size) (drawn_after s ps) ++ origins f pairs (placed (width_in f pairs) (stop_after f d s ps).at (risen size (stop_after f d s ps).rise) rest)
 part_by false f d size pairs text ps s rest h = pieces_placed f d size pairs ps s rest h
 part_by true f d size pairs text ps s rest h =
     ap (λ (ms : List Mark). origins f pairs (placed (width_in f pairs) s.at (risen size s.rise) ms)) (span_marks size pairs (laid f d s ps) rest)
     ∙ pieces_placed f d size pairs ps s (ended ∷ rest) h
 
--- what is drawn behind a stop, in two parts
-drawn_twice : (f : Font) (d : Direction) (ps qs : List Piece) (s : Stop) → drawn_behind s (ps ++ qs) ≡ drawn_behind s ps ++ drawn_behind (stop_behind f d s ps) qs
+-- what is drawn after a stop, in two parts
+drawn_twice : (f : Font) (d : Direction) (ps qs : List Piece) (s : Stop) → drawn_after s (ps ++ qs) ≡ drawn_after s ps ++ drawn_after (stop_after f d s ps) qs
 drawn_twice f d [] qs s = refl
 drawn_twice f d (p ∷ ps) qs s =
     let here : List Drawn = drawn_at p.figure (x_of s p) (y_of s p) in
     let n : Stop = next f d s p in
-    ap (λ (l : List Drawn). here ++ l) (drawn_twice f d ps qs n) ∙ sym (append_assoc here (drawn_behind n ps) (drawn_behind (stop_behind f d n ps) qs))
+    ap (λ (l : List Drawn). here ++ l) (drawn_twice f d ps qs n) ∙ sym (append_assoc here (drawn_after n ps) (drawn_after (stop_after f d n ps) qs))
 
 -- the way stays
-pub way_stays : (f : Font) (d : Direction) (ps : List Piece) (s : Stop) → (stop_behind f d s ps).is_turned ≡ s.is_turned
+pub way_stays : (f : Font) (d : Direction) (ps : List Piece) (s : Stop) → (stop_after f d s ps).is_turned ≡ s.is_turned
 way_stays f d [] s = refl
 way_stays f d (p ∷ ps) s = way_stays f d ps (next f d s p)
 
@@ -141,7 +141,7 @@ end_by false true f size pairs w at up z = refl
 end_by false false f size pairs w at up z = refl
 
 parts_placed : (f : Font) (d : Direction) (size : ℕ) (pairs : List Pair) (end : ℤ) (gs : List (List (List Item))) (b : Bool) (s : Stop) → s.is_turned ≡ b → AreCoded pairs (pieces_written f d b gs)
-    → origins f pairs (placed (width_in f pairs) s.at (risen size s.rise) (flat_map (marks_of size pairs) (acts_behind f d end s gs))) ≡ map (aimed f d size) (drawn_behind s (pieces_written f d b gs))
+    → origins f pairs (placed (width_in f pairs) s.at (risen size s.rise) (flat_map (marks_of size pairs) (acts_after f d end s gs))) ≡ map (aimed f d size) (drawn_after s (pieces_written f d b gs))
 parts_placed f d size pairs end [] b s e h = end_by (int_eq (last_back f end s) (pos 0)) (int_eq s.rise (pos 0)) f size pairs (width_in f pairs) s.at (risen size s.rise) (last_back f end s)
 parts_placed f d size pairs end (g ∷ gs) b s e h =
     let w : ℕ → ℤ = width_in f pairs in
@@ -151,12 +151,12 @@ parts_placed f d size pairs end (g ∷ gs) b s e h =
     let n : Stop = part_stop f d s g in
     let marks : List Act → List Mark = flat_map (marks_of size pairs) in
     let coded : AreCoded pairs (ps ++ qs) = subst (λ (l : List Piece). AreCoded pairs (l ++ qs)) (sym own) h in
-    ap (λ (ms : List Mark). origins f pairs (placed w s.at (risen size s.rise) ms)) (flat_map-append (marks_of size pairs) (part_acts f d s g) (acts_behind f d end n gs))
-    ∙ part_by (is_spanned d g ps) f d size pairs (text_of_all g) ps s (marks (acts_behind f d end n gs)) (All-front (λ (q : Piece). is_some (index_by same pairs (pair_of q)) ≡ true) ps qs coded)
-    ∙ ap (λ (os : List Origin). map (aimed f d size) (drawn_behind s ps) ++ os) (parts_placed f d size pairs end gs b n (way_stays f d ps s ∙ e) (All-back (λ (q : Piece). is_some (index_by same pairs (pair_of q)) ≡ true) ps qs coded))
-    ∙ sym (map-append (aimed f d size) (drawn_behind s ps) (drawn_behind n qs))
+    ap (λ (ms : List Mark). origins f pairs (placed w s.at (risen size s.rise) ms)) (flat_map-append (marks_of size pairs) (part_acts f d s g) (acts_after f d end n gs))
+    ∙ part_by (is_spanned d g ps) f d size pairs (text_of_all g) ps s (marks (acts_after f d end n gs)) (All-front (λ (q : Piece). is_some (index_by same pairs (pair_of q)) ≡ true) ps qs coded)
+    ∙ ap (λ (os : List Origin). map (aimed f d size) (drawn_after s ps) ++ os) (parts_placed f d size pairs end gs b n (way_stays f d ps s ∙ e) (All-back (λ (q : Piece). is_some (index_by same pairs (pair_of q)) ≡ true) ps qs coded))
+    ∙ sym (map-append (aimed f d size) (drawn_after s ps) (drawn_after n qs))
     ∙ ap (map (aimed f d size)) (sym (drawn_twice f d ps qs s))
-    ∙ ap (λ (l : List Piece). map (aimed f d size) (drawn_behind s (l ++ qs))) own
+    ∙ ap (λ (l : List Piece). map (aimed f d size) (drawn_after s (l ++ qs))) own
 
 -- ---- from the last to the first
 
@@ -252,7 +252,7 @@ glyphs_are_placed f d o size pairs is h =
     let all : pieces_written f d b (run_parts d o is) ≡ turned b (pieces_of_run d f.inked.now is) = parts_written f d b (clusters is) in
     ap (λ (up : ℤ). origins f pairs (placed (width_in f pairs) (pos 0) up (run_marks f d o size pairs is))) (no_rise size)
     ∙ parts_placed f d size pairs (end_of d (advance_of is)) (run_parts d o is) b (start b (advance_of is)) refl (subst (AreCoded pairs) (sym all) (All-turned (λ (q : Piece). is_some (index_by same pairs (pair_of q)) ≡ true) b (pieces_of_run d f.inked.now is) h))
-    ∙ ap (λ (l : List Piece). map (aimed f d size) (drawn_behind (start b (advance_of is)) l)) all
+    ∙ ap (λ (l : List Piece). map (aimed f d size) (drawn_after (start b (advance_of is)) l)) all
     ∙ ap (map (aimed f d size)) (run_drawn b d f.inked.now is)
 
 -- ---- how near

@@ -105,7 +105,7 @@ hex_apart us rest =
     ∙ ap (λ (l : List ℕ). 32 ∷ 60 ∷ l) (all_alone (words us) (codes ">" ++ rest) (words_alone us))
     ∙ ap (λ (l : List ℕ). 32 ∷ 60 ∷ l) (sym (append_assoc (words us) (codes ">") (32 ∷ flat_map apart rest)))
 
--- a string, whatever is behind it
+-- a string, whatever is after it
 hex_read : (os : List (List ℕ)) (us rest : List ℕ) → said_from os (tokens_in (hex_string us ++ rest)) ≡ said_from (os ++ hex_string us ∷ []) (tokens_in rest)
 hex_read os us rest = ap (λ (t : List ℕ). said_from os (tokens t)) (hex_apart us rest) ∙ operand_read os (hex_string us) (flat_map apart rest) (hex_dark us) (omega arith) refl
 
@@ -114,7 +114,7 @@ pub record IsNumber (t : List ℕ) : Type 0 where
   pub some : 0 < length t
   pub operand : is_operator t ≡ false
 
--- a number, with a blank or a delimiter behind it
+-- a number, with a blank or a delimiter after it
 number_read : (os : List (List ℕ)) (t rest more : List ℕ) → IsNumber t → flat_map apart rest ≡ 32 ∷ more → said_from os (tokens_in (t ++ rest)) ≡ said_from (os ++ t ∷ []) (tokens_in rest)
 number_read os t rest more h e =
     ap (λ (l : List ℕ). said_from os (tokens l)) (all_alone t rest (All-weaker IsPlain IsAlone (λ b p. p.alone) t h.plain))
@@ -192,16 +192,16 @@ closing_open o l = rw (some_codes o.codes l) refl
 last_open : (o : OpenArray) → 0 < o.codes → last o ≡ 62
 last_open o l = rw (some_codes o.codes l) refl
 
--- what is read of a text that is written behind what is open: behind operands and a string with codes
+-- what is read of a text that is written after what is open: after operands and a string with codes
 abbrev IsReadOpen : (OpenArray → List ℕ) → List Mark → Type 0
 IsReadOpen text ms =
     (os : List (List ℕ)) (cs : List ℕ) (o : OpenArray) → 0 < o.codes → o.codes ≡ length cs → All (λ c. c < 65536) cs → said_from os (tokens_in (codes "<" ++ (words cs ++ text o))) ≡ flat_map element_in os ++ (map code cs ++ ms)
 
--- and behind nothing
+-- and after nothing
 abbrev IsRead : (OpenArray → List ℕ) → List Mark → Type 0
 IsRead text ms = (said_in (text shut) ≡ ms) × IsReadOpen text ms
 
--- what ends an array is read behind it
+-- what ends an array is read after it
 ends_read : (own rest : List ℕ) (ms : List Mark) → said_in (own ++ rest) ≡ ms → IsRead (λ o. (closing o ++ own) ++ rest) ms
 ends_read own rest ms e = (
   e,
@@ -385,12 +385,12 @@ further_regrouped d w rest = simp append_assoc
 further_read : (text : OpenArray → List ℕ) (ms : List Mark) (os : List (List ℕ)) (cs : List ℕ) (z : ℤ) (c : ℕ) (next : OpenArray) → IsReadOpen text ms → All (λ c. c < 65536) cs → unsigned_abs z < 2 ^ 64 → c < 65536 → next.codes ≡ 1
     → said_from os (tokens_in (codes "<" ++ (words cs ++ ((further z ++ word c) ++ text next)))) ≡ flat_map element_in os ++ (map code cs ++ (number z ∷ code c ∷ ms))
 further_read text ms os cs z c next ih h lz lc e =
-    let behind : List ℕ = codes "<" ++ (word c ++ text next) in
+    let following : List ℕ = codes "<" ++ (word c ++ text next) in
     let string : List (List ℕ) = os ++ hex_string cs ∷ [] in
     let all : List Mark = code c ∷ ms in
     ap (λ (t : List ℕ). said_from os (tokens_in (codes "<" ++ (words cs ++ t)))) (further_regrouped (signed_decimal z) (word c) (text next))
-    ∙ string_read os cs (signed_decimal z ++ behind)
-    ∙ number_read string (signed_decimal z) behind _ (integer_number z lz) refl
+    ∙ string_read os cs (signed_decimal z ++ following)
+    ∙ number_read string (signed_decimal z) following _ (integer_number z lz) refl
     ∙ ih (string ++ signed_decimal z ∷ []) (c ∷ []) next (omega arith) e (one_code c lc)
     ∙ ap (λ (m : List Mark). m ++ all) (element_more string (signed_decimal z) (number z ∷ []) (number_element z lz))
     ∙ append_assoc (flat_map element_in string) (number z ∷ []) all
@@ -405,9 +405,9 @@ opening_by : (b : Bool) (text : OpenArray → List ℕ) (ms : List Mark) (z : �
     → said_in (((codes "[" ++ ((if b then [] else signed_decimal z) ++ codes "<")) ++ word c) ++ text next) ≡ (if b then [] else number z ∷ []) ++ (code c ∷ ms)
 opening_by true text ms z c next ih lz lc e = ih (codes "[" ∷ []) (c ∷ []) next (omega arith) e (one_code c lc)
 opening_by false text ms z c next ih lz lc e =
-    let behind : List ℕ = codes "<" ++ (word c ++ text next) in
+    let following : List ℕ = codes "<" ++ (word c ++ text next) in
     ap said_in (opening_regrouped (signed_decimal z) (word c) (text next))
-    ∙ number_read (codes "[" ∷ []) (signed_decimal z) behind _ (integer_number z lz) refl
+    ∙ number_read (codes "[" ∷ []) (signed_decimal z) following _ (integer_number z lz) refl
     ∙ ih (codes "[" ∷ signed_decimal z ∷ []) (c ∷ []) next (omega arith) e (one_code c lc)
     ∙ ap (λ (m : List Mark). (m ++ []) ++ (code c ∷ ms)) (number_element z lz)
 

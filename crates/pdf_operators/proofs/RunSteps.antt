@@ -28,10 +28,10 @@ use Rattle.pdf_operators.specs.declared.places.Stop.{Stop}
 use Rattle.pdf_operators.specs.Operators.{Act, act_of, act_text, acts_of, open_after, text_of_all, units_of, written}
 use Rattle.pdf_operators.specs.Order.{is_turned, turned}
 use Rattle.pdf_operators.specs.Pens.{advance_of, are_pens, end_of, start}
-use Rattle.pdf_operators.specs.Places.{are_near, fits, is_near, laid, last_back, next, shown_at, stop_behind}
+use Rattle.pdf_operators.specs.Places.{are_near, fits, is_near, laid, last_back, next, shown_at, stop_after}
 use Rattle.pdf_operators.specs.Reading.{AreCoded}
 use Rattle.pdf_operators.proofs.ReadLaws.{words_joined}
-use Rattle.pdf_operators.specs.Runs.{IsRefused, acts_behind, are_shown, end_acts, is_laid, is_part_shown, is_valid, part_acts, part_stop, parts, run_acts, singles, word_parts}
+use Rattle.pdf_operators.specs.Runs.{IsRefused, acts_after, are_shown, end_acts, is_laid, is_part_shown, is_valid, part_acts, part_stop, parts, run_acts, singles, word_parts}
 
 pub act_put : (ops new : List Operation) (op : Operation) → new ≡ ops ++ op ∷ [] → acts_of new ≡ acts_of ops ++ act_of op ∷ []
 act_put ops new op e = ap acts_of e ∙ map-append act_of ops (op ∷ [])
@@ -57,10 +57,10 @@ piece_more f d ps k e s n so_far new total l is more h =
     ∙ sym (ap (λ (l : List Piece). so_far ++ laid f d s l) (drop_more ps k e l))
     ∙ h
 
-pub stop_more : (f : Font) (d : Direction) (ps : List Piece) (k : ℕ) (e : Piece) (s n total : Stop) → k < length ps → n ≡ next f d s (get_or ps k e) → stop_behind f d s (drop k ps) ≡ total → stop_behind f d n (drop (k + 1) ps) ≡ total
+pub stop_more : (f : Font) (d : Direction) (ps : List Piece) (k : ℕ) (e : Piece) (s n total : Stop) → k < length ps → n ≡ next f d s (get_or ps k e) → stop_after f d s (drop k ps) ≡ total → stop_after f d n (drop (k + 1) ps) ≡ total
 stop_more f d ps k e s n total l is h =
-    ap (λ (m : Stop). stop_behind f d m (drop (k + 1) ps)) is
-    ∙ sym (ap (λ (l : List Piece). stop_behind f d s l) (drop_more ps k e l))
+    ap (λ (m : Stop). stop_after f d m (drop (k + 1) ps)) is
+    ∙ sym (ap (λ (l : List Piece). stop_after f d s l) (drop_more ps k e l))
     ∙ h
 
 both : (a b : Bool) → a ≡ true → (a && b) ≡ b
@@ -87,14 +87,14 @@ near_failed f d ps k e s total l far h =
 -- ---- parts
 
 pub part_more : (f : Font) (d : Direction) (end : ℤ) (found : List (Bor (List (Bor (List Item))))) (k : ℕ) (e : Bor (List (Bor (List Item)))) (s n : Stop) (so_far new total : List Act) → k < length found → n ≡ part_stop f d s (lists (get_or found k e).now) → new ≡ so_far ++ part_acts f d s (lists (get_or found k e).now)
-    → so_far ++ acts_behind f d end s (groups (drop k found)) ≡ total → new ++ acts_behind f d end n (groups (drop (k + 1) found)) ≡ total
+    → so_far ++ acts_after f d end s (groups (drop k found)) ≡ total → new ++ acts_after f d end n (groups (drop (k + 1) found)) ≡ total
 part_more f d end found k e s n so_far new total l is more h =
     let g : List (List Item) = lists (get_or found k e).now in
-    let rest : List Act = acts_behind f d end (part_stop f d s g) (groups (drop (k + 1) found)) in
-    ap (λ (m : Stop). new ++ acts_behind f d end m (groups (drop (k + 1) found))) is
+    let rest : List Act = acts_after f d end (part_stop f d s g) (groups (drop (k + 1) found)) in
+    ap (λ (m : Stop). new ++ acts_after f d end m (groups (drop (k + 1) found))) is
     ∙ ap (λ (l : List Act). l ++ rest) more
     ∙ append_assoc so_far (part_acts f d s g) rest
-    ∙ sym (ap (λ (l : List (Bor (List (Bor (List Item))))). so_far ++ acts_behind f d end s (groups l)) (drop_more found k e l))
+    ∙ sym (ap (λ (l : List (Bor (List (Bor (List Item))))). so_far ++ acts_after f d end s (groups l)) (drop_more found k e l))
     ∙ h
 
 pub shown_more : (f : Font) (d : Direction) (end : ℤ) (found : List (Bor (List (Bor (List Item))))) (k : ℕ) (e : Bor (List (Bor (List Item)))) (s n : Stop) (total : Bool) → k < length found → n ≡ part_stop f d s (lists (get_or found k e).now) → is_part_shown f d s (lists (get_or found k e).now) ≡ true
@@ -114,10 +114,10 @@ part_failed f d end found k e s total l far h =
     ∙ ap (λ (l : List (Bor (List (Bor (List Item))))). are_shown f d end s (groups l)) (drop_more found k e l)
     ∙ neither (is_part_shown f d s g) (are_shown f d end (part_stop f d s g) (groups (drop (k + 1) found))) far
 
--- behind the last part
+-- after the last part
 pub parts_ended : (f : Font) (d : Direction) (end : ℤ) (found : List (Bor (List (Bor (List Item))))) (k : ℕ) (s : Stop) (so_far new total : List Act) → length found ≤ k → new ≡ so_far ++ end_acts f end s
-    → so_far ++ acts_behind f d end s (groups (drop k found)) ≡ total → new ≡ total
-parts_ended f d end found k s so_far new total l more h = more ∙ sym (ap (λ (l : List (Bor (List (Bor (List Item))))). so_far ++ acts_behind f d end s (groups l)) (drop_all k found l)) ∙ h
+    → so_far ++ acts_after f d end s (groups (drop k found)) ≡ total → new ≡ total
+parts_ended f d end found k s so_far new total l more h = more ∙ sym (ap (λ (l : List (Bor (List (Bor (List Item))))). so_far ++ acts_after f d end s (groups l)) (drop_all k found l)) ∙ h
 
 pub end_is : (f : Font) (d : Direction) (end : ℤ) (found : List (Bor (List (Bor (List Item))))) (k : ℕ) (s : Stop) (b total : Bool) → length found ≤ k → fits (last_back f end s) ≡ b → are_shown f d end s (groups (drop k found)) ≡ total → total ≡ b
 end_is f d end found k s b total l is h = sym h ∙ ap (λ (l : List (Bor (List (Bor (List Item))))). are_shown f d end s (groups l)) (drop_all k found l) ∙ is
@@ -125,13 +125,13 @@ end_is f d end found k s b total l is h = sym h ∙ ap (λ (l : List (Bor (List 
 -- ---- parts that are borrowed
 
 -- with clusters alone one more, they and those of the rest are still all
-pub singles_more : (found new : List (Bor (List (Bor (List Item))))) (first : Bor (List (Bor (List Item)))) (rest behind : List (Bor (List Item))) (total : List (List (List Item))) → 0 < length rest → first.now ≡ take 1 rest → behind ≡ drop 1 rest → new ≡ found ++ first ∷ []
-    → groups found ++ singles (lists rest) ≡ total → groups new ++ singles (lists behind) ≡ total
-singles_more found new first [] behind total l is later more h = absurd (omega arith)
-singles_more found new first (c ∷ rest) behind total l is later more h =
+pub singles_more : (found new : List (Bor (List (Bor (List Item))))) (first : Bor (List (Bor (List Item)))) (rest following : List (Bor (List Item))) (total : List (List (List Item))) → 0 < length rest → first.now ≡ take 1 rest → following ≡ drop 1 rest → new ≡ found ++ first ∷ []
+    → groups found ++ singles (lists rest) ≡ total → groups new ++ singles (lists following) ≡ total
+singles_more found new first [] following total l is later more h = absurd (omega arith)
+singles_more found new first (c ∷ rest) following total l is later more h =
     let group : Bor (List (Bor (List Item))) → List (List Item) = λ g. lists g.now in
-    ap (λ (l : List (List (List Item))). l ++ singles (lists behind)) (ap groups more ∙ map-append group found (first ∷ []) ∙ ap (λ (g : List (Bor (List Item))). groups found ++ lists g ∷ []) is)
-    ∙ append_assoc (groups found) ((c.now ∷ []) ∷ []) (singles (lists behind))
+    ap (λ (l : List (List (List Item))). l ++ singles (lists following)) (ap groups more ∙ map-append group found (first ∷ []) ∙ ap (λ (g : List (Bor (List Item))). groups found ++ lists g ∷ []) is)
+    ∙ append_assoc (groups found) ((c.now ∷ []) ∷ []) (singles (lists following))
     ∙ ap (λ (l : List (Bor (List Item))). groups found ++ (c.now ∷ []) ∷ singles (lists l)) later
     ∙ h
 
@@ -267,14 +267,14 @@ unwritten f d o pairs new is e memory put = inr (inl (memory, all_first pairs ne
 -- ---- what shows a run, from its parts
 
 pub acts_are : (f : Font) (d : Direction) (o : Order) (is : List Item) (cs : List (List Item)) (a : Advance) (end : ℤ) (s : Stop) (gs : List (List (List Item))) (acts : List Act) → a ≡ advance_of is → cs ≡ clusters is → end ≡ end_of d a → s ≡ start (is_turned d o) a
-    → gs ≡ turned (is_turned d o) (parts d cs) → acts ≡ acts_behind f d end s gs → acts ≡ run_acts f d o is
+    → gs ≡ turned (is_turned d o) (parts d cs) → acts ≡ acts_after f d end s gs → acts ≡ run_acts f d o is
 acts_are f d o is cs a end s gs acts ea ec ee es eg e =
     let b : Bool = is_turned d o in
     let whole : ℤ = end_of d (advance_of is) in
     e
-    ∙ ap (λ (z : ℤ). acts_behind f d z s gs) (ee ∙ ap (end_of d) ea)
-    ∙ ap (λ (t : Stop). acts_behind f d whole t gs) (es ∙ ap (start b) ea)
-    ∙ ap (λ (l : List (List (List Item))). acts_behind f d whole (start b (advance_of is)) l) (eg ∙ ap (λ (c : List (List Item)). turned b (parts d c)) ec)
+    ∙ ap (λ (z : ℤ). acts_after f d z s gs) (ee ∙ ap (end_of d) ea)
+    ∙ ap (λ (t : Stop). acts_after f d whole t gs) (es ∙ ap (start b) ea)
+    ∙ ap (λ (l : List (List (List Item))). acts_after f d whole (start b (advance_of is)) l) (eg ∙ ap (λ (c : List (List Item)). turned b (parts d c)) ec)
 
 pub laid_are : (f : Font) (d : Direction) (o : Order) (is : List Item) (cs : List (List Item)) (a : Advance) (end : ℤ) (s : Stop) (gs : List (List (List Item))) (all : Bool) → a ≡ advance_of is → cs ≡ clusters is → end ≡ end_of d a → s ≡ start (is_turned d o) a
     → gs ≡ turned (is_turned d o) (parts d cs) → are_pens (pos 0) (pos 0) is ≡ true → are_shown f d end s gs ≡ all → is_laid f d o is ≡ all

@@ -13,7 +13,7 @@ use Rattle.pdf_operators.specs.declared.order.Order.{Order}
 use Rattle.pdf_operators.specs.declared.places.Font.{Font}
 use Rattle.pdf_operators.specs.Content.{IsWritable, Mark, marks_of, said_in}
 use Rattle.pdf_operators.specs.Operators.{Act, act_of, acts_of, closing, operators, written}
-use Rattle.pdf_operators.specs.Reading.{ArePlaced, AreCoded, IsEnd, IsExtracted, IsShown, extracted, origins, pen_behind, placed, run_marks, text_in, width_in}
+use Rattle.pdf_operators.specs.Reading.{ArePlaced, AreCoded, IsEnd, IsExtracted, IsShown, extracted, origins, pen_past, placed, run_marks, text_in, width_in}
 use Rattle.pdf_operators.specs.Runs.{run_acts}
 use Rattle.pdf_operators.proofs.EndLaws.{pen_is_placed}
 use Rattle.pdf_operators.proofs.PlaceLaws.{glyphs_are_placed}
@@ -40,7 +40,7 @@ pub run_shown : (f : Font) (d : Direction) (o : Order) (size : ℕ) (pairs : Lis
 run_shown f d o size pairs is bytes coded read = record {
   text = subst (λ (ms : List Mark). IsExtracted d o is (extracted (text_in pairs) false ms)) (sym read) (text_is_extracted f d o size pairs is coded);
   places = subst (λ (ms : List Mark). ArePlaced f d o size is (origins f pairs (placed (width_in f pairs) (pos 0) (pos 0) ms))) (sym read) (glyphs_are_placed f d o size pairs is coded);
-  pen = subst (λ (ms : List Mark). IsEnd f d is (pen_behind (width_in f pairs) (pos 0) ms)) (sym read) (pen_is_placed f d o size pairs is coded);
+  pen = subst (λ (ms : List Mark). IsEnd f d is (pen_past (width_in f pairs) (pos 0) ms)) (sym read) (pen_is_placed f d o size pairs is coded);
 }
 
 pub shown_of : (f : Font) (d : Direction) (o : Order) (size : ℕ) (pairs : List Pair) (is : List Item) (acts : List Act) (bytes : List ℕ) → acts ≡ run_acts f d o is → AreCoded pairs (pieces_of_run d f.inked.now is) → said_in bytes ≡ flat_map (marks_of size pairs) acts → IsShown f d o size pairs is bytes

@@ -32,7 +32,7 @@ use Rattle.pdf_operators.specs.Order.{is_turned, turned}
 use Rattle.pdf_operators.specs.Pens.{advance_of, end_of, start}
 use Rattle.pdf_operators.specs.Places.{laid, last_back, next, shown_at}
 use Rattle.pdf_operators.specs.Reading.{AreCoded, IsExtracted, extracted, reading, run_marks, text_in, text_of_pair}
-use Rattle.pdf_operators.specs.Runs.{acts_behind, has_moved, in_span, is_long, is_spanned, is_unsaid, part_acts, part_pieces, part_stop, parts, run_parts, singles}
+use Rattle.pdf_operators.specs.Runs.{acts_after, has_moved, in_span, is_long, is_spanned, is_unsaid, part_acts, part_pieces, part_stop, parts, run_parts, singles}
 use Rattle.pdf_operators.proofs.Coded.{All-back, All-front, pair_found}
 use Rattle.pdf_operators.proofs.PartLaws.{All-turned, joined, parts_joined, parts_written, pieces_written}
 use Rattle.pdf_operators.proofs.PlaceLaws.{span_marks, way_stays}
@@ -128,7 +128,7 @@ end_by false true says size pairs z = refl
 end_by false false says size pairs z = refl
 
 parts_said : (f : Font) (d : Direction) (size : ℕ) (pairs : List Pair) (end : ℤ) (gs : List (List (List Item))) (b : Bool) (s : Stop) → s.is_turned ≡ b → AreCoded pairs (pieces_written f d b gs)
-    → extracted (text_in pairs) false (flat_map (marks_of size pairs) (acts_behind f d end s gs)) ≡ map Some (flat_map (texts_of f d b) gs)
+    → extracted (text_in pairs) false (flat_map (marks_of size pairs) (acts_after f d end s gs)) ≡ map Some (flat_map (texts_of f d b) gs)
 parts_said f d size pairs end [] b s e h = end_by (int_eq (last_back f end s) (pos 0)) (int_eq s.rise (pos 0)) (text_in pairs) size pairs (last_back f end s)
 parts_said f d size pairs end (g ∷ gs) b s e h =
     let says : ℕ → Option (List ℕ) = text_in pairs in
@@ -138,8 +138,8 @@ parts_said f d size pairs end (g ∷ gs) b s e h =
     let n : Stop = part_stop f d s g in
     let coded : AreCoded pairs (ps ++ qs) = subst (λ (l : List Piece). AreCoded pairs (l ++ qs)) (sym own) h in
     let later : List (Option (List ℕ)) = map Some (flat_map (texts_of f d b) gs) in
-    ap (extracted says false) (flat_map-append (marks_of size pairs) (part_acts f d s g) (acts_behind f d end n gs))
-    ∙ part_by (is_spanned d g ps) f d size pairs g ps s (flat_map (marks_of size pairs) (acts_behind f d end n gs)) (All-front (λ (q : Piece). is_some (index_by same pairs (pair_of q)) ≡ true) ps qs coded) refl
+    ap (extracted says false) (flat_map-append (marks_of size pairs) (part_acts f d s g) (acts_after f d end n gs))
+    ∙ part_by (is_spanned d g ps) f d size pairs g ps s (flat_map (marks_of size pairs) (acts_after f d end n gs)) (All-front (λ (q : Piece). is_some (index_by same pairs (pair_of q)) ≡ true) ps qs coded) refl
     ∙ ap (λ (l : List (Option (List ℕ))). map Some (texts_by (is_spanned d g ps) (text_of_all g) ps) ++ l) (parts_said f d size pairs end gs b n (way_stays f d ps s ∙ e) (All-back (λ (q : Piece). is_some (index_by same pairs (pair_of q)) ≡ true) ps qs coded))
     ∙ ap (λ (l : List Piece). map Some (texts_by (is_spanned d g l) (text_of_all g) l) ++ later) own
     ∙ sym (map-append Some (texts_of f d b g) (flat_map (texts_of f d b) gs))

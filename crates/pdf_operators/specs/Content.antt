@@ -20,7 +20,7 @@ pub data Mark : Type 0 where
 
 -- ---- tokens
 
--- a delimiter, apart from what is before it and behind it (7.2.2); each of `<<` and `>>` is two tokens then
+-- a delimiter, apart from what is before it and after it (7.2.2); each of `<<` and `>>` is two tokens then
 abbrev pub apart : ℕ → List ℕ
 apart b = if b == 91 || b == 93 then 32 ∷ b ∷ 32 ∷ [] else if b == 60 || b == 47 then 32 ∷ b ∷ [] else if b == 62 then b ∷ 32 ∷ [] else b ∷ []
 
@@ -29,7 +29,7 @@ tokens_in text = tokens (flat_map apart text)
 
 -- ---- operands
 
--- the millionths of a number with at most six digits behind its point, if it has one (7.3.3)
+-- the millionths of a number with at most six digits after its point, if it has one (7.3.3)
 abbrev pub fraction_in : List ℕ → List ℕ → Option ℤ
 fraction_in whole rest = if all_ascii_digits whole && (all_ascii_digits rest && nat_le (length rest) 6) then Some (pos (1000000 * digits_value 10 whole + digits_value 10 rest * 10 ^ (6 - length rest))) else None
 
@@ -53,7 +53,7 @@ element_by None z = map number (option_to_list z)
 abbrev pub element_in : List ℕ → List Mark
 element_in t = element_by (hex_in t) (integer_in t)
 
--- a text behind its byte order mark (7.9.2.2)
+-- a text after its byte order mark (7.9.2.2)
 abbrev pub text_by : Option (List ℕ) → List Mark
 text_by (Some (b ∷ us)) = if b == 65279 then actual us ∷ [] else []
 text_by _ = []

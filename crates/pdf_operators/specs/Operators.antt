@@ -38,7 +38,7 @@ units_of cs = flat_map utf16 cs
 abbrev pub three_digits : ℕ → List ℕ
 three_digits n = (48 + n / 100 % 10) ∷ (48 + n / 10 % 10) ∷ (48 + n % 10) ∷ []
 
--- so many millionths, with six digits behind the point, or three, or none and no point, as few as say them
+-- so many millionths, with six digits after the point, or three, or none and no point, as few as say them
 abbrev pub fraction : ℕ → List ℕ
 fraction n = if n == 0 then [] else if n % 1000 == 0 then 46 ∷ three_digits (n / 1000) else 46 ∷ (three_digits (n / 1000) ++ three_digits n)
 
@@ -69,7 +69,7 @@ act_of (Back z) = back z
 abbrev pub acts_of : List Operation → List Act
 acts_of ops = map act_of ops
 
--- ---- one of them, behind what is open
+-- ---- one of them, after what is open
 
 -- nothing
 abbrev pub shut : OpenArray
@@ -86,7 +86,7 @@ number_text z = if int_eq z (pos 0) then [] else signed_decimal z
 abbrev pub opening : ℤ → List ℕ
 opening z = codes "[" ++ (number_text z ++ codes "<")
 
--- the string ends, and behind a number another one begins
+-- the string ends, and after a number another one begins
 abbrev pub further : ℤ → List ℕ
 further z = codes ">" ++ (signed_decimal z ++ codes "<")
 

@@ -14,11 +14,11 @@ advance_of is = record { x = total (λ (i : Item). i.x_advance) is; y = total (�
 abbrev pub pen_of : ℤ → ℤ → Advance
 pen_of x y = record { x = x; y = y }
 
--- a pen behind a glyph
-abbrev pub pen_behind : Advance → Item → Advance
-pen_behind a i = pen_of (a.x +ℤ i.x_advance) (a.y +ℤ i.y_advance)
+-- a pen after a glyph
+abbrev pub pen_past : Advance → Item → Advance
+pen_past a i = pen_of (a.x +ℤ i.x_advance) (a.y +ℤ i.y_advance)
 
--- whether the shaper's pens have 32 bits behind a pen
+-- whether the shaper's pens have 32 bits after a pen
 abbrev pub are_pens : ℤ → ℤ → List Item → Bool
 are_pens x y [] = true
 are_pens x y (i ∷ is) = (fits (x +ℤ i.x_advance) && fits (y +ℤ i.y_advance)) && are_pens (x +ℤ i.x_advance) (y +ℤ i.y_advance) is

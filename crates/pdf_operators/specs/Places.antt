@@ -58,7 +58,7 @@ y_of s p = pen_at s.is_turned s.y p.y_advance +ℤ p.y
 abbrev pub origin_at : Font → Direction → Stop → Piece → ℤ
 origin_at f d s p = thousandths (along d (x_of s p) (y_of s p)) f.units
 
--- a piece behind a stop: the number before its code, and the pens behind it
+-- a piece after a stop: the number before its code, and the pens after it
 abbrev pub next : Font → Direction → Stop → Piece → Stop
 next f d s p = record {
   back = s.at -ℤ (origin_at f d s p +ℤ (metrics_of f p.figure).position);
@@ -97,15 +97,15 @@ narrowed w = record { back = w.back; x = w.x; y = w.y; at = w.at; rise = w.rise;
 abbrev pub shown_at : Stop → Stop → Pair → List Act
 shown_at s n q = (if int_eq n.rise s.rise then [] else raise n.rise ∷ []) ++ show n.back q ∷ []
 
--- what shows pieces behind a stop
+-- what shows pieces after a stop
 abbrev pub laid : Font → Direction → Stop → List Piece → List Act
 laid f d s [] = []
 laid f d s (p ∷ ps) = shown_at s (next f d s p) (pair_of p) ++ laid f d (next f d s p) ps
 
--- the stop behind them
-abbrev pub stop_behind : Font → Direction → Stop → List Piece → Stop
-stop_behind f d s [] = s
-stop_behind f d s (p ∷ ps) = stop_behind f d (next f d s p) ps
+-- the stop after them
+abbrev pub stop_after : Font → Direction → Stop → List Piece → Stop
+stop_after f d s [] = s
+stop_after f d s (p ∷ ps) = stop_after f d (next f d s p) ps
 
 abbrev pub are_near : Font → Direction → Stop → List Piece → Bool
 are_near f d s [] = true

@@ -30,7 +30,7 @@ pub record Placed : Type 0 where
   pub at : ℤ
   pub rise : ℤ
 
--- behind a code the pen goes on by its width, at a number it goes back, and Ts is the height (9.4.4); from a pen and a text rise on
+-- after a code the pen goes on by its width, at a number it goes back, and Ts is the height (9.4.4); from a pen and a text rise on
 abbrev pub placed : (ℕ → ℤ) → ℤ → ℤ → List Mark → List Placed
 placed width at up [] = []
 placed width at up (number z ∷ ms) = placed width (at -ℤ z) up ms
@@ -39,14 +39,14 @@ placed width at up (rise z ∷ ms) = placed width at z ms
 placed width at up (actual us ∷ ms) = placed width at up ms
 placed width at up (ended ∷ ms) = placed width at up ms
 
--- where the pen is behind them
-abbrev pub pen_behind : (ℕ → ℤ) → ℤ → List Mark → ℤ
-pen_behind width at [] = at
-pen_behind width at (number z ∷ ms) = pen_behind width (at -ℤ z) ms
-pen_behind width at (code c ∷ ms) = pen_behind width (at +ℤ width c) ms
-pen_behind width at (rise z ∷ ms) = pen_behind width at ms
-pen_behind width at (actual us ∷ ms) = pen_behind width at ms
-pen_behind width at (ended ∷ ms) = pen_behind width at ms
+-- where the pen is after them
+abbrev pub pen_past : (ℕ → ℤ) → ℤ → List Mark → ℤ
+pen_past width at [] = at
+pen_past width at (number z ∷ ms) = pen_past width (at -ℤ z) ms
+pen_past width at (code c ∷ ms) = pen_past width (at +ℤ width c) ms
+pen_past width at (rise z ∷ ms) = pen_past width at ms
+pen_past width at (actual us ∷ ms) = pen_past width at ms
+pen_past width at (ended ∷ ms) = pen_past width at ms
 
 -- ---- which text is extracted
 
@@ -117,7 +117,7 @@ run_marks f d o size pairs is = flat_map (marks_of size pairs) (run_acts f d o i
 abbrev pub ArePlaced : Font → Direction → Order → ℕ → List Item → List Origin → Type 0
 ArePlaced f d o size is os = os ≡ map (aimed f d size) (turned (is_turned d o) (wanted f.inked.now (pos 0) (pos 0) is))
 
--- behind the run the pen is where the shaper has it, to the nearest thousandth of the em
+-- after the run the pen is where the shaper has it, to the nearest thousandth of the em
 abbrev pub IsEnd : Font → Direction → List Item → ℤ → Type 0
 IsEnd f d is at = at ≡ thousandths (end_of d (advance_of is)) f.units
 
@@ -125,7 +125,7 @@ IsEnd f d is at = at ≡ thousandths (end_of d (advance_of is)) f.units
 abbrev pub ThousandthsAreNear : Type 0
 ThousandthsAreNear = (v : ℤ) (units : ℕ) → 0 < units → unsigned_abs ((pos (2 * units) *ℤ thousandths v units) -ℤ (pos 2000 *ℤ v)) ≤ units
 
--- texts that are extracted one behind the other, joined in reading order
+-- texts that are extracted one after the other, joined in reading order
 abbrev pub reading : Direction → Order → List (List ℕ) → List ℕ
 reading d o texts = flat_map (λ (t : List ℕ). t) (if is_turned d o then texts else visual d texts)
 
@@ -137,8 +137,8 @@ pub record IsExtracted (d : Direction) (o : Order) (is : List Item) (found : Lis
 
 -- ---- a run that is shown
 
--- what a reader of the bytes finds: the run's text, its glyphs where the shaper has them, and the pen behind the run
+-- what a reader of the bytes finds: the run's text, its glyphs where the shaper has them, and the pen after the run
 pub record IsShown (f : Font) (d : Direction) (o : Order) (size : ℕ) (pairs : List Pair) (is : List Item) (bytes : List ℕ) : Type 0 where
   pub text : IsExtracted d o is (extracted (text_in pairs) false (said_in bytes))
   pub places : ArePlaced f d o size is (origins f pairs (placed (width_in f pairs) (pos 0) (pos 0) (said_in bytes)))
-  pub pen : IsEnd f d is (pen_behind (width_in f pairs) (pos 0) (said_in bytes))
+  pub pen : IsEnd f d is (pen_past (width_in f pairs) (pos 0) (said_in bytes))

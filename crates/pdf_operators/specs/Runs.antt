@@ -20,7 +20,7 @@ use Rattle.pdf_operators.specs.declared.places.Stop.{Stop}
 use Rattle.pdf_operators.specs.Operators.{Act, back, begin, finish, raise, text_of_all, units_of}
 use Rattle.pdf_operators.specs.Order.{is_turned, turned}
 use Rattle.pdf_operators.specs.Pens.{advance_of, are_pens, end_of, start}
-use Rattle.pdf_operators.specs.Places.{are_near, fits, laid, last_back, stop_behind}
+use Rattle.pdf_operators.specs.Places.{are_near, fits, laid, last_back, stop_after}
 
 -- ---- parts
 
@@ -71,7 +71,7 @@ abbrev pub part_acts : Font → Direction → Stop → List (List Item) → List
 part_acts f d s cs = in_span (is_spanned d cs (part_pieces f d s cs)) (text_of_all cs) (laid f d s (part_pieces f d s cs))
 
 abbrev pub part_stop : Font → Direction → Stop → List (List Item) → Stop
-part_stop f d s cs = stop_behind f d s (part_pieces f d s cs)
+part_stop f d s cs = stop_after f d s (part_pieces f d s cs)
 
 abbrev pub has_room : Direction → List (List Item) → List Piece → Bool
 has_room d cs ps = not (is_spanned d cs ps && is_long cs)
@@ -91,9 +91,9 @@ level_acts z = if int_eq z (pos 0) then [] else raise (pos 0) ∷ []
 abbrev pub end_acts : Font → ℤ → Stop → List Act
 end_acts f end s = back_acts (last_back f end s) ++ level_acts s.rise
 
-abbrev pub acts_behind : Font → Direction → ℤ → Stop → List (List (List Item)) → List Act
-acts_behind f d end s [] = end_acts f end s
-acts_behind f d end s (g ∷ gs) = part_acts f d s g ++ acts_behind f d end (part_stop f d s g) gs
+abbrev pub acts_after : Font → Direction → ℤ → Stop → List (List (List Item)) → List Act
+acts_after f d end s [] = end_acts f end s
+acts_after f d end s (g ∷ gs) = part_acts f d s g ++ acts_after f d end (part_stop f d s g) gs
 
 abbrev pub are_shown : Font → Direction → ℤ → Stop → List (List (List Item)) → Bool
 are_shown f d end s [] = fits (last_back f end s)
@@ -104,7 +104,7 @@ abbrev pub run_parts : Direction → Order → List Item → List (List (List It
 run_parts d o is = turned (is_turned d o) (parts d (clusters is))
 
 abbrev pub run_acts : Font → Direction → Order → List Item → List Act
-run_acts f d o is = acts_behind f d (end_of d (advance_of is)) (start (is_turned d o) (advance_of is)) (run_parts d o is)
+run_acts f d o is = acts_after f d (end_of d (advance_of is)) (start (is_turned d o) (advance_of is)) (run_parts d o is)
 
 -- whether all is shown, where the numbers have 32 bits and each ActualText has room
 abbrev pub is_laid : Font → Direction → Order → List Item → Bool

@@ -3,7 +3,7 @@
 ghost use Rattle.std.specs.Prelude.{◌≡◌, ◌<◌, ◌≤◌, ◌*◌, ◌^◌, ◌+◌, ◌+ℤ◌, ◌-ℤ◌, ◌&&◌, if◌then◌else◌, unsigned_abs, pos, true, false, IfNone, IfSome, Some, None};
 ghost use Rattle.pdf_values.specs.Rounding.{thousandfold, thousandths};
 ghost use Rattle.pdf_operators.specs.Places.{above, along, first_three, fits, in_32_bits, is_near, last_back, metrics_of, narrowed, next, origin_at, pen_at, pen_then, with_last, x_of, y_of};
-ghost use Rattle.pdf_operators.specs.Pens.{advance_of, are_pens, end_of, first_pen, pen_behind, pen_of, start};
+ghost use Rattle.pdf_operators.specs.Pens.{advance_of, are_pens, end_of, first_pen, pen_past, pen_of, start};
 
 use pdf_runs::{Direction, Figure, Item, Piece};
 use subsetter_variation::rounding::nearest;
@@ -30,7 +30,7 @@ pub struct Font<'a> {
     pub inked: &'a [bool],
 }
 
-/// Behind a glyph.
+/// After a glyph.
 #[derive(Clone, Copy)]
 pub struct Stop {
     /// How far a reader's pen went back before the glyph, in thousandths of the em.
@@ -53,7 +53,7 @@ pub struct Advance {
     pub y: i32,
 }
 
-/// Behind a glyph, before it is known whether the numbers have 32 bits.
+/// After a glyph, before it is known whether the numbers have 32 bits.
 #[derive(Clone, Copy)]
 pub struct Wide {
     back: i64,
@@ -130,7 +130,7 @@ fn thousandths(length: i64, units: u16) -> i64
     nearest(thousandfold(length), u64::from(units))
 }
 
-/// Where the shaper's pen is at a glyph: before the advance, or behind it where glyphs are written from the last to the first.
+/// Where the shaper's pen is at a glyph: before the advance, or after it where glyphs are written from the last to the first.
 fn pen_at(is_turned: bool, pen: i32, advance: i32) -> i64
     ensures value { result ≡ pen_at is_turned pen advance }
     ensures bound { unsigned_abs result ≤ 2 ^ 32 }
@@ -210,9 +210,9 @@ fn back_from(from: i32, to: i64) -> i64
     i64::from(from) - to
 }
 
-/// The pens behind a piece.
+/// The pens after a piece.
 #[tactic(auto, using(pdf_text::proofs::Pieces::two_signed))]
-fn pens_behind(font: Font<'_>, direction: Direction, stop: Stop, piece: Piece) -> Wide
+fn pens_after(font: Font<'_>, direction: Direction, stop: Stop, piece: Piece) -> Wide
     requires { 0 < font.units }
     ensures { narrowed result ≡ next font.entry direction stop piece }
 {
@@ -250,7 +250,7 @@ fn first_three(wide: Wide) -> Option<Stop>
     })
 }
 
-/// The last two numbers behind the first three, if they have 32 bits.
+/// The last two numbers after the first three, if they have 32 bits.
 fn last_two(wide: Wide, first: Stop) -> Option<Stop>
     ensures { result ≡ (if fits wide.at && fits wide.rise then Some (with_last first (narrowed wide)) else None) }
 {
@@ -269,12 +269,12 @@ fn narrow(wide: Wide) -> Option<Stop>
     last_two(wide, first)
 }
 
-/// The stop behind a piece, if its numbers have 32 bits.
+/// The stop after a piece, if its numbers have 32 bits.
 pub fn next(font: Font<'_>, direction: Direction, stop: Stop, piece: Piece) -> Option<Stop>
     requires { 0 < font.units }
     ensures { result ≡ (if is_near (next font.entry direction stop piece) then Some (next font.entry direction stop piece) else None) }
 {
-    narrow(pens_behind(font, direction, stop, piece))
+    narrow(pens_after(font, direction, stop, piece))
 }
 
 /// How far a reader's pen is before the end of the line, in thousandths of the em, if that has 32 bits.
@@ -299,9 +299,9 @@ fn pen_of(x: i64, y: i64) -> Option<Advance>
     })
 }
 
-/// A pen behind a glyph, if its numbers have 32 bits.
-fn pen_behind(pen: Advance, item: &Item<'_>) -> Option<Advance>
-    ensures { result ≡ (if fits (pen.x +ℤ item.now.x_advance) && fits (pen.y +ℤ item.now.y_advance) then Some (pen_behind pen item.now) else None) }
+/// A pen after a glyph, if its numbers have 32 bits.
+fn pen_past(pen: Advance, item: &Item<'_>) -> Option<Advance>
+    ensures { result ≡ (if fits (pen.x +ℤ item.now.x_advance) && fits (pen.y +ℤ item.now.y_advance) then Some (pen_past pen item.now) else None) }
 {
     pen_of(
         moved(i64::from(pen.x), item.x_advance),
@@ -317,7 +317,7 @@ pub fn advance_of(items: &[Item<'_>]) -> Option<Advance>
 {
     let mut pen = Advance { x: 0, y: 0 };
     for item in items {
-        match pen_behind(pen, item) {
+        match pen_past(pen, item) {
             Some(next) => pen = next,
             None => return None,
         }

@@ -9,9 +9,9 @@ ghost use Rattle.pdf_runs.specs.Words.{groups};
 ghost use Rattle.pdf_operators.specs.Operators.{act_of, acts_of, operators, text_of_all};
 ghost use Rattle.pdf_operators.specs.Order.{is_turned, turned};
 ghost use Rattle.pdf_operators.specs.Pens.{advance_of};
-ghost use Rattle.pdf_operators.specs.Places.{are_near, fits, is_near, laid, last_back, next, shown_at, stop_behind};
+ghost use Rattle.pdf_operators.specs.Places.{are_near, fits, is_near, laid, last_back, next, shown_at, stop_after};
 ghost use Rattle.pdf_operators.specs.Reading.{AreCoded, IsShown};
-ghost use Rattle.pdf_operators.specs.Runs.{IsFull, IsRefused, acts_behind, are_shown, back_acts, end_acts, in_span, is_laid, is_long, is_part_shown, is_valid, level_acts, part_acts, part_stop, parts, run_acts};
+ghost use Rattle.pdf_operators.specs.Runs.{IsFull, IsRefused, acts_after, are_shown, back_acts, end_acts, in_span, is_laid, is_long, is_part_shown, is_valid, level_acts, part_acts, part_stop, parts, run_acts};
 
 use crate::operations::{Operation, write_operators};
 use crate::order::{Order, is_turned, turn_parts, turn_pieces};
@@ -27,7 +27,7 @@ use subsetter_base::remapper::Remapper;
 
 // ---- a piece
 
-/// Puts an operation behind others.
+/// Puts an operation after others.
 #[tactic(auto, using(crate::proofs::RunSteps::act_put))]
 fn push<'a>(operations: &mut Vec<Operation<'a>>, operation: Operation<'a>) -> Result<(), RunError>
     ensures ok { OnOk result (acts_of operations.new.items ≡ acts_of operations.old.items ++ act_of operation.entry ∷ []) }
@@ -37,7 +37,7 @@ fn push<'a>(operations: &mut Vec<Operation<'a>>, operation: Operation<'a>) -> Re
     Ok(())
 }
 
-/// Puts what shows a piece behind others: from a stop on to the next.
+/// Puts what shows a piece after others: from a stop on to the next.
 fn push_shown(
     operations: &mut Vec<Operation<'_>>,
     stop: Stop,
@@ -53,7 +53,7 @@ fn push_shown(
     push(operations, Operation::Show(next.back, pair_of(piece)))
 }
 
-/// Puts what shows a piece behind others, and gives the stop behind it.
+/// Puts what shows a piece after others, and gives the stop after it.
 fn push_piece(
     operations: &mut Vec<Operation<'_>>,
     font: Font<'_>,
@@ -68,15 +68,15 @@ fn push_piece(
     ensures err { IfErr result (λ e. (e ≡ OutOfMemory) ⊎ ((e ≡ InvalidText) × (is_near (next font.entry direction stop piece) ≡ false))) }
 {
     match next(font, direction, stop, piece) {
-        Some(behind) => {
-            push_shown(operations, stop, behind, piece)?;
-            Ok(behind)
+        Some(following) => {
+            push_shown(operations, stop, following, piece)?;
+            Ok(following)
         }
         None => Err(RunError::InvalidText),
     }
 }
 
-/// Puts what shows pieces behind others, and gives the stop behind them.
+/// Puts what shows pieces after others, and gives the stop after them.
 fn push_pieces(
     operations: &mut Vec<Operation<'_>>,
     font: Font<'_>,
@@ -86,20 +86,20 @@ fn push_pieces(
 ) -> Result<Stop, RunError>
     requires { 0 < font.units }
     ensures ok { OnOk result (acts_of operations.new.items ≡ acts_of operations.old.items ++ laid font.entry direction stop pieces.now) }
-    ensures next { IfOk result (λ s. s ≡ stop_behind font.entry direction stop pieces.now) }
+    ensures next { IfOk result (λ s. s ≡ stop_after font.entry direction stop pieces.now) }
     ensures near { OnOk result (are_near font.entry direction stop pieces.now ≡ true) }
     ensures err { IfErr result (λ e. (e ≡ OutOfMemory) ⊎ ((e ≡ InvalidText) × (are_near font.entry direction stop pieces.now ≡ false))) }
 {
-    let mut behind = stop;
+    let mut following = stop;
     for piece in pieces {
-        behind = push_piece(operations, font, direction, behind, *piece)?;
+        following = push_piece(operations, font, direction, following, *piece)?;
     }
-    Ok(behind)
+    Ok(following)
 }
 
 // ---- a part
 
-/// Puts what shows pieces behind others, with an ActualText around it.
+/// Puts what shows pieces after others, with an ActualText around it.
 fn push_span<'a>(
     operations: &mut Vec<Operation<'a>>,
     font: Font<'_>,
@@ -110,7 +110,7 @@ fn push_span<'a>(
 ) -> Result<Stop, RunError>
     requires { 0 < font.units }
     ensures ok { OnOk result (acts_of operations.new.items ≡ acts_of operations.old.items ++ in_span true (text_of_all (lists clusters.now)) (laid font.entry direction stop pieces.now)) }
-    ensures next { IfOk result (λ s. s ≡ stop_behind font.entry direction stop pieces.now) }
+    ensures next { IfOk result (λ s. s ≡ stop_after font.entry direction stop pieces.now) }
     ensures near { OnOk result (are_near font.entry direction stop pieces.now ≡ true) }
     ensures short { OnOk result (is_long (lists clusters.now) ≡ false) }
     ensures err { IfErr result (λ e. (e ≡ OutOfMemory) ⊎ ((e ≡ InvalidText) × ((is_long (lists clusters.now) ≡ true) ⊎ (are_near font.entry direction stop pieces.now ≡ false)))) }
@@ -119,12 +119,12 @@ fn push_span<'a>(
         return Err(RunError::InvalidText);
     }
     push(operations, Operation::Begin(clusters))?;
-    let behind = push_pieces(operations, font, direction, stop, pieces)?;
+    let following = push_pieces(operations, font, direction, stop, pieces)?;
     push(operations, Operation::End)?;
-    Ok(behind)
+    Ok(following)
 }
 
-/// Puts what shows a part behind others, and gives the stop behind it.
+/// Puts what shows a part after others, and gives the stop after it.
 fn push_part<'a>(
     alloc: Global,
     operations: &mut Vec<Operation<'a>>,
@@ -184,7 +184,7 @@ fn push_ends(operations: &mut Vec<Operation<'_>>, back: i32, rise: i32) -> Resul
     push_level(operations, rise)
 }
 
-/// The same behind a stop, if the number has 32 bits.
+/// The same after a stop, if the number has 32 bits.
 fn push_end(
     operations: &mut Vec<Operation<'_>>,
     font: Font<'_>,
@@ -215,7 +215,7 @@ fn operations_of_parts<'a>(
     parts: &[&'a [&'a [Item<'a>]]],
 ) -> Result<Vec<Operation<'a>>, RunError>
     requires { 0 < font.units }
-    ensures ok { IfOk result (λ operations. acts_of operations.items ≡ acts_behind font.entry direction end first (groups parts.now)) }
+    ensures ok { IfOk result (λ operations. acts_of operations.items ≡ acts_after font.entry direction end first (groups parts.now)) }
     ensures valid { OnOk result (are_shown font.entry direction end first (groups parts.now) ≡ true) }
     ensures err { IfErr result (λ e. (e ≡ OutOfMemory) ⊎ ((e ≡ InvalidText) × (are_shown font.entry direction end first (groups parts.now) ≡ false))) }
 {
@@ -339,7 +339,7 @@ fn write_run(
     }
 }
 
-/// The operators that show a run, for a content stream: between BT and ET, behind Tf and Td or Tm, where the character and
+/// The operators that show a run, for a content stream: between BT and ET, after Tf and Td or Tm, where the character and
 /// word spacing and the text rise are 0 and the scaling is 100. The size of the font is in thousandths of a unit of text
 /// space. The pen goes on by the run's advance, and the text rise is 0 then. Codes of earlier runs stay, after an error too.
 ///

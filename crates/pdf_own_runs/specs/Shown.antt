@@ -13,7 +13,7 @@ use Rattle.pdf_operators.specs.declared.order.Order.{Order}
 use Rattle.pdf_operators.specs.declared.places.Font.{Font}
 use Rattle.pdf_operators.specs.Operators.{operators}
 use Rattle.pdf_operators.specs.Content.{said_in}
-use Rattle.pdf_operators.specs.Reading.{AreCoded, IsEnd, IsExtracted, IsShown, extracted, pen_behind, text_in, width_in}
+use Rattle.pdf_operators.specs.Reading.{AreCoded, IsEnd, IsExtracted, IsShown, extracted, pen_past, text_in, width_in}
 use Rattle.pdf_operators.specs.Runs.{IsRefused, is_valid, run_acts}
 use Rattle.pdf_figures.specs.declared.choice.Choice.{Choice}
 use Rattle.pdf_figures.specs.declared.ink.OwnInk.{OwnInk}
@@ -63,7 +63,7 @@ pub record IsShownWithOwn (f : Font) (c : Choice) (d : Direction) (o : Order) (s
   -- what is drawn, with the parts of own glyphs in their place, is the run's glyphs where the shaper has them
   pub drawn : flat_map (expanded (length f.metrics.now) (inks_of own)) (wanted shown.font.inked.now (pos 0) (pos 0) items) ≡ wanted c.inked.now (pos 0) (pos 0) is
   -- after it the pen is where the shaper has it
-  pub pen : IsEnd f d is (pen_behind (width_in shown.font new) (pos 0) (said_in bytes))
+  pub pen : IsEnd f d is (pen_past (width_in shown.font new) (pos 0) (said_in bytes))
 
 -- the items that are the figures of a run aren't shown
 pub record AreUnshown (f : Font) (c : Choice) (d : Direction) (o : Order) (pairs new : List Pair) (own : List OwnInk) (is : List Item) (e : RunError) : Type 0 where

@@ -97,9 +97,9 @@ all_within is n e = let all : continued is ≤ length is = prefix_len-le-length 
 
 -- ---- clusters that are borrowed
 
-pub found_more : (found new : List (Bor (List Item))) (cluster : Bor (List Item)) (rest behind : List Item) (n : ℕ) (total : List (List Item)) → 1 ≤ length rest → n ≡ 1 + continued (drop 1 rest)
-    → cluster.now ≡ take n rest → behind ≡ drop n rest → new ≡ found ++ cluster ∷ [] → lists found ++ clusters rest ≡ total → lists new ++ clusters behind ≡ total
-found_more found new cluster rest behind n total l e is later more h =
+pub found_more : (found new : List (Bor (List Item))) (cluster : Bor (List Item)) (rest following : List Item) (n : ℕ) (total : List (List Item)) → 1 ≤ length rest → n ≡ 1 + continued (drop 1 rest)
+    → cluster.now ≡ take n rest → following ≡ drop n rest → new ≡ found ++ cluster ∷ [] → lists found ++ clusters rest ≡ total → lists new ++ clusters following ≡ total
+found_more found new cluster rest following n total l e is later more h =
     let m : ℕ = continued (drop 1 rest) in
     let here : lists new ≡ lists found ++ (take (1 + m) rest ∷ []) =
     ap lists more ∙ map-append (λ (c : Bor (List Item)). c.now) found (cluster ∷ []) ∙ ap (λ (c : List Item). lists found ++ c ∷ []) (is ∙ ap (λ (k : ℕ). take k rest) e)

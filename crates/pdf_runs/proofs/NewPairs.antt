@@ -10,7 +10,7 @@ use Rattle.pdf_runs.specs.declared.pieces.Piece.{Piece}
 use Rattle.pdf_runs.specs.Codes.{pair_of, same, with_new, with_pairs}
 use Rattle.pdf_runs.proofs.PairLaws.{equal, grows, grows_by, put_same}
 
--- the new pairs of pieces behind others
+-- the new pairs of pieces after others
 abbrev pub with_all_new : List Pair → List Pair → List Piece → List Pair
 with_all_new pairs new [] = new
 with_all_new pairs new (p ∷ ps) = with_all_new pairs (with_new same pairs new (pair_of p)) ps
@@ -37,14 +37,14 @@ put_by true b xs ys x = refl
 put_by false true xs ys x = refl
 put_by false false xs ys x = append_assoc xs ys (x ∷ [])
 
-put_behind : (xs ys : List Pair) (x : Pair) → with_value same (xs ++ ys) x ≡ xs ++ with_new same xs ys x
-put_behind xs ys x =
+put_after : (xs ys : List Pair) (x : Pair) → with_value same (xs ++ ys) x ≡ xs ++ with_new same xs ys x
+put_after xs ys x =
     ap (λ (b : Bool). cond b (xs ++ ys) ((xs ++ ys) ++ x ∷ [])) (found_in xs ys x) ∙ put_by (is_some (index_by same xs x)) (is_some (index_by same ys x)) xs ys x
 
 -- pairs with those of pieces are they and the new ones
-pub all_behind : (ps : List Piece) (xs new : List Pair) → with_pairs (xs ++ new) ps ≡ xs ++ with_all_new xs new ps
-all_behind [] xs new = refl
-all_behind (p ∷ ps) xs new = ap (λ (l : List Pair). with_pairs l ps) (put_behind xs new (pair_of p)) ∙ all_behind ps xs (with_new same xs new (pair_of p))
+pub all_after : (ps : List Piece) (xs new : List Pair) → with_pairs (xs ++ new) ps ≡ xs ++ with_all_new xs new ps
+all_after [] xs new = refl
+all_after (p ∷ ps) xs new = ap (λ (l : List Pair). with_pairs l ps) (put_after xs new (pair_of p)) ∙ all_after ps xs (with_new same xs new (pair_of p))
 
 new_grows_by : (a b : Bool) (new : List Pair) (x : Pair) → length new ≤ length (cond a new (cond b new (new ++ x ∷ [])))
 new_grows_by true b new x = omega arith
@@ -69,7 +69,7 @@ new_more ps k d xs was now total q l is put all =
 
 all_pairs : (ps : List Piece) (xs : List Pair) → length (with_pairs xs ps) ≡ length xs + length (with_all_new xs [] ps)
 all_pairs ps xs =
-    ap (λ (l : List Pair). length (with_pairs l ps)) (sym (append-nil xs)) ∙ ap length (all_behind ps xs []) ∙ length-append xs (with_all_new xs [] ps)
+    ap (λ (l : List Pair). length (with_pairs l ps)) (sym (append-nil xs)) ∙ ap length (all_after ps xs []) ∙ length-append xs (with_all_new xs [] ps)
 
 -- too many of them are too many
 pub too_many : (ps rest : List Piece) (xs new : List Pair) → with_all_new xs new rest ≡ with_all_new xs [] ps → 65535 < length xs + length new → 65535 < length (with_pairs xs ps)

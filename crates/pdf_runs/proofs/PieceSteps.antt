@@ -1,4 +1,4 @@
--- Pieces that are written one behind the other.
+-- Pieces that are written one after the other.
 use Rattle.std.proofs.Common.{◌≡◌, ℕ, zero, suc, ◌+◌, ◌-◌, ◌<◌, ◌≤◌, Bool, true, false, not, nat_lt, List, [], ◌∷◌, ◌++◌, length, get_or, map, take, drop, slice_get, flat_map, Result, Ok, Err, OnOk, Option, Some, None, if◌then◌else◌, refl, sym, ap, ◌∙◌, append_assoc, arith, lt-ltb, ltb-true, Bor}
 use Rattle.std.specs.List.{position_or_len}
 use Rattle.std.proofs.lemmas.List.{drop_more, length-map, take_rest}
@@ -109,7 +109,7 @@ pub spread_written : (inked : List Bool) (i : Item) (cs : List ℕ) (k n c : ℕ
     → three ≡ old ++ spread inked i cs
 spread_written inked i cs k n c old one two three there all l is a b d =
     let before : List Piece = map blank_of (take k cs) in
-    let behind : List Piece = map blank_of (drop (k + 1) cs) in
+    let following : List Piece = map blank_of (drop (k + 1) cs) in
     let p : Piece = piece_of inked i (Some c) in
     let says : slice_get cs k ≡ Some c = slice_get-get_or cs k 0 l ∙ ap Some (sym is) in
     let rest : take (n - (k + 1)) (drop (k + 1) cs) ≡ drop (k + 1) cs = ap (λ (m : ℕ). take (m - (k + 1)) (drop (k + 1) cs)) all ∙ take_rest cs (k + 1) in
@@ -117,10 +117,10 @@ spread_written inked i cs k n c old one two three there all l is a b d =
     let first : two ≡ (old ++ before) ++ p ∷ [] = b ∙ ap (λ (l : List Piece). l ++ p ∷ []) (a ∙ ap (λ (m : ℕ). old ++ map blank_of (take m cs)) none) in
     d
     ∙ ap (λ (l : List ℕ). two ++ map blank_of l) rest
-    ∙ ap (λ (l : List Piece). l ++ behind) first
-    ∙ append_assoc (old ++ before) (p ∷ []) behind
-    ∙ append_assoc old before (p ∷ behind)
-    ∙ ap (λ (o : Option ℕ). old ++ (before ++ piece_of inked i o ∷ behind)) (sym says)
+    ∙ ap (λ (l : List Piece). l ++ following) first
+    ∙ append_assoc (old ++ before) (p ∷ []) following
+    ∙ append_assoc old before (p ∷ following)
+    ∙ ap (λ (o : Option ℕ). old ++ (before ++ piece_of inked i o ∷ following)) (sym says)
     ∙ ap (λ (m : ℕ). old ++ (map blank_of (take m cs) ++ piece_of inked i (slice_get cs m) ∷ map blank_of (drop (m + 1) cs))) there
 
 -- a glyph that has no characters says nothing

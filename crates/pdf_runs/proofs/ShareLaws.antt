@@ -33,7 +33,7 @@ none_left : (k : ℕ) → take {A = ℕ} 1 (drop k []) ≡ []
 none_left zero = refl
 none_left (suc k) = refl
 
--- the share at a place behind the first
+-- the share at a place after the first
 each_at : (n : ℕ) (cs : List ℕ) (k : ℕ) → k < n → get_or (one_each n cs) k [] ≡ take 1 (drop k cs)
 each_at zero cs k l = absurd (omega arith)
 each_at (suc n) [] zero l = refl

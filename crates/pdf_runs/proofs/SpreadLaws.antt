@@ -85,15 +85,15 @@ drawn_spread inked x y i cs =
     let k : ℕ = bearer cs in
     let p : Piece = piece_of inked i (slice_get cs k) in
     let before : List Piece = map blank_of (take k cs) in
-    let behind : List Piece = map blank_of (drop (k + 1) cs) in
+    let following : List Piece = map blank_of (drop (k + 1) cs) in
     let dx : ℤ = total (λ (q : Piece). q.x_advance) before in
     let dy : ℤ = total (λ (q : Piece). q.y_advance) before in
     let no_x : x +ℤ dx ≡ x = ap (λ (a : ℤ). x +ℤ a) (total_blanks (λ (q : Piece). q.x_advance) (λ c. refl) (take k cs)) ∙ +ℤ_idr x in
     let no_y : y +ℤ dy ≡ y = ap (λ (a : ℤ). y +ℤ a) (total_blanks (λ (q : Piece). q.y_advance) (λ c. refl) (take k cs)) ∙ +ℤ_idr y in
-    drawn_append x y before (p ∷ behind)
-    ∙ ap (λ (l : List Drawn). l ++ drawn (x +ℤ dx) (y +ℤ dy) (p ∷ behind)) (drawn_blanks x y (take k cs))
-    ∙ ap (λ (a : ℤ). drawn a (y +ℤ dy) (p ∷ behind)) no_x
-    ∙ ap (λ (b : ℤ). drawn x b (p ∷ behind)) no_y
+    drawn_append x y before (p ∷ following)
+    ∙ ap (λ (l : List Drawn). l ++ drawn (x +ℤ dx) (y +ℤ dy) (p ∷ following)) (drawn_blanks x y (take k cs))
+    ∙ ap (λ (a : ℤ). drawn a (y +ℤ dy) (p ∷ following)) no_x
+    ∙ ap (λ (b : ℤ). drawn x b (p ∷ following)) no_y
     ∙ ap (λ (l : List Drawn). drawn_at (figure_of inked i) (x +ℤ i.x_offset) (y +ℤ i.y_offset) ++ l) (drawn_blanks (x +ℤ i.x_advance) (y +ℤ i.y_advance) (drop (k + 1) cs))
     ∙ append-nil (drawn_at (figure_of inked i) (x +ℤ i.x_offset) (y +ℤ i.y_offset))
     ∙ drawn_figure (is_bare inked i) i.glyph (x +ℤ i.x_offset) (y +ℤ i.y_offset)

@@ -6,7 +6,7 @@ use Rattle.pdf_runs.specs.declared.items.Item.{Item}
 use Rattle.pdf_runs.specs.Clusters.{lists}
 use Rattle.pdf_runs.specs.Words.{beside, groups, is_blank, words}
 
--- how many clusters behind the first are of its word
+-- how many clusters after the first are of its word
 abbrev more_by : Bool → List (List Item) → ℕ
 more_by true cs = 0
 more_by false cs = position_or_len is_blank cs
@@ -68,7 +68,7 @@ rest_none cs n k total l h =
     let none : position_or_len is_blank (lists (drop k cs)) ≡ 0 = ap (λ (l : List (Bor (List Item))). position_or_len is_blank (lists l)) (drop_all k cs l) in
     omega (arith, none, h)
 
--- a blank cluster is alone, and another one goes with those behind it
+-- a blank cluster is alone, and another one goes with those after it
 pub blank_first : (cs : List (Bor (List Item))) (e : Bor (List Item)) → 1 ≤ length cs → is_blank (get_or cs 0 e).now ≡ true → words (lists cs) ≡ take 1 (lists cs) ∷ words (drop 1 (lists cs))
 blank_first [] e l is = absurd (omega arith)
 blank_first (c ∷ cs) e l is = word_at true 1 c.now (lists cs) is refl
@@ -89,16 +89,16 @@ lists_take (suc n) [] = refl
 lists_take (suc n) (c ∷ cs) = ap (λ (l : List (List Item)). c.now ∷ l) (lists_take n cs)
 
 -- with one word more, words and those of the rest are still all
-pub words_more : (found new : List (Bor (List (Bor (List Item))))) (word : Bor (List (Bor (List Item)))) (rest behind : List (Bor (List Item))) (n : ℕ) (total : List (List (List Item)))
-    → words (lists rest) ≡ take n (lists rest) ∷ words (drop n (lists rest)) → word.now ≡ take n rest → behind ≡ drop n rest → new ≡ found ++ word ∷ []
-    → groups found ++ words (lists rest) ≡ total → groups new ++ words (lists behind) ≡ total
-words_more found new word rest behind n total first is later more h =
+pub words_more : (found new : List (Bor (List (Bor (List Item))))) (word : Bor (List (Bor (List Item)))) (rest following : List (Bor (List Item))) (n : ℕ) (total : List (List (List Item)))
+    → words (lists rest) ≡ take n (lists rest) ∷ words (drop n (lists rest)) → word.now ≡ take n rest → following ≡ drop n rest → new ≡ found ++ word ∷ []
+    → groups found ++ words (lists rest) ≡ total → groups new ++ words (lists following) ≡ total
+words_more found new word rest following n total first is later more h =
     let group : Bor (List (Bor (List Item))) → List (List Item) = λ g. lists g.now in
     let here : groups new ≡ groups found ++ (take n (lists rest) ∷ []) =
     ap groups more ∙ map-append group found (word ∷ []) ∙ ap (λ (g : List (List Item)). groups found ++ g ∷ []) (ap lists is ∙ lists_take n rest)
     in
-    ap (λ (l : List (List (List Item))). l ++ words (lists behind)) here
-    ∙ append_assoc (groups found) (take n (lists rest) ∷ []) (words (lists behind))
+    ap (λ (l : List (List (List Item))). l ++ words (lists following)) here
+    ∙ append_assoc (groups found) (take n (lists rest) ∷ []) (words (lists following))
     ∙ ap (λ (l : List (List (List Item))). groups found ++ take n (lists rest) ∷ l) (ap (λ (l : List (Bor (List Item))). words (lists l)) later ∙ ap words (lists_drop n rest))
     ∙ sym (ap (λ (l : List (List (List Item))). groups found ++ l) first)
     ∙ h
@@ -114,7 +114,7 @@ joined_before t c [] = refl
 joined_before t c ([] ∷ ws) = joined_by false c [] ws
 joined_before t c ((b ∷ w) ∷ ws) = joined_by (not (is_blank c) && not (is_blank b)) c (b ∷ w) ws
 
--- one behind the other the words are the clusters
+-- one after the other the words are the clusters
 pub words_are_clusters : (cs : List (List Item)) → flat_map (λ (g : List (List Item)). g) (words cs) ≡ cs
 words_are_clusters [] = refl
 words_are_clusters (c ∷ cs) = joined_before true c (words cs) ∙ ap (λ (l : List (List Item)). c ∷ l) (words_are_clusters cs)

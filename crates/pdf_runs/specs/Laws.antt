@@ -17,7 +17,7 @@ abbrev pub is_cluster : List Item → Bool
 is_cluster [] = false
 is_cluster (i ∷ is) = begins i && list_all (λ (j : Item). not (begins j)) is
 
--- one behind the other the clusters are the run
+-- one after the other the clusters are the run
 abbrev pub ClustersAreTheRun : Type 0
 ClustersAreTheRun = (is : List Item) → flat_map (λ (c : List Item). c) (clusters is) ≡ is
 
@@ -27,7 +27,7 @@ ClustersBeginOnce = (is : List Item) → is_begun is ≡ true → list_all is_cl
 
 -- ---- what is said
 
--- what pieces say, one behind the other as they are seen
+-- what pieces say, one after the other as they are seen
 abbrev pub said : List Piece → List ℕ
 said ps = flat_map (λ (p : Piece). option_to_list p.says) ps
 

@@ -62,7 +62,7 @@ abbrev pub next_place : ℕ → ℕ → List ℕ → ℕ
 next_place count p [] = count
 next_place count p (q ∷ qs) = if q == p then next_place count p qs else q
 
--- the next greater place in the run: behind the glyph, or before it where the run is from right to left
+-- the next greater place in the run: after the glyph, or before it where the run is from right to left
 abbrev pub end_of : Direction → ℕ → Option ℕ → ℕ → List ℕ → ℕ
 end_of LeftToRight count before p later = next_place count p later
 end_of RightToLeft count before p later = unwrap_or before count
@@ -96,7 +96,7 @@ seen i = record { glyph = i.glyph; text = text_seen i.text; x_advance = i.x_adva
 abbrev pub labelled : Shaped → Option (List ℕ) → Labelled
 labelled g t = record { glyph = g.glyph; text = t; x_advance = g.x_advance; y_advance = g.y_advance; x_offset = g.x_offset; y_offset = g.y_offset }
 
--- glyphs with their places behind another
+-- glyphs with their places after another
 abbrev pub all_labelled : Direction → List ℕ → Option ℕ → List ℕ → List Shaped → List Labelled
 all_labelled d cs before [] gs = []
 all_labelled d cs before (p ∷ ps) [] = []

@@ -84,7 +84,7 @@ fn code_of(pairs: &mut Remapper<u16, Pair>, pair: Pair) -> Result<u16, Error>
     pairs.remap(pair)
 }
 
-/// Puts a pair behind new ones, if neither they nor others have it.
+/// Puts a pair after new ones, if neither they nor others have it.
 #[tactic(auto, using(crate::proofs::NewPairs::known_new, crate::proofs::NewPairs::new_put))]
 fn add_new(
     pairs: &Remapper<u16, Pair>,
@@ -167,7 +167,7 @@ fn codes_with_room(
     Ok(codes)
 }
 
-/// The codes of pieces, whose pairs go behind the earlier ones. The codes of earlier pieces stay, after an error too.
+/// The codes of pieces, whose pairs go after the earlier ones. The codes of earlier pieces stay, after an error too.
 ///
 /// # Errors
 ///

@@ -2,7 +2,7 @@
 
 ghost use Rattle.pdf_runs.specs.Laws.{ClustersAreTheRun, ClustersBeginOnce, GlyphsAreDrawn, PenGoesOn, TextIsSaid};
 
-/// The clusters of a run, one behind the other, are the run.
+/// The clusters of a run, one after the other, are the run.
 pub fn clusters_are_the_run()
     ensures { ClustersAreTheRun }
 {}

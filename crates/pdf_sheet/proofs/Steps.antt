@@ -1,4 +1,4 @@
--- Texts and values that are made one behind the other.
+-- Texts and values that are made one after the other.
 use Rattle.std.proofs.Common.{◌≡◌, ◌≤◌, ◌<◌, ℕ, zero, suc, ◌+◌, ◌-◌, ◌*◌, ◌/◌, Bool, true, false, List, [], ◌∷◌, ◌++◌, length, get_or, map, take, drop, decimal, refl, sym, ap, subst, ◌∙◌, append_assoc, ◌⊎◌, inl, inr, add-one, drop-cons, arith, length-append, length-drop, Result, Vec, Global}
 use Rattle.std.specs.Prelude.{All, IfErr, IfOk, codes, is_some, min, if◌then◌else◌}
 use Rattle.std.specs.List.{concat}
@@ -129,7 +129,7 @@ offsets_more os os1 w w1 n n1 v vs vs1 all e f p g h =
     ap (λ m. os1 ++ offsets_from (length w1) (objects_from m vs1)) f
     ∙ one_more_offset os os1 w w1 (object_text n v) (objects_from (n + 1) vs1) all p g (ap (λ (l : List (List ℕ)). os ++ offsets_from (length w) (objects_from n l)) (sym e) ∙ h)
 
--- ---- the font behind the other objects
+-- ---- the font after the other objects
 
 objects-append : (n : ℕ) (xs ys : List (List ℕ)) (m : ℕ) → m ≡ n + length xs → objects_from n (xs ++ ys) ≡ objects_from n xs ++ objects_from m ys
 objects-append n [] ys m e = let same : n ≡ m = omega arith in ap (λ k. objects_from k ys) same
@@ -207,8 +207,8 @@ length-view : (texts : List (Vec ℕ Global)) → length (texts_view texts) ≡ 
 length-view [] = refl
 length-view (t ∷ ts) = ap suc (length-view ts)
 
-pub view_behind : (texts : List (Vec ℕ Global)) → 1 + length texts ≡ 1 + length (texts_view texts)
-view_behind texts = ap (λ n. 1 + n) (sym (length-view texts))
+pub view_after : (texts : List (Vec ℕ Global)) → 1 + length texts ≡ 1 + length (texts_view texts)
+view_after texts = ap (λ n. 1 + n) (sym (length-view texts))
 
 pub sheet_first : (layout : Layout) (gs : List SheetGlyph) (frame : Frame) (front : List (Vec ℕ Global)) (first : ℕ) → texts_view front ≡ front_values layout frame gs → first ≡ font_number (page_count layout (length gs)) → first ≡ 1 + length front
 sheet_first layout gs frame front first f e = e ∙ length-front layout frame gs ∙ ap (λ (vs : List (List ℕ)). 1 + length vs) (sym f) ∙ ap (λ n. 1 + n) (length-view front)

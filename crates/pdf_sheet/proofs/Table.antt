@@ -60,13 +60,13 @@ pub length-offsets : (b n : ℕ) (values : List (List ℕ)) → length (offsets_
 length-offsets b n [] = refl
 length-offsets b n (v ∷ vs) = ap suc (length-offsets (b + length (object_text n v)) (n + 1) vs)
 
--- offsets behind a front
-pub offsets_behind : (f b d : ℕ) (ts : List (List ℕ)) (k : ℕ) → get_or (offsets_from (f + b) ts) k (f + d) ≡ f + get_or (offsets_from b ts) k d
-offsets_behind f b d [] k = refl
-offsets_behind f b d (t ∷ ts) zero = refl
-offsets_behind f b d (t ∷ ts) (suc k) =
+-- offsets after a front
+pub offsets_after : (f b d : ℕ) (ts : List (List ℕ)) (k : ℕ) → get_or (offsets_from (f + b) ts) k (f + d) ≡ f + get_or (offsets_from b ts) k d
+offsets_after f b d [] k = refl
+offsets_after f b d (t ∷ ts) zero = refl
+offsets_after f b d (t ∷ ts) (suc k) =
     let e : (f + b) + length t ≡ f + (b + length t) = omega arith in
-    ap (λ n. get_or (offsets_from n ts) k (f + d)) e ∙ offsets_behind f (b + length t) d ts k
+    ap (λ n. get_or (offsets_from n ts) k (f + d)) e ∙ offsets_after f (b + length t) d ts k
 
 wrapped : (a b c d e : List ℕ) → (a ++ (b ++ (c ++ d))) ++ e ≡ (a ++ b) ++ (c ++ (d ++ e))
 wrapped a b c d e = simp append_assoc
@@ -113,12 +113,12 @@ moved text o o1 e e1 n v p q h = subst (λ m. IsObjectAt text m e1 n v) p (subst
 own_offset : (values : List (List ℕ)) (k : ℕ) → k < length values → get_or (offsets_of values) k 0 ≡ length header + get_or (offsets_from 0 (objects_from 1 values)) k 0
 own_offset values k l =
     let size : length (offsets_of values) ≡ length values = length-offsets (length header) 1 values in
-    get_or_default (offsets_of values) k 0 (length header + 0) (omega arith) ∙ offsets_behind (length header) 0 0 (objects_from 1 values) k
+    get_or_default (offsets_of values) k 0 (length header + 0) (omega arith) ∙ offsets_after (length header) 0 0 (objects_from 1 values) k
 
 next_offset : (values : List (List ℕ)) (k : ℕ) → get_or (offsets_of values) k (length (body_of values)) ≡ length header + get_or (offsets_from 0 (objects_from 1 values)) k (length (concat (objects_from 1 values)))
 next_offset values k =
     ap (λ n. get_or (offsets_of values) k n) (length-append header (concat (objects_from 1 values)))
-    ∙ offsets_behind (length header) 0 (length (concat (objects_from 1 values))) (objects_from 1 values) k
+    ∙ offsets_after (length header) 0 (length (concat (objects_from 1 values))) (objects_from 1 values) k
 
 pub are_in_table : ObjectsAreInTable
 are_in_table values small k l =

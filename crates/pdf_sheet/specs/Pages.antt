@@ -56,7 +56,7 @@ page_values frame font n (p ∷ ps) = page_value font (n + 1) ∷ stream_value (
 
 -- ---- all objects
 
--- the number of the font, behind catalog, root, pages and contents
+-- the number of the font, after catalog, root, pages and contents
 abbrev pub font_number : ℕ → ℕ
 font_number count = 3 + 2 * count
 

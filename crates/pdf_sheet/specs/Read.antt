@@ -15,7 +15,7 @@ pub record Showing : Type 0 where
   pub string : Option (List ℕ)
   pub actual : Option (List ℕ)
 
--- behind a token, and in an ActualText or in none
+-- after a token, and in an ActualText or in none
 abbrev pub shown_from : List ℕ → Option (List ℕ) → List (List ℕ) → List Showing
 shown_from last actual [] = []
 shown_from last actual (t ∷ ts) = if bytes_eq t (codes "Tj") then record { string = hex_in last; actual = actual } ∷ shown_from t actual ts
@@ -29,7 +29,7 @@ shown_in text = shown_from [] None (tokens text)
 
 -- ---- the law
 
--- the code of a glyph; and its text behind a byte order mark, where the code doesn't say it
+-- the code of a glyph; and its text after a byte order mark, where the code doesn't say it
 abbrev pub showing : SheetGlyph → Showing
 showing g = record { string = Some (g.code ∷ []); actual = if g.is_said then None else Some (65279 ∷ units_of g.text.now) }
 

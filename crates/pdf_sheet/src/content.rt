@@ -24,7 +24,7 @@ fn write_positioned(
     write_glyph(text, glyph)
 }
 
-/// Writes glyphs, one behind the other.
+/// Writes glyphs, one after the other.
 #[tactic(auto, using(pdf_text::proofs::Written::one_more_written))]
 fn write_glyphs(text: &mut Vec<u8>, frame: Frame, glyphs: &[SheetGlyph<'_>]) -> Result<(), Error>
     ensures ok { OnOk result (text.new.items ≡ text.old.items ++ glyphs_text frame 0 glyphs.now) }
@@ -39,7 +39,7 @@ fn write_glyphs(text: &mut Vec<u8>, frame: Frame, glyphs: &[SheetGlyph<'_>]) -> 
 }
 
 /// The content of a page with these glyphs.
-#[tactic(auto, using(pdf_text::proofs::Written::three_behind_nothing))]
+#[tactic(auto, using(pdf_text::proofs::Written::three_after_nothing))]
 pub fn content_of(alloc: Global, frame: Frame, glyphs: &[SheetGlyph<'_>]) -> Result<Vec<u8>, Error>
     ensures ok { IfOk result (λ text. text.items ≡ content frame glyphs.now) }
     ensures err { IfErr result (λ e. e ≡ OutOfMemory) }

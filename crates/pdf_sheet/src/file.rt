@@ -51,7 +51,7 @@ pub fn body_of(alloc: Global, values: &[Vec<u8>]) -> Result<Body, Error>
     Ok(Body { text, offsets })
 }
 
-/// Puts offsets behind others, which so many bytes stand before.
+/// Puts offsets after others, which so many bytes stand before.
 fn push_offsets(offsets: &mut Vec<usize>, start: usize, more: &[usize]) -> Result<(), Error>
     requires { All (λ o. start + o < 2 ^ 64) more.now }
     ensures ok { OnOk result (offsets.new.items ≡ offsets.old.items ++ map (λ o. start + o) more.now) }
@@ -63,7 +63,7 @@ fn push_offsets(offsets: &mut Vec<usize>, start: usize, more: &[usize]) -> Resul
     Ok(())
 }
 
-/// Puts objects behind others, with the offset of each in their text.
+/// Puts objects after others, with the offset of each in their text.
 pub fn push_objects(body: &mut Body, text: &[u8], offsets: &[usize]) -> Result<(), Error>
     requires { All (λ o. o ≤ length text.now) offsets.now }
     ensures text { OnOk result (body.new.text.items ≡ body.old.text.items ++ text.now) }

@@ -24,7 +24,7 @@ pub struct SheetLine<'a> {
 }
 
 /// The root of so many pages, which each have their size.
-#[tactic(auto, using(pdf_text::proofs::Pieces::two_behind_nothing))]
+#[tactic(auto, using(pdf_text::proofs::Pieces::two_after_nothing))]
 fn lines_root(alloc: Global, count: usize) -> Result<Vec<u8>, Error>
     requires { count < 2 ^ 60 }
     ensures ok { IfOk result (λ text. text.items ≡ lines_root count) }
@@ -64,7 +64,7 @@ fn write_page_end(text: &mut Vec<u8>, font: usize, n: usize) -> Result<(), Error
 }
 
 /// The page of a line.
-#[tactic(auto, using(pdf_text::proofs::Pieces::two_behind_nothing))]
+#[tactic(auto, using(pdf_text::proofs::Pieces::two_after_nothing))]
 fn line_page(alloc: Global, frame: Frame, font: usize, n: usize) -> Result<Vec<u8>, Error>
     ensures ok { IfOk result (λ text. text.items ≡ line_page frame font n) }
     ensures err { IfErr result (λ e. e ≡ OutOfMemory) }
@@ -76,7 +76,7 @@ fn line_page(alloc: Global, frame: Frame, font: usize, n: usize) -> Result<Vec<u
 }
 
 /// The content of a line's page.
-#[tactic(auto, using(pdf_text::proofs::Pieces::four_behind_nothing))]
+#[tactic(auto, using(pdf_text::proofs::Pieces::four_after_nothing))]
 fn line_content(alloc: Global, frame: Frame, operators: &[u8]) -> Result<Vec<u8>, Error>
     ensures ok { IfOk result (λ text. text.items ≡ line_content frame operators.now) }
     ensures err { IfErr result (λ e. e ≡ OutOfMemory) }
@@ -98,7 +98,7 @@ fn content_value(alloc: Global, frame: Frame, operators: &[u8]) -> Result<Vec<u8
     stream_value(alloc, &content)
 }
 
-/// Puts the page of a line and its content, which is the next object, behind other values.
+/// Puts the page of a line and its content, which is the next object, after other values.
 fn push_line(
     alloc: Global,
     values: &mut Vec<Vec<u8>>,
@@ -117,7 +117,7 @@ fn push_line(
     Ok(())
 }
 
-/// Puts the pages of lines and their contents behind other values.
+/// Puts the pages of lines and their contents after other values.
 fn push_lines(
     alloc: Global,
     values: &mut Vec<Vec<u8>>,

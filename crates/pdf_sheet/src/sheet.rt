@@ -20,7 +20,7 @@ use pdf_text::{FontValues, most_objects, write_objects};
 use std::alloc::Global;
 use subsetter_base::Error;
 
-/// The number of the font's first object behind so many pages, which has so many at most.
+/// The number of the font's first object after so many pages, which has so many at most.
 fn font_number(count: usize, most: u32) -> Result<u32, Error>
     requires { most ≤ 8 }
     ensures ok { IfOk result (λ first. first ≡ font_number count) }
@@ -57,7 +57,7 @@ fn front_for(
     lines_front(alloc, values.columns.is_some(), first, lines)
 }
 
-/// Header and objects of a file: these values, and behind them those of a font, of which this is the number.
+/// Header and objects of a file: these values, and after them those of a font, of which this is the number.
 fn body_with(
     alloc: Global,
     front: &[Vec<u8>],
@@ -75,7 +75,7 @@ fn body_with(
     Ok(body)
 }
 
-/// The file of these values, and of those of a font behind them, of which this is the number.
+/// The file of these values, and of those of a font after them, of which this is the number.
 fn file_with(
     alloc: Global,
     front: &[Vec<u8>],

@@ -105,14 +105,14 @@ directory-append at (t ∷ a) b =
     ap (λ (l : List ℕ). record_bytes at t ++ l) (directory-append next a b) ∙ sym (append_assoc (record_bytes at t) (directory_bytes next a) (directory_bytes (next + length (body a)) b))
     ∙ ap (λ (n : ℕ). directory_bytes at (t ∷ a) ++ directory_bytes n b) e
 
-found_behind : (at : ℕ) (pre : List Table) (t : Table) (post : List Table) → AllByRecursion NoHead pre → bytes_eq t.tag (codes "head") ≡ true → find_record (codes "head") (records_from at (pre ++ (t ∷ post))) ≡ Some (record_at (at + length (body pre)) t)
-found_behind at [] t post h is =
+found_after : (at : ℕ) (pre : List Table) (t : Table) (post : List Table) → AllByRecursion NoHead pre → bytes_eq t.tag (codes "head") ≡ true → find_record (codes "head") (records_from at (pre ++ (t ∷ post))) ≡ Some (record_at (at + length (body pre)) t)
+found_after at [] t post h is =
     let e : at ≡ at + 0 = omega arith in
     ap (λ b. cond b (Some (record_at at t)) (find_record (codes "head") (records_from (at + length (aligned 4 t.bytes)) post))) is ∙ ap (λ (n : ℕ). Some (record_at n t)) e
-found_behind at (x ∷ pre) t post h is =
+found_after at (x ∷ pre) t post h is =
     let next = at + length (aligned 4 x.bytes) in
     let e : next + length (body pre) ≡ at + length (body (x ∷ pre)) = omega (arith, length-append (aligned 4 x.bytes) (body pre)) in
-    ap (λ b. cond b (Some (record_at at x)) (find_record (codes "head") (records_from next (pre ++ (t ∷ post))))) h.0 ∙ found_behind next pre t post h.1 is ∙ ap (λ (n : ℕ). Some (record_at n t)) e
+    ap (λ b. cond b (Some (record_at at x)) (find_record (codes "head") (records_from next (pre ++ (t ∷ post))))) h.0 ∙ found_after next pre t post h.1 is ∙ ap (λ (n : ℕ). Some (record_at n t)) e
 
 found_nowhere : (at : ℕ) (ts : List Table) → AllByRecursion NoHead ts → find_record (codes "head") (records_from at ts) ≡ None
 found_nowhere at [] h = refl
@@ -122,13 +122,13 @@ all-append : (a b : List Table) → AllByRecursion IsTable (a ++ b) → AllByRec
 all-append [] b h = tt
 all-append (t ∷ a) b h = (h.0, all-append a b h.1)
 
-all-behind : (a b : List Table) → AllByRecursion IsTable (a ++ b) → AllByRecursion IsTable b
-all-behind [] b h = h
-all-behind (t ∷ a) b h = all-behind a b h.1
+all-following : (a b : List Table) → AllByRecursion IsTable (a ++ b) → AllByRecursion IsTable b
+all-following [] b h = h
+all-following (t ∷ a) b h = all-following a b h.1
 
 -- ---- a file of tables around `head`
 
-module _ (kind : ℕ) (pre post : List Table) (a m d : List ℕ) (size room : ℕ) (clear : AllByRecursion NoHead pre) (others : AllByRecursion NoHead post) (tables_before : AllByRecursion IsTable pre) (tables_behind : AllByRecursion IsTable post) (eight : length a ≡ 8) where
+module _ (kind : ℕ) (pre post : List Table) (a m d : List ℕ) (size room : ℕ) (clear : AllByRecursion NoHead pre) (others : AllByRecursion NoHead post) (tables_before : AllByRecursion IsTable pre) (tables_after : AllByRecursion IsTable post) (eight : length a ≡ 8) where
   abbrev head : List ℕ → List ℕ → List ℕ
   head z b = a ++ (z ++ (m ++ (b ++ d)))
 
@@ -173,7 +173,7 @@ module _ (kind : ℕ) (pre post : List Table) (a m d : List ℕ) (size room : �
   length-R : length R ≡ 16 + 16 * length post + length (body pre)
   length-R =
       let P : List ℕ = directory_bytes (offset + room) post in
-      omega (arith, length-append (to_be_bytes w32 offset) (to_be_bytes w32 size ++ (P ++ (body pre ++ a))), length-append (to_be_bytes w32 size) (P ++ (body pre ++ a)), length-append P (body pre ++ a), length-append (body pre) a, length-directory (offset + room) post tables_behind, eight)
+      omega (arith, length-append (to_be_bytes w32 offset) (to_be_bytes w32 size ++ (P ++ (body pre ++ a))), length-append (to_be_bytes w32 size) (P ++ (body pre ++ a)), length-append P (body pre ++ a), length-append (body pre) a, length-directory (offset + room) post tables_after, eight)
 
   cut : length m ≡ 24 → Cut place A R m
   cut h = record { sum_at = omega (arith, length-A); word_at = omega (arith, length-A, length-R); middle = h }
@@ -258,7 +258,7 @@ module _ (kind : ℕ) (pre post : List Table) (a m d : List ℕ) (size room : �
       let O = to_be_bytes w32 offset in
       let L = to_be_bytes w32 size in
       let P = directory_bytes (offset + room) post in
-      omega (arith, length-A, four, length-append A (s ++ (O ++ (L ++ (P ++ body pre)))), length-append s (O ++ (L ++ (P ++ body pre))), length-append O (L ++ (P ++ body pre)), length-append L (P ++ body pre), length-append P (body pre), length-directory (offset + room) post tables_behind)
+      omega (arith, length-A, four, length-append A (s ++ (O ++ (L ++ (P ++ body pre)))), length-append s (O ++ (L ++ (P ++ body pre))), length-append O (L ++ (P ++ body pre)), length-append L (P ++ body pre), length-append P (body pre), length-directory (offset + room) post tables_after)
 
   head_there : (s w b : List ℕ) → length s ≡ 4 → length (head w b) ≡ size → take size (drop offset (joined A s R w m b D)) ≡ head w b
   head_there s w b four long =
@@ -318,16 +318,16 @@ module _ (kind : ℕ) (pre post : List Table) (a m d : List ℕ) (size room : �
 abbrev before : FontTables → List Table
 before t = opt (codes "CFF ") t.cff ++ (opt (codes "cvt ") t.cvt ++ (opt (codes "fpgm") t.fpgm ++ (opt (codes "glyf") t.glyf ++ [])))
 
-abbrev behind : FontTables → List Table
-behind t = opt (codes "hhea") t.hhea ++ (opt (codes "hmtx") t.hmtx ++ (opt (codes "loca") t.loca ++ (opt (codes "maxp") t.maxp ++ (opt (codes "name") t.name ++ (opt (codes "post") t.post ++ (opt (codes "prep") t.prep ++ []))))))
+abbrev following : FontTables → List Table
+following t = opt (codes "hhea") t.hhea ++ (opt (codes "hmtx") t.hmtx ++ (opt (codes "loca") t.loca ++ (opt (codes "maxp") t.maxp ++ (opt (codes "name") t.name ++ (opt (codes "post") t.post ++ (opt (codes "prep") t.prep ++ []))))))
 
 four_pieces : (a b c d e : List Table) → a ++ (b ++ (c ++ (d ++ e))) ≡ (a ++ (b ++ (c ++ (d ++ [])))) ++ e
 four_pieces a b c d e = simp append_assoc
 
-split : (t : FontTables) (o : Option (List ℕ)) → t.head ≡ o → present (rows t) ≡ before t ++ (opt (codes "head") o ++ behind t)
+split : (t : FontTables) (o : Option (List ℕ)) → t.head ≡ o → present (rows t) ≡ before t ++ (opt (codes "head") o ++ following t)
 split t o e =
-    ap (λ (x : Option (List ℕ)). opt (codes "CFF ") t.cff ++ (opt (codes "cvt ") t.cvt ++ (opt (codes "fpgm") t.fpgm ++ (opt (codes "glyf") t.glyf ++ (opt (codes "head") x ++ behind t))))) e
-    ∙ four_pieces (opt (codes "CFF ") t.cff) (opt (codes "cvt ") t.cvt) (opt (codes "fpgm") t.fpgm) (opt (codes "glyf") t.glyf) (opt (codes "head") o ++ behind t)
+    ap (λ (x : Option (List ℕ)). opt (codes "CFF ") t.cff ++ (opt (codes "cvt ") t.cvt ++ (opt (codes "fpgm") t.fpgm ++ (opt (codes "glyf") t.glyf ++ (opt (codes "head") x ++ following t))))) e
+    ∙ four_pieces (opt (codes "CFF ") t.cff) (opt (codes "cvt ") t.cvt) (opt (codes "fpgm") t.fpgm) (opt (codes "glyf") t.glyf) (opt (codes "head") o ++ following t)
 
 clear_opt : (tag : List ℕ) (o : Option (List ℕ)) (rest : List Table) → bytes_eq tag (codes "head") ≡ false → AllByRecursion NoHead rest → AllByRecursion NoHead (opt tag o ++ rest)
 clear_opt tag None rest e h = h
@@ -336,8 +336,8 @@ clear_opt tag (Some bytes) rest e h = (e, h)
 clear_before : (t : FontTables) → AllByRecursion NoHead (before t)
 clear_before t = clear_opt (codes "CFF ") t.cff _ refl (clear_opt (codes "cvt ") t.cvt _ refl (clear_opt (codes "fpgm") t.fpgm _ refl (clear_opt (codes "glyf") t.glyf [] refl tt)))
 
-clear_behind : (t : FontTables) → AllByRecursion NoHead (behind t)
-clear_behind t = clear_opt (codes "hhea") t.hhea _ refl (clear_opt (codes "hmtx") t.hmtx _ refl (clear_opt (codes "loca") t.loca _ refl (clear_opt (codes "maxp") t.maxp _ refl (clear_opt (codes "name") t.name _ refl (clear_opt (codes "post") t.post _ refl (clear_opt (codes "prep") t.prep [] refl tt))))))
+clear_after : (t : FontTables) → AllByRecursion NoHead (following t)
+clear_after t = clear_opt (codes "hhea") t.hhea _ refl (clear_opt (codes "hmtx") t.hmtx _ refl (clear_opt (codes "loca") t.loca _ refl (clear_opt (codes "maxp") t.maxp _ refl (clear_opt (codes "name") t.name _ refl (clear_opt (codes "post") t.post _ refl (clear_opt (codes "prep") t.prep [] refl tt))))))
 
 size_opt : (tag : List ℕ) (o : Option (List ℕ)) (rest : List Table) → length (opt tag o ++ rest) ≡ one_if (is_some o) + length rest
 size_opt tag None rest = omega arith
@@ -361,9 +361,9 @@ size_kept box h e = by (nat_le 44 (length h)) refl
 roomy : (h box : List ℕ) → 44 ≤ length h → 12 ≤ length (with_box box h)
 roomy h box large = omega (arith, length-append (take 36 h ++ box) (drop 44 h), length-append (take 36 h) box, length-take 36 h)
 
--- the bytes behind the adjustment
-pub behind_word_with : (h box : List ℕ) → 44 ≤ length h → drop 12 (with_box box h) ≡ take 24 (drop 12 h) ++ (box ++ drop 44 h)
-behind_word_with h box large =
+-- the bytes after the adjustment
+pub after_word_with : (h box : List ℕ) → 44 ≤ length h → drop 12 (with_box box h) ≡ take 24 (drop 12 h) ++ (box ++ drop 44 h)
+after_word_with h box large =
     let cut : take 36 h ≡ take 12 h ++ take 24 (drop 12 h) = sym (take-append-drop 12 (take 36 h)) ∙ ap (λ (l : List ℕ). l ++ drop 12 (take 36 h)) (take-take 12 36 h (omega arith)) ∙ ap (λ (l : List ℕ). take 12 h ++ l) (drop-take 12 24 h) in
     let whole : with_box box h ≡ take 12 h ++ (take 24 (drop 12 h) ++ (box ++ drop 44 h)) = ap (λ (l : List ℕ). l ++ box ++ drop 44 h) cut ∙ regroup (take 12 h) (take 24 (drop 12 h)) box (drop 44 h) in
     ap (drop 12) whole ∙ drop_at (take 12 h) (take 24 (drop 12 h) ++ (box ++ drop 44 h)) 12 (omega (arith, length-take 12 h))
@@ -383,7 +383,7 @@ zeroed h box large zero =
     let twelve : take 12 h ≡ take 8 h ++ Z = sym (ap (take 12) zero) ∙ take_at (take 8 h ++ Z) (drop 12 h) 12 (omega (arith, length-append (take 8 h) Z, length-take 8 h)) in
     let cut : take 36 h ≡ take 12 h ++ take 24 (drop 12 h) = sym (take-append-drop 12 (take 36 h)) ∙ ap (λ (l : List ℕ). l ++ drop 12 (take 36 h)) (take-take 12 36 h (omega arith)) ∙ ap (λ (l : List ℕ). take 12 h ++ l) (drop-take 12 24 h) in
     let whole : with_box box h ≡ (take 8 h ++ Z) ++ rest = ap (λ (l : List ℕ). l ++ box ++ drop 44 h) (cut ∙ ap (λ (l : List ℕ). l ++ take 24 (drop 12 h)) twelve) ∙ regroup (take 8 h ++ Z) (take 24 (drop 12 h)) box (drop 44 h) in
-    ap (λ (l : List ℕ). l ++ Z ++ drop 12 (with_box box h)) (first_kept h box large) ∙ ap (λ (l : List ℕ). take 8 h ++ Z ++ l) (behind_word_with h box large) ∙ sym whole
+    ap (λ (l : List ℕ). l ++ Z ++ drop 12 (with_box box h)) (first_kept h box large) ∙ ap (λ (l : List ℕ). take 8 h ++ Z ++ l) (after_word_with h box large) ∙ sym whole
   where
     regroup : (a b c d : List ℕ) → (a ++ b) ++ c ++ d ≡ a ++ (b ++ (c ++ d))
     regroup a b c d = simp append_assoc
@@ -459,7 +459,7 @@ module _ (kind : FontFlavor) (t : FontTables) (room : HasRoom t.head) (fit : fit
   boxed_none : (b : GlyphBox) → t.head ≡ None → boxed b F ≡ file word (present (rows (boxed_tables b t)))
   unfolding boxed
   boxed_none b e =
-      let nowhere = ap (λ (l : List Table). find_record (codes "head") (records_from (12 + 16 * length l) l)) (split t None e) ∙ found_nowhere (12 + 16 * length (before t ++ behind t)) (before t ++ behind t) (clear_opts (before t) (behind t) (clear_before t) (clear_behind t)) in
+      let nowhere = ap (λ (l : List Table). find_record (codes "head") (records_from (12 + 16 * length l) l)) (split t None e) ∙ found_nowhere (12 + 16 * length (before t ++ following t)) (before t ++ following t) (clear_opts (before t) (following t) (clear_before t) (clear_after t)) in
       let same : present (rows (boxed_tables b t)) ≡ ts = split (boxed_tables b t) None (ap (option_map (if_room (box_bytes b))) e) ∙ sym (split t None e) in
       ap (λ (o : Option HeadPlace). option_map_or (λ p. boxed_at p (box_bytes b) F) o F) (placed None nowhere) ∙ ap (file word) (sym same)
     where
@@ -472,16 +472,16 @@ module _ (kind : FontFlavor) (t : FontTables) (room : HasRoom t.head) (fit : fit
     head_row bytes = record { tag = codes "head"; bytes = bytes }
 
     abbrev offset_of : ℕ
-    offset_of = 12 + 16 * (length (before t) + suc (length (behind t))) + length (body (before t))
+    offset_of = 12 + 16 * (length (before t) + suc (length (following t))) + length (body (before t))
 
-    tables_are : ts ≡ before t ++ (head_row h ∷ behind t)
+    tables_are : ts ≡ before t ++ (head_row h ∷ following t)
     tables_are = split t (Some h) e
 
     there : find_record (codes "head") (records_from (12 + 16 * length ts) ts) ≡ Some (record_at offset_of (head_row h))
     there =
         ap (λ (l : List Table). find_record (codes "head") (records_from (12 + 16 * length l) l)) tables_are
-        ∙ ap (λ (n : ℕ). find_record (codes "head") (records_from (12 + 16 * n) (before t ++ (head_row h ∷ behind t)))) (length-append (before t) (head_row h ∷ behind t))
-        ∙ found_behind (12 + 16 * (length (before t) + suc (length (behind t)))) (before t) (head_row h) (behind t) (clear_before t) refl
+        ∙ ap (λ (n : ℕ). find_record (codes "head") (records_from (12 + 16 * n) (before t ++ (head_row h ∷ following t)))) (length-append (before t) (head_row h ∷ following t))
+        ∙ found_after (12 + 16 * (length (before t) + suc (length (following t)))) (before t) (head_row h) (following t) (clear_before t) refl
 
     abbrev its_place : HeadPlace
     its_place = record { record_at = 12 + 16 * length (before t); offset = offset_of; size = length h }
@@ -493,7 +493,7 @@ module _ (kind : FontFlavor) (t : FontTables) (room : HasRoom t.head) (fit : fit
     unfolding boxed
     boxed_there = ap (λ (o : Option HeadPlace). option_map_or (λ p. boxed_at p (box_bytes b) F) o F) place_is
 
-    new_tables_are : present (rows (boxed_tables b t)) ≡ before t ++ (head_row (if_room (box_bytes b) h) ∷ behind t)
+    new_tables_are : present (rows (boxed_tables b t)) ≡ before t ++ (head_row (if_room (box_bytes b) h) ∷ following t)
     new_tables_are = split (boxed_tables b t) (Some (if_room (box_bytes b) h)) (ap (option_map (if_room (box_bytes b))) e)
 
     -- ---- a short `head` stays
@@ -501,7 +501,7 @@ module _ (kind : FontFlavor) (t : FontTables) (room : HasRoom t.head) (fit : fit
     boxed_short : nat_le 44 (length h) ≡ false → boxed b F ≡ file word (present (rows (boxed_tables b t)))
     boxed_short short =
         let kept : if_room (box_bytes b) h ≡ h = ap (λ x. cond x (with_box (box_bytes b) h) h) short in
-        let same : present (rows (boxed_tables b t)) ≡ ts = new_tables_are ∙ ap (λ (l : List ℕ). before t ++ (head_row l ∷ behind t)) kept ∙ sym tables_are in
+        let same : present (rows (boxed_tables b t)) ≡ ts = new_tables_are ∙ ap (λ (l : List ℕ). before t ++ (head_row l ∷ following t)) kept ∙ sym tables_are in
         let out : is_in its_place (length F) ≡ false = ap (λ x. x && (nat_le (offset_of + length h) (length F) && nat_le (12 + 16 * length (before t) + 8) (length F))) short in
         boxed_there ∙ ap (λ x. cond x (settled its_place (summed its_place (blank its_place (box_bytes b) F))) F) out ∙ ap (file word) (sym same)
 
@@ -529,12 +529,12 @@ module _ (kind : FontFlavor) (t : FontTables) (room : HasRoom t.head) (fit : fit
       le : length edges ≡ 8
       le = omega (arith, length-take 8 (drop 36 h), length-drop 36 h)
 
-      behind_word : drop 12 h ≡ m ++ (edges ++ d)
-      behind_word =
+      past_word : drop 12 h ≡ m ++ (edges ++ d)
+      past_word =
           sym (take-append-drop 24 (drop 12 h)) ∙ ap (λ (l : List ℕ). m ++ l) (drop-drop 24 12 h ∙ sym (take-append-drop 8 (drop 36 h)) ∙ ap (λ (l : List ℕ). edges ++ l) (drop-drop 8 36 h))
 
       in_parts : h ≡ a ++ (zeros ++ (m ++ (edges ++ d)))
-      in_parts = sym (room h e).1 ∙ ap (λ (l : List ℕ). a ++ zeros ++ l) behind_word ∙ append_assoc a zeros (m ++ (edges ++ d))
+      in_parts = sym (room h e).1 ∙ ap (λ (l : List ℕ). a ++ zeros ++ l) past_word ∙ append_assoc a zeros (m ++ (edges ++ d))
 
       with_new_box : if_room (box_bytes b) h ≡ a ++ (zeros ++ (m ++ (box_bytes b ++ d)))
       with_new_box =
@@ -548,25 +548,25 @@ module _ (kind : FontFlavor) (t : FontTables) (room : HasRoom t.head) (fit : fit
           regroup_back : (x y z w v : List ℕ) → (x ++ (y ++ z)) ++ w ++ v ≡ x ++ (y ++ (z ++ (w ++ v)))
           regroup_back x y z w v = simp append_assoc
 
-      tables_all : AllByRecursion IsTable (before t ++ (head_row h ∷ behind t))
+      tables_all : AllByRecursion IsTable (before t ++ (head_row h ∷ following t))
       tables_all = subst (λ (l : List Table). AllByRecursion IsTable l) tables_are all
 
       boxed_large : boxed b F ≡ file word (present (rows (boxed_tables b t)))
       boxed_large =
-          let parts = ap (λ (l : List ℕ). before t ++ (head_row l ∷ behind t)) in_parts in
+          let parts = ap (λ (l : List ℕ). before t ++ (head_row l ∷ following t)) in_parts in
           let size : length (a ++ (zeros ++ (m ++ (edges ++ d)))) ≡ length h = ap length (sym in_parts) in
           let padded : length (aligned 4 (a ++ (zeros ++ (m ++ (edges ++ d))))) ≡ length (aligned 4 h) = ap (λ (l : List ℕ). length (aligned 4 l)) (sym in_parts) in
           boxed_there ∙ ap (λ (l : List Table). boxed_at its_place (box_bytes b) (file word l)) (tables_are ∙ parts)
-          ∙ boxed_at_is word (before t) (behind t) a m d (length h) (length (aligned 4 h)) (clear_before t) (clear_behind t) (all-append (before t) (head_row h ∷ behind t) tables_all) (all-behind (before t) (head_row h ∷ behind t) tables_all).1 la edges (box_bytes b) lm le refl large size padded
-          ∙ ap (λ (l : List ℕ). file word (before t ++ (head_row l ∷ behind t))) (sym with_new_box) ∙ ap (file word) (sym new_tables_are)
+          ∙ boxed_at_is word (before t) (following t) a m d (length h) (length (aligned 4 h)) (clear_before t) (clear_after t) (all-append (before t) (head_row h ∷ following t) tables_all) (all-following (before t) (head_row h ∷ following t) tables_all).1 la edges (box_bytes b) lm le refl large size padded
+          ∙ ap (λ (l : List ℕ). file word (before t ++ (head_row l ∷ following t))) (sym with_new_box) ∙ ap (file word) (sym new_tables_are)
 
       differs : Differ F (boxed b F)
       differs =
-          let parts = tables_are ∙ ap (λ (l : List ℕ). before t ++ (head_row l ∷ behind t)) in_parts in
+          let parts = tables_are ∙ ap (λ (l : List ℕ). before t ++ (head_row l ∷ following t)) in_parts in
           let size : length (a ++ (zeros ++ (m ++ (edges ++ d)))) ≡ length h = ap length (sym in_parts) in
           let padded : length (aligned 4 (a ++ (zeros ++ (m ++ (edges ++ d))))) ≡ length (aligned 4 h) = ap (λ (l : List ℕ). length (aligned 4 l)) (sym in_parts) in
-          differing word (before t) (behind t) a m d (length h) (length (aligned 4 h)) (clear_before t) (clear_behind t) (all-append (before t) (head_row h ∷ behind t) tables_all) (all-behind (before t) (head_row h ∷ behind t) tables_all).1 la edges (box_bytes b) le refl size padded
-          F (boxed b F) (ap (file word) parts) (boxed_large ∙ ap (file word) (new_tables_are ∙ ap (λ (l : List ℕ). before t ++ (head_row l ∷ behind t)) with_new_box))
+          differing word (before t) (following t) a m d (length h) (length (aligned 4 h)) (clear_before t) (clear_after t) (all-append (before t) (head_row h ∷ following t) tables_all) (all-following (before t) (head_row h ∷ following t) tables_all).1 la edges (box_bytes b) le refl size padded
+          F (boxed b F) (ap (file word) parts) (boxed_large ∙ ap (file word) (new_tables_are ∙ ap (λ (l : List ℕ). before t ++ (head_row l ∷ following t)) with_new_box))
 
   boxed_by_head : (b : GlyphBox) (o : Option (List ℕ)) → t.head ≡ o → boxed b F ≡ file word (present (rows (boxed_tables b t)))
   boxed_by_head b None e = boxed_none b e
@@ -605,9 +605,9 @@ module _ (kind : FontFlavor) (t : FontTables) (room : HasRoom t.head) (fit : fit
           let same : present (rows (boxed_tables b t)) ≡ ts = split (boxed_tables b t) None (ap (option_map (if_room (box_bytes b))) e) ∙ sym (split t None e) in
           ap (λ (l : List Table). fits (start_of l) l) same ∙ fit
       by (Some h) e =
-          let new : present (rows (boxed_tables b t)) ≡ before t ++ (record { tag = codes "head"; bytes = if_room (box_bytes b) h } ∷ behind t) = split (boxed_tables b t) (Some (if_room (box_bytes b) h)) (ap (option_map (if_room (box_bytes b))) e) in
-          let old : before t ++ (record { tag = codes "head"; bytes = h } ∷ behind t) ≡ ts = sym (split t (Some h) e) in
-          ap (λ (l : List Table). fits (start_of l) l) new ∙ fits_alike (before t) (behind t) (if_room (box_bytes b) h) h (size_kept (box_bytes b) h refl) ∙ ap (λ (l : List Table). fits (start_of l) l) old ∙ fit
+          let new : present (rows (boxed_tables b t)) ≡ before t ++ (record { tag = codes "head"; bytes = if_room (box_bytes b) h } ∷ following t) = split (boxed_tables b t) (Some (if_room (box_bytes b) h)) (ap (option_map (if_room (box_bytes b))) e) in
+          let old : before t ++ (record { tag = codes "head"; bytes = h } ∷ following t) ≡ ts = sym (split t (Some h) e) in
+          ap (λ (l : List Table). fits (start_of l) l) new ∙ fits_alike (before t) (following t) (if_room (box_bytes b) h) h (size_kept (box_bytes b) h refl) ∙ ap (λ (l : List Table). fits (start_of l) l) old ∙ fit
 
   -- ---- the tables, read afresh
 
@@ -632,8 +632,8 @@ module _ (kind : FontFlavor) (t : FontTables) (room : HasRoom t.head) (fit : fit
   other_stays b tag other same =
       ap (λ (l : List ℕ). table (as_font l) tag) (boxed_is b) ∙ row_back kind (boxed_tables b t) (boxed_room b) (boxed_fit b) tag other ∙ same ∙ sym (row_back kind t room fit tag other)
 
-  units_behind : (w : ℕ) (h : List ℕ) → 12 ≤ length h → units_per_em (with_adjustment w h) ≡ number (drop 12 h) 6 2
-  units_behind w h large =
+  units_after : (w : ℕ) (h : List ℕ) → 12 ≤ length h → units_per_em (with_adjustment w h) ≡ number (drop 12 h) 6 2
+  units_after w h large =
       let front : List ℕ = take 8 h ++ to_be_bytes w32 w in
       let at : 18 ≡ length front + 6 = omega (arith, length-append (take 8 h) (to_be_bytes w32 w), length-take 8 h) in
       ap (λ (n : ℕ). number (front ++ drop 12 h) n 2) at ∙ ap (option_map be) (range-right front (drop 12 h) 6 2)
@@ -657,7 +657,7 @@ module _ (kind : FontFlavor) (t : FontTables) (room : HasRoom t.head) (fit : fit
           let m = take 24 (drop 12 h) in
           let lm : length m ≡ 24 = omega (arith, length-take 24 (drop 12 h), length-drop 12 h) in
           let there : range m 6 2 ≡ Some (take 2 (drop 6 m)) = range-take_drop m 6 2 (omega (arith, lm)) in
-          let new = ap (λ (l : List ℕ). number l 6 2) (behind_word_with h (box_bytes b) large) ∙ ap (option_map be) (range-left m (box_bytes b ++ drop 44 h) (take 2 (drop 6 m)) 6 2 there) in
+          let new = ap (λ (l : List ℕ). number l 6 2) (after_word_with h (box_bytes b) large) ∙ ap (option_map be) (range-left m (box_bytes b ++ drop 44 h) (take 2 (drop 6 m)) 6 2 there) in
           let old = ap (λ (l : List ℕ). number l 6 2) (sym (take-append-drop 24 (drop 12 h))) ∙ ap (option_map be) (range-left m (drop 24 (drop 12 h)) (take 2 (drop 6 m)) 6 2 there) in
           new ∙ sym old
 
@@ -673,7 +673,7 @@ module _ (kind : FontFlavor) (t : FontTables) (room : HasRoom t.head) (fit : fit
       by (Some h) e =
           let big : 12 ≤ length h = (room h e).0 in
           let new_big : 12 ≤ length (if_room (box_bytes b) h) = (boxed_room b (if_room (box_bytes b) h) (ap (option_map (if_room (box_bytes b))) e)).0 in
-          ap Some (units_behind new_word (if_room (box_bytes b) h) new_big ∙ of_head h e (nat_le 44 (length h)) refl ∙ sym (units_behind old_word h big))
+          ap Some (units_after new_word (if_room (box_bytes b) h) new_big ∙ of_head h e (nat_le 44 (length h)) refl ∙ sym (units_after old_word h big))
 
   -- ---- which bytes differ
 
@@ -686,7 +686,7 @@ module _ (kind : FontFlavor) (t : FontTables) (room : HasRoom t.head) (fit : fit
       by : (x : Bool) → nat_le 44 (length h) ≡ x → (F ≡ boxed b F) ⊎ Differ F (boxed b F)
       by false short =
           let kept : if_room (box_bytes b) h ≡ h = ap (λ x. cond x (with_box (box_bytes b) h) h) short in
-          let same : present (rows (boxed_tables b t)) ≡ ts = new_tables_are b h e ∙ ap (λ (l : List ℕ). before t ++ (record { tag = codes "head"; bytes = l } ∷ behind t)) kept ∙ sym (tables_are b h e) in
+          let same : present (rows (boxed_tables b t)) ≡ ts = new_tables_are b h e ∙ ap (λ (l : List ℕ). before t ++ (record { tag = codes "head"; bytes = l } ∷ following t)) kept ∙ sym (tables_are b h e) in
           inl (sym (boxed_is b ∙ ap (file word) same))
       by true k = inr (differs b h e (grind (arith, nat_tests)))
 

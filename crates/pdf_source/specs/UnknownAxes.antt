@@ -19,11 +19,11 @@ is_set settings tag = list_any (λ s. bytes_eq s.0.0 tag.0) settings
 abbrev pub is_listed : List Axis → List (Tag × ℤ) → Tag → Bool
 is_listed axes before tag = not (has_axis axes tag) && not (is_set before tag)
 
--- the tags of settings that come behind others
-abbrev pub unknown_behind : List Axis → List (Tag × ℤ) → List (Tag × ℤ) → List Tag
-unknown_behind axes before [] = []
-unknown_behind axes before (s ∷ settings) = (if is_listed axes before s.0 then s.0 ∷ [] else []) ++ unknown_behind axes (before ++ s ∷ []) settings
+-- the tags of settings that come after others
+abbrev pub unknown_after : List Axis → List (Tag × ℤ) → List (Tag × ℤ) → List Tag
+unknown_after axes before [] = []
+unknown_after axes before (s ∷ settings) = (if is_listed axes before s.0 then s.0 ∷ [] else []) ++ unknown_after axes (before ++ s ∷ []) settings
 
 -- of a font whose `fvar` is missing or can't be read all are unknown
 abbrev pub unknown_axes : (List ℕ → Option (List ℕ)) → List (Tag × ℤ) → List Tag
-unknown_axes find settings = unknown_behind (unwrap_or (axes_in (find (codes "fvar"))) []) [] settings
+unknown_axes find settings = unknown_after (unwrap_or (axes_in (find (codes "fvar"))) []) [] settings

@@ -3,7 +3,7 @@
 ghost use Rattle.std.specs.Prelude.{◌≡◌, [], IfOk, IfErr};
 ghost use Rattle.subsetter_base.specs.declared.error.Error.TheVariants.{OutOfMemory};
 ghost use Rattle.subsetter_sfnt.specs.Read.{table_in};
-ghost use Rattle.pdf_source.specs.UnknownAxes.{has_axis, is_listed, is_set, unknown_axes, unknown_behind};
+ghost use Rattle.pdf_source.specs.UnknownAxes.{has_axis, is_listed, is_set, unknown_axes, unknown_after};
 
 use crate::moved::axes_of;
 use std::alloc::Global;
@@ -25,7 +25,7 @@ fn is_set(settings: &[(Tag, i32)], tag: Tag) -> bool
     settings.iter().any(|setting| setting.0 == tag)
 }
 
-/// Whether a tag is listed behind these settings: no axis has it, and none of the settings is for it.
+/// Whether a tag is listed after these settings: no axis has it, and none of the settings is for it.
 fn is_listed(axes: &[Axis], before: &[(Tag, i32)], tag: Tag) -> bool
     ensures { result ≡ is_listed axes.now before.now tag }
 {
@@ -34,7 +34,7 @@ fn is_listed(axes: &[Axis], before: &[(Tag, i32)], tag: Tag) -> bool
 
 /// The tags of settings that none of these axes has, each once.
 fn unknown_among(alloc: Global, axes: &[Axis], settings: &[(Tag, i32)]) -> Result<Vec<Tag>, Error>
-    ensures ok { IfOk result (λ v. v.items ≡ unknown_behind axes.now [] settings.now) }
+    ensures ok { IfOk result (λ v. v.items ≡ unknown_after axes.now [] settings.now) }
     ensures err { IfErr result (λ e. e ≡ OutOfMemory) }
 {
     let mut unknown = Vec::new(alloc);

@@ -4,7 +4,7 @@ ghost use Rattle.std.specs.Prelude.{◌≡◌, IsTrue, MatchOption};
 ghost use Rattle.std.specs.List.{list_all};
 ghost use Rattle.pdf_text.specs.SubsetName.{IsTag, is_capital};
 
-/// The tag in front of a subset's name: six capitals (ISO 32000-1, 9.6.4).
+/// The tag before a subset's name: six capitals (ISO 32000-1, 9.6.4).
 #[derive(Clone, Copy, PartialEq, Eq, Debug)]
 pub struct SubsetTag {
     letters: [u8; 6],

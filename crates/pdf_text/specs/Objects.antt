@@ -106,7 +106,7 @@ numbers first before (o ∷ os) = (first + before) ∷ numbers first (before + 1
 abbrev pub AreReferredTo : Type 0
 AreReferredTo = (first : ℕ) (v : FontValues) → map (number_of first (references_from first v)) (objects_of v) ≡ numbers first 0 (objects_of v)
 
--- ---- one behind the other
+-- ---- one after the other
 
 -- with numbers from one on
 abbrev pub objects_from : ℕ → List (List ℕ) → List (List ℕ)

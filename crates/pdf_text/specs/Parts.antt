@@ -84,7 +84,7 @@ part_value entries stream = codes "<< " ++ (entries ++ value_end stream)
 abbrev pub part_text : Part → List ℕ
 part_text p = object_text p.number (part_value p.entries p.stream)
 
--- with numbers from one on the parts are the objects that are written one behind the other
+-- with numbers from one on the parts are the objects that are written one after the other
 abbrev pub PartsAreObjects : Type 0
 PartsAreObjects = (first : ℕ) (v : FontValues) → map part_text (parts_of v (numbers first 0 (objects_of v))) ≡ font_objects first v
 

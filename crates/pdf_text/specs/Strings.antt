@@ -4,23 +4,23 @@ use Rattle.pdf_text.specs.declared.strings.Place.{Place}
 use Rattle.pdf_text.specs.declared.strings.Place.TheVariants.{Outside, Angle, Hexadecimal, Literal, Escaped}
 use Rattle.pdf_text.specs.declared.strings.StringRange.{StringRange}
 
--- behind a parenthesis (40) or an angle (60) a string may begin; `<<` begins a dictionary, and `<>` is a string of no bytes
+-- after a parenthesis (40) or an angle (60) a string may begin; `<<` begins a dictionary, and `<>` is a string of no bytes
 abbrev pub from_outside : ℕ → Place
 from_outside b = if b == 40 then Literal 0 else if b == 60 then Angle else Outside
 
 abbrev pub from_angle : ℕ → Place
 from_angle b = if b == 60 || b == 62 then Outside else Hexadecimal
 
--- behind the parenthesis that closes one of a literal string's own, or the string
+-- after the parenthesis that closes one of a literal string's own, or the string
 abbrev pub closed : ℕ → Place
 closed zero = Outside
 closed (suc depth) = Literal depth
 
--- in a literal string parentheses are in pairs, and a backslash (92) takes the meaning from the byte behind it (7.3.4.2)
+-- in a literal string parentheses are in pairs, and a backslash (92) takes the meaning from the byte after it (7.3.4.2)
 abbrev pub from_literal : ℕ → ℕ → Place
 from_literal depth b = if b == 92 then Escaped depth else if b == 40 then Literal (depth + 1) else if b == 41 then closed depth else Literal depth
 
--- where the byte behind this one is
+-- where the byte after this one is
 abbrev pub next : Place → ℕ → Place
 next Outside b = from_outside b
 next Angle b = from_angle b

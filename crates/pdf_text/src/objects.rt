@@ -30,7 +30,7 @@ pub enum Object {
     Cmap,
 }
 
-/// Objects one behind the other, and where each begins.
+/// Objects one after the other, and where each begins.
 #[derive(Drop)]
 pub struct FontObjects {
     pub text: Vec<u8>,
@@ -151,7 +151,7 @@ fn write_object(
 
 // ---- all objects
 
-/// Puts an object behind others, if it is wanted.
+/// Puts an object after others, if it is wanted.
 fn push_when(objects: &mut Vec<Object>, wanted: bool, object: Object) -> Result<(), Error>
     ensures ok { OnOk result (objects.new.items ≡ objects.old.items ++ when wanted object) }
     ensures err { IfErr result (λ e. e ≡ OutOfMemory) }
@@ -233,7 +233,7 @@ fn references_from(first: u32, values: FontValues<'_>) -> References
     }
 }
 
-/// Writes objects one behind the other, the first with this number.
+/// Writes objects one after the other, the first with this number.
 fn write_all(
     alloc: Global,
     first: u32,
@@ -268,7 +268,7 @@ fn checked(first: u32, most: u32) -> Result<(), Error>
     Ok(())
 }
 
-/// The objects of a font, whole, one behind the other, with numbers from `first` on: the composite font, its CIDFont, the font
+/// The objects of a font, whole, one after the other, with numbers from `first` on: the composite font, its CIDFont, the font
 /// descriptor, the font program, ToUnicode, CIDToGIDMap if it is a stream, CIDSet if there is one, and the CMap if the file has
 /// its own. `first` is above 0, and each number has generation 0. For files that aren't encrypted: streams are as they are, with
 /// no filter.
@@ -326,7 +326,7 @@ pub struct FontDictionaries {
 }
 
 /// The dictionary of an object.
-#[tactic(auto, using(crate::proofs::Written::three_behind_nothing))]
+#[tactic(auto, using(crate::proofs::Written::three_after_nothing))]
 fn dictionary_of(
     alloc: Global,
     object: Object,

@@ -22,7 +22,7 @@ pub struct FontPart<'a> {
     /// Which object it is.
     pub role: Object,
     pub number: u32,
-    /// The entries of its dictionary, each with a blank behind it, but for a stream's Length.
+    /// The entries of its dictionary, each with a blank after it, but for a stream's Length.
     pub entries: Vec<u8>,
     /// Where the strings of the entries are, in order.
     pub strings: Vec<StringRange>,
@@ -195,7 +195,7 @@ pub fn write_parts<'a>(
 /// # Errors
 ///
 /// `OutOfMemory` alone.
-#[tactic(auto, using(crate::proofs::Written::three_behind_nothing))]
+#[tactic(auto, using(crate::proofs::Written::three_after_nothing))]
 pub fn part_value(alloc: Global, entries: &[u8], stream: Option<&[u8]>) -> Result<Vec<u8>, Error>
     ensures ok { IfOk result (λ text. text.items ≡ part_value entries.now (option_copied stream.entry)) }
     ensures err { IfErr result (λ e. e ≡ OutOfMemory) }

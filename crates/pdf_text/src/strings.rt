@@ -12,7 +12,7 @@ use subsetter_base::Error;
 #[repr(C)]
 pub struct StringRange {
     pub start: usize,
-    /// Behind its last byte.
+    /// After its last byte.
     pub end: usize,
 }
 
@@ -21,17 +21,17 @@ pub struct StringRange {
 pub enum Place {
     /// In no string.
     Outside,
-    /// Behind a `<` that is in no string.
+    /// After a `<` that is in no string.
     Angle,
     /// In a hexadecimal string.
     Hexadecimal,
     /// In a literal string, within so many parentheses of its own.
     Literal(usize),
-    /// Behind a backslash there.
+    /// After a backslash there.
     Escaped(usize),
 }
 
-/// Behind a byte that is in no string.
+/// After a byte that is in no string.
 fn from_outside(byte: u8) -> Place
     ensures { result ≡ from_outside byte }
 {
@@ -42,7 +42,7 @@ fn from_outside(byte: u8) -> Place
     }
 }
 
-/// Behind a byte behind a `<`.
+/// After a byte after a `<`.
 fn from_angle(byte: u8) -> Place
     ensures { result ≡ from_angle byte }
 {
@@ -53,7 +53,7 @@ fn from_angle(byte: u8) -> Place
     }
 }
 
-/// Behind a parenthesis that closes.
+/// After a parenthesis that closes.
 fn closed(depth: usize) -> Place
     ensures { result ≡ closed depth }
 {
@@ -64,7 +64,7 @@ fn closed(depth: usize) -> Place
     }
 }
 
-/// Behind a byte of a literal string.
+/// After a byte of a literal string.
 fn from_literal(depth: usize, byte: u8) -> Place
     requires { depth + 1 < 2 ^ 64 }
     ensures { result ≡ from_literal depth byte }
@@ -77,7 +77,7 @@ fn from_literal(depth: usize, byte: u8) -> Place
     }
 }
 
-/// Behind a byte.
+/// After a byte.
 fn next(place: Place, byte: u8) -> Place
     requires { depth_of place + 1 < 2 ^ 64 }
     ensures { result ≡ next place byte }
@@ -118,7 +118,7 @@ fn start_at(place: Place, start: usize, at: usize) -> usize
     }
 }
 
-/// Puts a string behind others, if it ends.
+/// Puts a string after others, if it ends.
 fn push_when(
     strings: &mut Vec<StringRange>,
     ends: bool,

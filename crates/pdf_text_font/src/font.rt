@@ -78,7 +78,7 @@ fn tag_in(program: &[u8], tag: Option<SubsetTag>) -> [u8; 6]
     }
 }
 
-/// What is behind the tag of a name.
+/// What is after the tag of a name.
 fn untagged(name: &[u8]) -> &[u8]
     ensures { result.now ≡ drop 6 name.now }
 {

@@ -26,7 +26,7 @@ unfoldable pub string_from : Kind → ℕ → List ℕ → ℕ → ℕ → ℕ �
 string_from kind id name storage zero at = None
 string_from kind id name storage (suc n) at = option_or (string_at kind id name storage at) (string_from kind id name storage n (at + 12))
 
--- count stands at byte 2, storageOffset at byte 4, and the records behind it
+-- count stands at byte 2, storageOffset at byte 4, and the records after it
 abbrev pub string_of : Kind → ℕ → List ℕ → Option (List ℕ)
 string_of kind id name = do
   count ← number name 2 2

@@ -17,10 +17,10 @@ pub differs_never : (cff : Cff) (advances : List ℕ) (i : ℕ) → length advan
 differs_never cff advances i le = ap (differs_from cff i) (drop_all i advances le)
 
 -- ---- what they become
-abbrev pub behind : List (List ℕ) → Option (List (List ℕ)) → Option (List (List ℕ))
-behind so_far more = option_map (λ l. so_far ++ l) more
+abbrev pub following : List (List ℕ) → Option (List (List ℕ)) → Option (List (List ℕ))
+following so_far more = option_map (λ l. so_far ++ l) more
 
-joined : (so_far : List (List ℕ)) (text : List ℕ) (more : Option (List (List ℕ))) → behind so_far (option_and_then (λ l. Some (text ∷ l)) more) ≡ behind (so_far ++ text ∷ []) more
+joined : (so_far : List (List ℕ)) (text : List ℕ) (more : Option (List (List ℕ))) → following so_far (option_and_then (λ l. Some (text ∷ l)) more) ≡ following (so_far ++ text ∷ []) more
 joined so_far text None = refl
 joined so_far text (Some l) = ap (λ (x : List (List ℕ)). Some x) (sym (append_assoc so_far (text ∷ []) l))
 
@@ -28,16 +28,16 @@ abbrev further : (cff : Cff) (advances : List ℕ) (i : ℕ) → Option (List �
 further cff advances i first = option_and_then (λ text. option_and_then (λ l. Some (text ∷ l)) (charstrings_from cff (i + 1) (drop (i + 1) advances))) first
 
 pub charstrings_more : (cff : Cff) (advances : List ℕ) (i d : ℕ) (so_far : List (List ℕ)) (text : List ℕ) → i < length advances → charstring_in cff i (get_or advances i d) ≡ Some text
-    → behind so_far (charstrings_from cff i (drop i advances)) ≡ behind (so_far ++ text ∷ []) (charstrings_from cff (i + 1) (drop (i + 1) advances))
+    → following so_far (charstrings_from cff i (drop i advances)) ≡ following (so_far ++ text ∷ []) (charstrings_from cff (i + 1) (drop (i + 1) advances))
 charstrings_more cff advances i d so_far text lt e =
-    ap (λ (l : List ℕ). behind so_far (charstrings_from cff i l)) (drop_more advances i d lt)
-    ∙ ap (λ (o : Option (List ℕ)). behind so_far (further cff advances i o)) e
+    ap (λ (l : List ℕ). following so_far (charstrings_from cff i l)) (drop_more advances i d lt)
+    ∙ ap (λ (o : Option (List ℕ)). following so_far (further cff advances i o)) e
     ∙ joined so_far text (charstrings_from cff (i + 1) (drop (i + 1) advances))
 
-pub charstrings_stop : (cff : Cff) (advances : List ℕ) (i d : ℕ) (so_far : List (List ℕ)) → i < length advances → charstring_in cff i (get_or advances i d) ≡ None → behind so_far (charstrings_from cff i (drop i advances)) ≡ None
+pub charstrings_stop : (cff : Cff) (advances : List ℕ) (i d : ℕ) (so_far : List (List ℕ)) → i < length advances → charstring_in cff i (get_or advances i d) ≡ None → following so_far (charstrings_from cff i (drop i advances)) ≡ None
 charstrings_stop cff advances i d so_far lt e =
-    ap (λ (l : List ℕ). behind so_far (charstrings_from cff i l)) (drop_more advances i d lt) ∙ ap (λ (o : Option (List ℕ)). behind so_far (further cff advances i o)) e
+    ap (λ (l : List ℕ). following so_far (charstrings_from cff i l)) (drop_more advances i d lt) ∙ ap (λ (o : Option (List ℕ)). following so_far (further cff advances i o)) e
 
-pub charstrings_done : (cff : Cff) (advances : List ℕ) (i : ℕ) (so_far : List (List ℕ)) → length advances ≤ i → behind so_far (charstrings_from cff i (drop i advances)) ≡ Some so_far
+pub charstrings_done : (cff : Cff) (advances : List ℕ) (i : ℕ) (so_far : List (List ℕ)) → length advances ≤ i → following so_far (charstrings_from cff i (drop i advances)) ≡ Some so_far
 charstrings_done cff advances i so_far le =
-    ap (λ (l : List ℕ). behind so_far (charstrings_from cff i l)) (drop_all i advances le) ∙ ap (λ (x : List (List ℕ)). Some x) (append-nil so_far)
+    ap (λ (l : List ℕ). following so_far (charstrings_from cff i l)) (drop_all i advances le) ∙ ap (λ (x : List (List ℕ)). Some x) (append-nil so_far)

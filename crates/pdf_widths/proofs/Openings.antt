@@ -5,9 +5,9 @@ use Rattle.subsetter_cffdata.specs.Numerals.CharStringNumber.{number_at}
 use Rattle.pdf_widths.specs.Opening.{first_operator, operator_at}
 
 -- one number further
-pub behind_number : (n : ℕ) (bytes rest : List ℕ) (x : CharStringNumber) → n < 49 → number_at bytes ≡ Some (x, rest) → first_operator (49 - n) n bytes ≡ first_operator (49 - (n + 1)) (n + 1) rest
+pub past_number : (n : ℕ) (bytes rest : List ℕ) (x : CharStringNumber) → n < 49 → number_at bytes ≡ Some (x, rest) → first_operator (49 - n) n bytes ≡ first_operator (49 - (n + 1)) (n + 1) rest
 unfolding first_operator
-behind_number n bytes rest x lt e =
+past_number n bytes rest x lt e =
     let one : 49 - n ≡ suc (49 - (n + 1)) = omega arith in
     ap (λ (k : ℕ). first_operator k n bytes) one ∙ rw e refl
 

@@ -20,7 +20,7 @@ use Rattle.subsetter_type2.proofs.RunsLaws.Runs.{run_more, run_over, run_out}
 use Rattle.subsetter_type2.proofs.Replay.{one, token_number, act_push}
 use Rattle.subsetter_type2.proofs.TraceLimits.{outcome_longer}
 use Rattle.pdf_widths.specs.Change.{Change, advance_of, change_of, difference, has_room, is_advance, wanted, width_text}
-use Rattle.pdf_widths.specs.Opening.{Opening, effect_parity, first_operator, here_or_behind, opening_of, operator_at, parity}
+use Rattle.pdf_widths.specs.Opening.{Opening, effect_parity, first_operator, here_or_after, opening_of, operator_at, parity}
 use Rattle.pdf_widths.specs.declared.defaults.Defaults.{Defaults}
 use Rattle.pdf_widths.specs.declared.opening.FirstOperator.{FirstOperator}
 use Rattle.pdf_widths.specs.Laws.{ChangesWidth, DifferInWidth, TracesChangeWidths, number_list}
@@ -184,13 +184,13 @@ module _ (library : Library) (depth : ℕ) (deep : 1 ≤ depth) where
             ∙ sym (run_more library depth m [] (one bytes (registers ops)) bytes [] (number_first bytes x e)) ∙ r)
       ]
 
--- ---- the numbers in front of the first operator
+-- ---- the numbers before the first operator
 record Grows (f n : ℕ) (first : FirstOperator) : Type 0 where
   more : n ≤ first.operands
   within : first.operands < n + f
 
 grows_by : (f n : ℕ) (bytes : List ℕ) (first : FirstOperator) (o : Option (CharStringNumber × List ℕ)) → ((bytes' : List ℕ) → first_operator f (n + 1) bytes' ≡ Some first → Grows f (n + 1) first)
-    → here_or_behind (operator_at n bytes) (first_operator f (n + 1)) o ≡ Some first → Grows (suc f) n first
+    → here_or_after (operator_at n bytes) (first_operator f (n + 1)) o ≡ Some first → Grows (suc f) n first
 grows_by f n bytes first (Some x) ih e = let g = ih x.1 e in record { more = omega (arith, g.more); within = omega (arith, g.within) }
 grows_by f n [] first None ih e = absurd (none-some first e)
 grows_by f n (b ∷ bytes) first None ih e =
@@ -249,10 +249,10 @@ module _ (library : Library) (depth : ℕ) (deep : 1 ≤ depth) (first : FirstOp
       let ev : length acc % 2 ≡ k = even (length acc) count in
       at_operator (one_byte_effect b) b m bytes acc u refl p ev (p ∙ ap Some (sym ev)) r
 
-  behind : (f n m : ℕ) (bytes : List ℕ) (acc : List CharStringNumber) (u : Trace) (x : CharStringNumber × List ℕ) → number_at bytes ≡ Some x → first_operator f (n + 1) x.1 ≡ Some first → n ≡ length acc + base
+  following : (f n m : ℕ) (bytes : List ℕ) (acc : List CharStringNumber) (u : Trace) (x : CharStringNumber × List ℕ) → number_at bytes ≡ Some x → first_operator f (n + 1) x.1 ≡ Some first → n ≡ length acc + base
       → ((m' : ℕ) (acc' : List CharStringNumber) → n + 1 ≡ length acc' + base → run library depth m' [] (one x.1 (registers (number_list old ++ acc'))) ≡ Finishes u → Follows m' x.1 acc' u)
       → run library depth m [] (one bytes (registers (number_list old ++ acc))) ≡ Finishes u → Follows m bytes acc u
-  behind f n m bytes acc u x number e at ih r =
+  following f n m bytes acc u x number e at ih r =
       let pushed = was_pushed library depth deep m bytes (number_list old ++ acc) x u number r in
       let count : n + 1 ≡ length (acc ++ x.0 ∷ []) + base = omega (arith, at, length-append acc (x.0 ∷ [])) in
       let go = ih pushed.left (acc ++ x.0 ∷ []) count
@@ -271,9 +271,9 @@ module _ (library : Library) (depth : ℕ) (deep : 1 ≤ depth) (first : FirstOp
 
   follows_by : (f n m : ℕ) (bytes : List ℕ) (acc : List CharStringNumber) (u : Trace) (o : Option (CharStringNumber × List ℕ)) → number_at bytes ≡ o → n ≡ length acc + base
       → ((bytes' : List ℕ) (m' : ℕ) (acc' : List CharStringNumber) → first_operator f (n + 1) bytes' ≡ Some first → n + 1 ≡ length acc' + base → run library depth m' [] (one bytes' (registers (number_list old ++ acc'))) ≡ Finishes u → Follows m' bytes' acc' u)
-      → here_or_behind (operator_at n bytes) (first_operator f (n + 1)) o ≡ Some first → run library depth m [] (one bytes (registers (number_list old ++ acc))) ≡ Finishes u → Follows m bytes acc u
+      → here_or_after (operator_at n bytes) (first_operator f (n + 1)) o ≡ Some first → run library depth m [] (one bytes (registers (number_list old ++ acc))) ≡ Finishes u → Follows m bytes acc u
   follows_by f n m bytes acc u None number at ih e r = here n m bytes acc u e at r
-  follows_by f n m bytes acc u (Some x) number at ih e r = behind f n m bytes acc u x number e at (λ m' acc' at' r'. ih x.1 m' acc' e at' r') r
+  follows_by f n m bytes acc u (Some x) number at ih e r = following f n m bytes acc u x number e at (λ m' acc' at' r'. ih x.1 m' acc' e at' r') r
 
   follows : (f n m : ℕ) (bytes : List ℕ) (acc : List CharStringNumber) (u : Trace) → first_operator f n bytes ≡ Some first → n ≡ length acc + base → run library depth m [] (one bytes (registers (number_list old ++ acc))) ≡ Finishes u → Follows m bytes acc u
   unfolding first_operator
@@ -314,21 +314,21 @@ wanted_by d advance width true is e = subst (IsWanted d advance) (same_Some _ _ 
 wanted_by d advance width false is e = difference_says d.default d.nominal advance width e
 
 -- ---- how a charstring begins
--- without a width, or with the number in front of it as its width
+-- without a width, or with the number before it as its width
 data Begins (charstring : List ℕ) (o : Opening) : Type 0 where
   bare : (first : FirstOperator) (k : ℕ) → first_operator 49 0 charstring ≡ Some first → parity first.operator ≡ Some k → first.operands % 2 ≡ k
       → record { width = None; operands = first.operands; body = charstring } ≡ o → Begins charstring o
   wide : (first : FirstOperator) (k : ℕ) (x : CharStringNumber × List ℕ) → number_at charstring ≡ Some x → first_operator 48 1 x.1 ≡ Some first → parity first.operator ≡ Some k → (first.operands % 2 ≡ k → ⊥)
       → record { width = Some x.0; operands = first.operands - 1; body = x.1 } ≡ o → Begins charstring o
 
-behind_number : (charstring : List ℕ) (first : FirstOperator) (x : CharStringNumber × List ℕ) → number_at charstring ≡ Some x → first_operator 49 0 charstring ≡ Some first → first_operator 48 1 x.1 ≡ Some first
+past_number : (charstring : List ℕ) (first : FirstOperator) (x : CharStringNumber × List ℕ) → number_at charstring ≡ Some x → first_operator 49 0 charstring ≡ Some first → first_operator 48 1 x.1 ≡ Some first
 unfolding first_operator
-behind_number charstring first x number e = rw number at e
+past_number charstring first x number e = rw number at e
 
 begins_wide : (charstring : List ℕ) (o : Opening) (first : FirstOperator) (k : ℕ) (n : Option (CharStringNumber × List ℕ)) → number_at charstring ≡ n → first_operator 49 0 charstring ≡ Some first → parity first.operator ≡ Some k → (first.operands % 2 ≡ k → ⊥)
     → option_map (λ (r : CharStringNumber × List ℕ). record { width = Some r.0; operands = first.operands - 1; body = r.1 }) n ≡ Some o → Begins charstring o
 begins_wide charstring o first k None number e p odd is = absurd (none-some o is)
-begins_wide charstring o first k (Some x) number e p odd is = wide first k x number (behind_number charstring first x number e) p odd (same_Some _ _ is)
+begins_wide charstring o first k (Some x) number e p odd is = wide first k x number (past_number charstring first x number e) p odd (same_Some _ _ is)
 
 begins_by : (charstring : List ℕ) (o : Opening) (first : FirstOperator) (k : ℕ) (test : Bool) → (first.operands % 2 == k) ≡ test → first_operator 49 0 charstring ≡ Some first → parity first.operator ≡ Some k
     → (if test then Some (record { width = None; operands = first.operands; body = charstring }) else option_map (λ (r : CharStringNumber × List ℕ). record { width = Some r.0; operands = first.operands - 1; body = r.1 }) (number_at charstring)) ≡ Some o → Begins charstring o

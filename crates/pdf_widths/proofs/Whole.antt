@@ -39,7 +39,7 @@ use Rattle.pdf_widths.specs.Laws.{HasWidth, HaveWidths, TablesChangeWidths, chan
 use Rattle.pdf_widths.specs.Tables as tables
 use Rattle.pdf_widths.specs.Tables.{are_as_many, change_in, charstring_in, charstrings_from, differs_from, rebuilt, with_widths, with_widths_of}
 
--- ---- a table by the number of its charstrings: all in front of them depends on that alone
+-- ---- a table by the number of its charstrings: all before them depends on that alone
 module _ (p : Parts) where
   abbrev privates_place : ℕ → ℕ
   privates_place n = length (front_bytes p nowhere) + length (charset_bytes n)

@@ -37,7 +37,7 @@ abbrev pub has_room : Option CharStringNumber → ℕ → Bool
 has_room None operands = true
 has_room (Some number) operands = nat_lt operands 48
 
--- the new width, and what is behind the old one
+-- the new width, and what is after the old one
 pub record Change : Type 0 where
   pub width : Option CharStringNumber
   pub body : List ℕ

@@ -18,7 +18,7 @@ abbrev pub number_list : Option CharStringNumber → List CharStringNumber
 number_list None = []
 number_list (Some number) = number ∷ []
 
--- two traces that have the same events, but for a width in front of the first one's operands
+-- two traces that have the same events, but for a width before the first one's operands
 pub record DifferInWidth (old new : Option CharStringNumber) (u v : Trace) : Type 0 where
   pub first : ℕ
   pub operands : List CharStringNumber

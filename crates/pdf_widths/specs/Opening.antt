@@ -1,4 +1,4 @@
--- The width in front of a charstring: the operand more than its first operator takes (Technical Note 5177, section 3.1 "Type 2 Charstring
+-- The width before a charstring: the operand more than its first operator takes (Technical Note 5177, section 3.1 "Type 2 Charstring
 -- Organization" and section 4 "Charstring Operators").
 use Rattle.std.specs.Prelude.{ℕ, zero, suc, ◌+◌, ◌-◌, ◌%◌, ◌==◌, ◌||◌, if◌then◌else◌, List, [], ◌∷◌, Option, Some, None, option_map}
 use Rattle.subsetter_base.specs.Options.{◌>>=◌}
@@ -14,15 +14,15 @@ abbrev pub operator_at : ℕ → List ℕ → Option FirstOperator
 operator_at operands [] = None
 operator_at operands (b ∷ bytes) = Some (record { operands = operands; operator = b })
 
--- here, where no number is at the front, else behind it
-abbrev pub here_or_behind : Option FirstOperator → (List ℕ → Option FirstOperator) → Option (CharStringNumber × List ℕ) → Option FirstOperator
-here_or_behind here behind None = here
-here_or_behind here behind (Some r) = behind r.1
+-- here, where no number is at the front, else after it
+abbrev pub here_or_after : Option FirstOperator → (List ℕ → Option FirstOperator) → Option (CharStringNumber × List ℕ) → Option FirstOperator
+here_or_after here following None = here
+here_or_after here following (Some r) = following r.1
 
--- behind so many numbers, and fewer than so many more
+-- after so many numbers, and fewer than so many more
 unfoldable pub first_operator : ℕ → ℕ → List ℕ → Option FirstOperator
 first_operator zero operands bytes = None
-first_operator (suc left) operands bytes = here_or_behind (operator_at operands bytes) (first_operator left (operands + 1)) (number_at bytes)
+first_operator (suc left) operands bytes = here_or_after (operator_at operands bytes) (first_operator left (operands + 1)) (number_at bytes)
 
 -- of operators that draw, rmoveto takes two operands, and vmoveto and hmoveto one; a path begins with no other one
 abbrev pub move_parity : ℕ → Option ℕ
@@ -48,7 +48,7 @@ pub record Opening : Type 0 where
   pub width : Option CharStringNumber
   -- how many operands the first operator has beside it
   pub operands : ℕ
-  -- what is behind it
+  -- what is after it
   pub body : List ℕ
 
 abbrev pub opening_by : List ℕ → ℕ → ℕ → Option Opening

@@ -39,7 +39,7 @@ charstrings_from cff glyph (a ∷ advances) = do
   Some (first ∷ others)
 
 -- ---- the table
--- what is in front of the CharStrings INDEX
+-- what is before the CharStrings INDEX
 abbrev pub front : Cff → Option (List ℕ)
 front cff = last_of char_strings_operator cff.top >>= offset_operand >>= λ offset. Some (take offset cff.bytes)
 

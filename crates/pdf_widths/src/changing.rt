@@ -16,7 +16,7 @@ use subsetter_cffdata::numerals::charstring_number::CharStringNumber;
 #[derive(Clone, Copy)]
 pub struct Change<'a> {
     pub width: Option<CharStringNumber>,
-    /// What is behind the old width.
+    /// What is after the old width.
     pub body: &'a [u8],
 }
 

@@ -1,4 +1,4 @@
-//! The width in front of a charstring, and the operator that it belongs to.
+//! The width before a charstring, and the operator that it belongs to.
 
 ghost use Rattle.std.specs.Prelude.{◌≡◌, ◌≤◌, IfSome};
 ghost use Rattle.std.specs.Option.{option_map};
@@ -10,7 +10,7 @@ use subsetter_cffdata::numerals::charstring_number::{CharStringNumber, read_numb
 /// The first operator of a charstring.
 #[derive(Clone, Copy)]
 pub struct FirstOperator {
-    /// How many numbers are in front of it.
+    /// How many numbers are before it.
     pub operands: usize,
     /// Its first byte.
     pub operator: u8,
@@ -22,7 +22,7 @@ pub struct Opening<'a> {
     pub width: Option<CharStringNumber>,
     /// How many operands the first operator has beside the width.
     pub operands: usize,
-    /// What is behind the width.
+    /// What is after the width.
     pub body: &'a [u8],
 }
 
@@ -35,8 +35,8 @@ fn operator_at(operands: usize, bytes: &[u8]) -> Option<FirstOperator>
     Some(FirstOperator { operands, operator })
 }
 
-/// The first operator, behind at most 48 numbers.
-#[tactic(auto, using(crate::proofs::Openings::behind_number, crate::proofs::Openings::at_operator, crate::proofs::Openings::too_many))]
+/// The first operator, after at most 48 numbers.
+#[tactic(auto, using(crate::proofs::Openings::past_number, crate::proofs::Openings::at_operator, crate::proofs::Openings::too_many))]
 fn first_operator(charstring: &[u8]) -> Option<FirstOperator>
     ensures value { result ≡ first_operator 49 0 charstring.now }
     ensures few { IfSome result (λ f. f.operands ≤ 48) }
@@ -55,7 +55,7 @@ fn first_operator(charstring: &[u8]) -> Option<FirstOperator>
     None
 }
 
-/// How many operands an operator takes beside a width, modulo 2; none where no width is in front of them.
+/// How many operands an operator takes beside a width, modulo 2; none where no width is before them.
 #[tactic(auto, unfolding(crate::specs::Opening::parity))]
 fn parity(operator: u8) -> Option<usize>
     ensures { result ≡ parity operator }
@@ -67,7 +67,7 @@ fn parity(operator: u8) -> Option<usize>
     }
 }
 
-/// How a charstring begins, by how many numbers are in front of its first operator.
+/// How a charstring begins, by how many numbers are before its first operator.
 fn opening_by(charstring: &[u8], operands: usize, parity: usize) -> Option<Opening<'_>>
     ensures { option_map opening_view result ≡ opening_by charstring.now operands parity }
 {

@@ -124,7 +124,7 @@ fn laid_out(alloc: Global, front: &[u8], charstrings: &[Vec<u8>]) -> Result<Opti
     }
 }
 
-/// What is in front of the CharStrings INDEX.
+/// What is before the CharStrings INDEX.
 fn front<'a>(table: &Table<'a>) -> Option<&'a [u8]>
     requires { IsSource table.now }
     ensures { option_copied result ≡ front (cff_of table.now) }

@@ -9,7 +9,7 @@ use Rattle.std.proofs.Math.Nat.{pow-suc, mod-lt, div-one, mod-one, zero-div, zer
 use Rattle.std.proofs.Math.Seq.{drop-length}
 use Rattle.std.proofs.lemmas.Nat.{div-add-mod'}
 use Rattle.subset_args.specs.Coordinates.{Decimal, with_digits, with_parts, decimal_of, size_in, has_byte, is_point, in_32_bits, fixed, above_zero, below_zero}
-use Rattle.subset_args.specs.Halves.{halves, behind_digit, halves_behind, quarters}
+use Rattle.subset_args.specs.Halves.{halves, after_digit, halves_after, quarters}
 use Rattle.subset_args.specs.declared.coordinates.Halves.{Halves}
 use Rattle.subset_args.specs.Words.{number_in_bits}
 use Rattle.subset_args.proofs.Quotients.{quotient_of_sum, rest_of_sum, quotient_by_ten, more_by_ten, nearest_above, nearest_below}
@@ -32,27 +32,27 @@ made count more = record { count = count; more = more }
 pair : (a b : ℕ) (m n : Bool) → a ≡ b → m ≡ n → made a m ≡ made b n
 pair a b m n e f = ap (λ (k : ℕ). made k m) e ∙ ap (made b) f
 
-weighed : (digits : List ℕ) → halves_behind digits ≡ halves (with_parts (weigh digits) (10 ^ length digits))
+weighed : (digits : List ℕ) → halves_after digits ≡ halves (with_parts (weigh digits) (10 ^ length digits))
 weighed [] = pair _ _ _ _ (sym (zero-div (10 ^ 0))) (ap (λ (n : ℕ). not (n == 0)) (sym (zero-mod (10 ^ 0))))
 weighed (b ∷ digits) =
     let m = 10 ^ length digits in
     let n = (b - 48) * m + weigh digits in
     let parts : 10 ^ suc (length digits) ≡ m * 10 = pow-suc 10 (length digits) in
-    let behind : behind_digit b (halves_behind digits) ≡ behind_digit b (halves (with_parts (weigh digits) m)) = ap (behind_digit b) (weighed digits) in
+    let following : after_digit b (halves_after digits) ≡ after_digit b (halves (with_parts (weigh digits) m)) = ap (after_digit b) (weighed digits) in
     let q = quotient_by_ten (b - 48) m (weigh digits) 131072 (powers (length digits)) in
     let r = more_by_ten (b - 48) m (weigh digits) 131072 (powers (length digits)) in
-    let here : behind_digit b (halves (with_parts (weigh digits) m)) ≡ halves (with_parts n (m * 10)) = pair _ _ _ _ (sym q) (sym r) in
-    behind ∙ (here ∙ ap (λ (p : ℕ). halves (with_parts n p)) (sym parts))
+    let here : after_digit b (halves (with_parts (weigh digits) m)) ≡ halves (with_parts n (m * 10)) = pair _ _ _ _ (sym q) (sym r) in
+    following ∙ (here ∙ ap (λ (p : ℕ). halves (with_parts n p)) (sym parts))
 
--- the halves of digits behind a point, with units in front of it
-pub with_units : (digits : List ℕ) (units : ℕ) → all_ascii_digits digits ≡ true → made (units * 131072 + (halves_behind digits).count) (halves_behind digits).more ≡ halves (with_digits digits units)
+-- the halves of digits after a point, with units before it
+pub with_units : (digits : List ℕ) (units : ℕ) → all_ascii_digits digits ≡ true → made (units * 131072 + (halves_after digits).count) (halves_after digits).more ≡ halves (with_digits digits units)
 with_units digits units all =
     let m = 10 ^ length digits in
     let same = own.same digits (own.to digits all) in
     let w = weighed digits in
     let q = quotient_of_sum units m (weigh digits) 131072 (powers (length digits)) in
     let r = rest_of_sum units m (weigh digits) 131072 in
-    let here : made (units * 131072 + (halves_behind digits).count) (halves_behind digits).more ≡ halves (with_parts (units * m + weigh digits) m) =
+    let here : made (units * 131072 + (halves_after digits).count) (halves_after digits).more ≡ halves (with_parts (units * m + weigh digits) m) =
     ap (λ (h : Halves). made (units * 131072 + h.count) h.more) w ∙ pair _ _ _ _ (sym q) (ap (λ (n : ℕ). not (n == 0)) (sym r)) in
     here ∙ ap (λ (v : ℕ). halves (with_parts (units * m + v) m)) same
 
@@ -95,20 +95,20 @@ pub whole_halves : (units : ℕ) → made (units * 131072) false ≡ halves (wit
 whole_halves units = pair _ _ _ _ (sym (div-one (units * 131072))) (ap (λ (n : ℕ). not (n == 0)) (sym (mod-one (units * 131072))))
 
 -- one more digit, from the last on
-pub halves_step : (digits : List ℕ) (i d : ℕ) → i < length digits → halves_behind (drop (length digits - (i + 1)) digits) ≡ behind_digit (get_or digits (length digits - 1 - i) d) (halves_behind (drop (length digits - i) digits))
+pub halves_step : (digits : List ℕ) (i d : ℕ) → i < length digits → halves_after (drop (length digits - (i + 1)) digits) ≡ after_digit (get_or digits (length digits - 1 - i) d) (halves_after (drop (length digits - i) digits))
 halves_step digits i d h =
     let k = length digits - (i + 1) in
     let within : k < length digits = omega arith in
     let next : suc k ≡ length digits - i = omega arith in
     let same : k ≡ length digits - 1 - i = omega arith in
-    ap halves_behind (drop-cons digits k d within) ∙ (ap (λ (n : ℕ). behind_digit (get_or digits k d) (halves_behind (drop n digits))) next ∙ ap (λ (n : ℕ). behind_digit (get_or digits n d) (halves_behind (drop (length digits - i) digits))) same)
+    ap halves_after (drop-cons digits k d within) ∙ (ap (λ (n : ℕ). after_digit (get_or digits k d) (halves_after (drop n digits))) next ∙ ap (λ (n : ℕ). after_digit (get_or digits n d) (halves_after (drop (length digits - i) digits))) same)
 
-pub halves_none : (digits : List ℕ) → halves_behind (drop (length digits - 0) digits) ≡ made 0 false
+pub halves_none : (digits : List ℕ) → halves_after (drop (length digits - 0) digits) ≡ made 0 false
 halves_none digits =
     let whole : length digits - 0 ≡ length digits = omega arith in
-    ap (λ (n : ℕ). halves_behind (drop n digits)) whole ∙ ap halves_behind (drop-length digits)
+    ap (λ (n : ℕ). halves_after (drop n digits)) whole ∙ ap halves_after (drop-length digits)
 
-pub decimal_is : (whole digits : List ℕ) (units : ℕ) → (nat_lt 0 (length digits) && all_ascii_digits digits) ≡ true → Some units ≡ number_in_bits 16 whole → Some (made (units * 131072 + (halves_behind digits).count) (halves_behind digits).more) ≡ option_map halves (decimal_of whole digits)
+pub decimal_is : (whole digits : List ℕ) (units : ℕ) → (nat_lt 0 (length digits) && all_ascii_digits digits) ≡ true → Some units ≡ number_in_bits 16 whole → Some (made (units * 131072 + (halves_after digits).count) (halves_after digits).more) ≡ option_map halves (decimal_of whole digits)
 decimal_is whole digits units test e =
     let all : all_ascii_digits digits ≡ true = grind arith in
     ap Some (with_units digits units all) ∙ (ap (λ (o : Option ℕ). option_map halves (option_map (with_digits digits) o)) e ∙ ap (λ (b : Bool). option_map halves (if b then option_map (with_digits digits) (number_in_bits 16 whole) else None)) (sym test))

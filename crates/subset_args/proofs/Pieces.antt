@@ -6,7 +6,7 @@ use Rattle.subset_args.specs.Request.{RequestedGlyphs, requested_by, each_reques
 use Rattle.subset_args.specs.declared.mistakes.Unread.{Unread}
 use Rattle.subset_args.specs.declared.mistakes.Unread.TheVariants.{OutOfMemory, Mistake}
 
--- what is requested behind others
+-- what is requested after others
 abbrev pub in_front : List RequestedGlyphs → Result (List RequestedGlyphs) Fault → Result (List RequestedGlyphs) Fault
 in_front before (Ok more) = Ok (before ++ more)
 in_front before (Err e) = Err e
@@ -19,9 +19,9 @@ one_more : (before : List RequestedGlyphs) (glyphs : RequestedGlyphs) (r : Resul
 one_more before glyphs (Ok more) = ap Ok (sym (append_assoc before (glyphs ∷ []) more))
 one_more before glyphs (Err e) = refl
 
--- what is left, behind one more option
-pub behind_one : (before : List RequestedGlyphs) (glyphs : RequestedGlyphs) (source : GlyphSource) (sources : List GlyphSource) (total : Result (List RequestedGlyphs) Fault) → requested_by source ≡ Ok glyphs → in_front before (each_requested (source ∷ sources)) ≡ total → in_front (before ++ glyphs ∷ []) (each_requested sources) ≡ total
-behind_one before glyphs source sources total h t = sym (one_more before glyphs (each_requested sources)) ∙ (ap (λ (r : Result RequestedGlyphs Fault). in_front before (r >>= λ g. each_requested sources >>= λ more. Ok (g ∷ more))) (sym h) ∙ t)
+-- what is left, after one more option
+pub after_one : (before : List RequestedGlyphs) (glyphs : RequestedGlyphs) (source : GlyphSource) (sources : List GlyphSource) (total : Result (List RequestedGlyphs) Fault) → requested_by source ≡ Ok glyphs → in_front before (each_requested (source ∷ sources)) ≡ total → in_front (before ++ glyphs ∷ []) (each_requested sources) ≡ total
+after_one before glyphs source sources total h t = sym (one_more before glyphs (each_requested sources)) ∙ (ap (λ (r : Result RequestedGlyphs Fault). in_front before (r >>= λ g. each_requested sources >>= λ more. Ok (g ∷ more))) (sym h) ∙ t)
 
 -- an option that requests nothing leaves nothing requested
 pub failed_at : (e : Unread) (before : List RequestedGlyphs) (source : GlyphSource) (sources : List GlyphSource) (total : Result (List RequestedGlyphs) Fault) → Fails e (requested_by source) → in_front before (each_requested (source ∷ sources)) ≡ total → Fails e total

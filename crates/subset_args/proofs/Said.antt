@@ -18,7 +18,7 @@ one_more (Some c) (Some more) old new total h t =
 one_more (Some c) None old new total h t = t
 one_more None q old new total h t = absurd cc
 
--- what is left to say, behind one more part
+-- what is left to say, after one more part
 pub after_place : (parts : List (Bor (List ℕ))) (i : ℕ) (d : Bor (List ℕ)) (old new : Coordinates) (total : Option Coordinates) → i < length parts → option_map (λ c. old ++ c ∷ []) (coordinate_in (get_or parts i d).now) ≡ Some new → option_map (λ more. old ++ more) (coordinates_of (texts (drop i parts))) ≡ total → option_map (λ more. new ++ more) (coordinates_of (texts (drop (i + 1) parts))) ≡ total
 after_place parts i d old new total lt h t =
     let next : suc i ≡ i + 1 = omega arith in

@@ -28,7 +28,7 @@ has_byte test word = nat_lt (position_or_len test word) (length word)
 abbrev pub with_parts : ℕ → ℕ → Decimal
 with_parts count parts = record { count = count; parts = parts }
 
--- digits in front of the point, and one or more behind it
+-- digits before the point, and one or more after it
 abbrev pub with_digits : List ℕ → ℕ → Decimal
 with_digits digits units = with_parts (units * 10 ^ length digits + digits_value 10 digits) (10 ^ length digits)
 
@@ -48,7 +48,7 @@ in_32_bits (negsuc n) = if nat_lt n (2 ^ 31) then Some (negsuc n) else None
 abbrev pub fixed : ℤ → ℕ → Option ℤ
 fixed count parts = in_32_bits (nearest count parts)
 
--- behind a minus, and without one
+-- after a minus, and without one
 abbrev pub below_zero : List ℕ → Option ℤ
 below_zero word = option_and_then (λ d. fixed (neg_ℤ (pos (d.count * 65536))) d.parts) (size_in word)
 
@@ -57,7 +57,7 @@ above_zero word = option_and_then (λ d. fixed (pos (d.count * 65536)) d.parts) 
 
 -- a minus may stand first, and nowhere else
 abbrev pub with_minus : List ℕ → List ℕ → Option ℤ
-with_minus front behind = if length front == 0 then below_zero behind else None
+with_minus front following = if length front == 0 then below_zero following else None
 
 abbrev pub value_in : List ℕ → Option ℤ
 value_in word = if has_byte is_minus word then with_minus (before_first is_minus word) (after_first is_minus word) else above_zero word

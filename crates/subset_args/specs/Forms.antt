@@ -104,18 +104,18 @@ numbers list = if begins_with_digit list then Ok (Some list) else refused Glyph 
 abbrev pub are_given : Choice → Bool
 are_given choice = nat_lt 0 (length choice.sources)
 
--- the list of glyphs behind INDEX, which options may have in its place
-abbrev pub listed_behind : Bool → List (List ℕ) → Result (Option (List ℕ)) Fault
-listed_behind false [] = refused NoGlyphs []
-listed_behind false (list ∷ []) = numbers list
-listed_behind true [] = Ok None
-listed_behind true (word ∷ []) = refused BesideOption word
-listed_behind false (list ∷ word ∷ words) = refused Further word
-listed_behind true (other ∷ word ∷ words) = refused Further word
+-- the list of glyphs after INDEX, which options may have in its place
+abbrev pub listed_after : Bool → List (List ℕ) → Result (Option (List ℕ)) Fault
+listed_after false [] = refused NoGlyphs []
+listed_after false (list ∷ []) = numbers list
+listed_after true [] = Ok None
+listed_after true (word ∷ []) = refused BesideOption word
+listed_after false (list ∷ word ∷ words) = refused Further word
+listed_after true (other ∷ word ∷ words) = refused Further word
 
--- IN, OUT and INDEX, and what is behind them
+-- IN, OUT and INDEX, and what is after them
 abbrev pub plain_with : Choice → List ℕ → List ℕ → ℕ → List (List ℕ) → Result Asked Fault
-plain_with choice input output index words = listed_behind (are_given choice) words >>= λ listed. unless (wrong_pdf choice (Some output)) (Ok (record { choice = choice; input = input; output = Some output; index = index; listed = listed }))
+plain_with choice input output index words = listed_after (are_given choice) words >>= λ listed. unless (wrong_pdf choice (Some output)) (Ok (record { choice = choice; input = input; output = Some output; index = index; listed = listed }))
 
 abbrev pub plain_at : Choice → List ℕ → List ℕ → List (List ℕ) → Result Asked Fault
 plain_at choice input output [] = refused NoIndex []
@@ -129,7 +129,7 @@ plain choice (input ∷ output ∷ words) = if names_position choice then refuse
 
 -- ---- options
 
--- what the options in front of arguments that are none say: that help or the version is wanted, or what is chosen, and whether `--` is in front of these arguments
+-- what the options before arguments that are none say: that help or the version is wanted, or what is chosen, and whether `--` is before these arguments
 pub data Options : Type 0 where
   helped : Options
   versioned : Options
@@ -137,25 +137,25 @@ pub data Options : Type 0 where
 
 -- a value in the same word, where the arguments from it on aren't of the plain form: then it is IN
 abbrev pub joined_at : Choice → Bool → List ℕ → List (List ℕ) → Option Given
-joined_at choice is_behind word words = if not is_behind && is_ok (plain choice words) then None else joined word
+joined_at choice is_after word words = if not is_after && is_ok (plain choice words) then None else joined word
 
--- help and the version aren't wanted behind IN
-abbrev pub unless_behind : Bool → List ℕ → Options → Result Options Fault
-unless_behind is_behind word options = if is_behind then refused Late word else Ok options
+-- help and the version aren't wanted after IN
+abbrev pub unless_after : Bool → List ℕ → Options → Result Options Fault
+unless_after is_after word options = if is_after then refused Late word else Ok options
 
--- the options in front of IN, or behind it, besides what is chosen already; where an option is in front of them, the first argument is its value
+-- the options before IN, or after it, besides what is chosen already; where an option is before them, the first argument is its value
 abbrev pub parsed : Option (Setting × List ℕ) → Choice → Bool → List (List ℕ) → Result Options Fault
-parsed (Some option) choice is_behind [] = refused NoValue option.1
-parsed (Some option) choice is_behind (value ∷ words) = with_setting option.0 option.1 value choice >>= λ more. parsed None more is_behind words
-parsed None choice is_behind [] = Ok (chosen choice false [])
-parsed None choice is_behind (word ∷ words) = elim (kind_of word) [
-  | IsSwitch switch ↦ with_switch switch word choice >>= λ more. parsed None more is_behind words
-  | IsSetting setting ↦ parsed (Some (setting, word)) choice is_behind words
-  | Help ↦ unless_behind is_behind word helped
-  | Version ↦ unless_behind is_behind word versioned
+parsed (Some option) choice is_after [] = refused NoValue option.1
+parsed (Some option) choice is_after (value ∷ words) = with_setting option.0 option.1 value choice >>= λ more. parsed None more is_after words
+parsed None choice is_after [] = Ok (chosen choice false [])
+parsed None choice is_after (word ∷ words) = elim (kind_of word) [
+  | IsSwitch switch ↦ with_switch switch word choice >>= λ more. parsed None more is_after words
+  | IsSetting setting ↦ parsed (Some (setting, word)) choice is_after words
+  | Help ↦ unless_after is_after word helped
+  | Version ↦ unless_after is_after word versioned
   | End ↦ Ok (chosen choice true words)
-  | Place ↦ elim (joined_at choice is_behind word (word ∷ words)) [
-    | Some given ↦ with_setting given.setting given.word given.value choice >>= λ more. parsed None more is_behind words
+  | Place ↦ elim (joined_at choice is_after word (word ∷ words)) [
+    | Some given ↦ with_setting given.setting given.word given.value choice >>= λ more. parsed None more is_after words
     | None ↦ Ok (chosen choice false (word ∷ words))
   ]
 ]
@@ -183,14 +183,14 @@ is_option Version = true
 is_option End = false
 is_option Place = false
 
--- an option behind IN, as `--axes` and `--batch` are
-abbrev pub wrong_behind : List ℕ → Option Wrong
-wrong_behind word = if is_option (kind_of word) || is_some (joined word) then Some Late else not_first word
+-- an option after IN, as `--axes` and `--batch` are
+abbrev pub wrong_after : List ℕ → Option Wrong
+wrong_after word = if is_option (kind_of word) || is_some (joined word) then Some Late else not_first word
 
 -- the first of these
 abbrev pub first_late : List (List ℕ) → Option Fault
 first_late [] = None
-first_late (word ∷ words) = elim (wrong_behind word) [ Some wrong ↦ Some (record { wrong = wrong; word = word }) | None ↦ first_late words ]
+first_late (word ∷ words) = elim (wrong_after word) [ Some wrong ↦ Some (record { wrong = wrong; word = word }) | None ↦ first_late words ]
 
 -- whether an argument says OUT or INDEX, as `-o`, `-oFILE` or `--face-index=0`
 abbrev pub says_position : List ℕ → Bool
@@ -200,38 +200,38 @@ abbrev pub say_position : List (List ℕ) → Bool
 say_position [] = false
 say_position (word ∷ words) = says_position word || say_position words
 
--- a second argument is beside IN: an option says OUT or INDEX; or else the plain form is meant, which is wrong so, or has an option behind IN
+-- a second argument is beside IN: an option says OUT or INDEX; or else the plain form is meant, which is wrong so, or has an option after IN
 abbrev pub beside_input : Fault → Choice → List (List ℕ) → List ℕ → List (List ℕ) → Fault
-beside_input fault choice behind word words = if names_position choice || say_position words then record { wrong = BesideInput; word = word } else unwrap_or (first_late behind) fault
+beside_input fault choice following word words = if names_position choice || say_position words then record { wrong = BesideInput; word = word } else unwrap_or (first_late following) fault
 
--- what is wrong with an argument in the place of IN or behind it, by itself: none where it is behind `--`
+-- what is wrong with an argument in the place of IN or after it, by itself: none where it is after `--`
 abbrev pub wrong_at : Bool → List ℕ → Option Wrong
 wrong_at is_ended word = if is_ended then None else wrong_place word
 
 abbrev pub second : Fault → Choice → Bool → List (List ℕ) → List ℕ → List (List ℕ) → Fault
-second fault choice is_ended behind word words = elim (wrong_at is_ended word) [ Some wrong ↦ record { wrong = wrong; word = word } | None ↦ beside_input fault choice behind word words ]
+second fault choice is_ended following word words = elim (wrong_at is_ended word) [ Some wrong ↦ record { wrong = wrong; word = word } | None ↦ beside_input fault choice following word words ]
 
 -- ---- both forms
 
--- IN with all options, and the arguments behind these
+-- IN with all options, and the arguments after these
 abbrev pub before : Fault → Choice → Bool → List ℕ → List (List ℕ) → List (List ℕ) → Result Asked Fault
-before fault choice is_ended input behind [] = free choice input
-before fault choice is_ended input behind (word ∷ words) = Err (second fault choice is_ended behind word words)
+before fault choice is_ended input following [] = free choice input
+before fault choice is_ended input following (word ∷ words) = Err (second fault choice is_ended following word words)
 
--- IN is alone beside the options behind it
+-- IN is alone beside the options after it
 abbrev pub alone : Fault → List ℕ → List (List ℕ) → Options → Result Asked Fault
-alone fault input behind helped = Err fault
-alone fault input behind versioned = Err fault
-alone fault input behind (chosen choice is_ended words) = before fault choice is_ended input behind words
+alone fault input following helped = Err fault
+alone fault input following versioned = Err fault
+alone fault input following (chosen choice is_ended words) = before fault choice is_ended input following words
 
--- the options behind IN; there are none behind `--`
-abbrev pub parsed_behind : Choice → Bool → List (List ℕ) → Result Options Fault
-parsed_behind choice is_ended words = if is_ended then Ok (chosen choice true words) else parsed None choice true words
+-- the options after IN; there are none after `--`
+abbrev pub parsed_after : Choice → Bool → List (List ℕ) → Result Options Fault
+parsed_after choice is_ended words = if is_ended then Ok (chosen choice true words) else parsed None choice true words
 
 -- the arguments from IN on, where they aren't of the plain form
 abbrev pub from_input : Fault → Choice → Bool → List (List ℕ) → Result Asked Fault
 from_input fault choice is_ended [] = Err fault
-from_input fault choice is_ended (input ∷ words) = elim (wrong_at is_ended input) [ Some wrong ↦ refused wrong input | None ↦ parsed_behind choice is_ended words >>= alone fault input words ]
+from_input fault choice is_ended (input ∷ words) = elim (wrong_at is_ended input) [ Some wrong ↦ refused wrong input | None ↦ parsed_after choice is_ended words >>= alone fault input words ]
 
 -- the arguments from IN on
 unfoldable pub asked : Choice → Bool → List (List ℕ) → Result Asked Fault

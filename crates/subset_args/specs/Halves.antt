@@ -8,13 +8,13 @@ abbrev pub halves : Decimal → Halves
 halves d = record { count = d.count * 131072 / d.parts; more = not (d.count * 131072 % d.parts == 0) }
 
 -- one more digit, in front
-abbrev pub behind_digit : ℕ → Halves → Halves
-behind_digit b h = record { count = ((b - 48) * 131072 + h.count) / 10; more = h.more || not (((b - 48) * 131072 + h.count) % 10 == 0) }
+abbrev pub after_digit : ℕ → Halves → Halves
+after_digit b h = record { count = ((b - 48) * 131072 + h.count) / 10; more = h.more || not (((b - 48) * 131072 + h.count) % 10 == 0) }
 
--- those of the digits behind a point
-abbrev pub halves_behind : List ℕ → Halves
-halves_behind [] = record { count = 0; more = false }
-halves_behind (b ∷ digits) = behind_digit b (halves_behind digits)
+-- those of the digits after a point
+abbrev pub halves_after : List ℕ → Halves
+halves_after [] = record { count = 0; more = false }
+halves_after (b ∷ digits) = after_digit b (halves_after digits)
 
 -- a number of quarters that is nearest to the same 65536th
 abbrev pub quarters : Halves → ℕ

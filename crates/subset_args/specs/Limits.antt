@@ -21,14 +21,14 @@ depth_in word = option_and_then (λ depth. if depth == 0 then None else Some dep
 abbrev pub limits_from : List ℕ → List ℕ → Option ℕ → Option Bounds
 limits_from tokens depth bytes = option_and_then (λ t. option_map (λ d. record { tokens = t; depth = d; bytes = bytes }) (depth_in depth)) (number_in_bits 32 tokens)
 
--- in front of a comma (44), and behind it
+-- before a comma (44), and after it
 abbrev pub front : List ℕ → List ℕ
 front word = before_first (λ b. b == 44) word
 
 abbrev pub rest : List ℕ → List ℕ
 rest word = after_first (λ b. b == 44) word
 
--- the limits that an argument writes: the tokens in front of its first comma, the depth in front of the next, if there is one, and the bytes behind that
+-- the limits that an argument writes: the tokens before its first comma, the depth before the next, if there is one, and the bytes after that
 abbrev pub limits_in : List ℕ → Option Bounds
 limits_in word =
     if list_any (λ b. b == 44) (rest word)

@@ -64,7 +64,7 @@ other_kind word =
     else if bytes_eq word (codes "--") then End
     else Place
 
--- what an argument in front of IN is
+-- what an argument before IN is
 abbrev pub first_of : Option Switch → Option Setting → Kind → Kind
 first_of (Some switch) setting other = IsSwitch switch
 first_of None (Some setting) other = IsSetting setting

@@ -16,7 +16,7 @@ use Rattle.subset_args.specs.Options.{GlyphSource, in_file, by_text, in_list, in
 use Rattle.subset_args.specs.declared.listing.lists.FileKind.{FileKind}
 use Rattle.subset_args.specs.declared.listing.lists.FileKind.TheVariants.{Glyphs as OfGlyphs, Characters as OfCharacters, Text as OfText}
 use Rattle.subset_args.specs.declared.listing.wrong.Listing.TheVariants.{Numbers, Glyphs, Codes, Coordinates}
-use Rattle.subset_args.specs.declared.mistakes.Wrong.TheVariants.{NoInput, NoGlyphs, InputTwice, Unknown, BehindShown, Index, NoBatchFile, BehindBatch}
+use Rattle.subset_args.specs.declared.mistakes.Wrong.TheVariants.{NoInput, NoGlyphs, InputTwice, Unknown, AfterShown, Index, NoBatchFile, AfterBatch}
 use Rattle.subset_args.specs.declared.options.chosen.PdfChoice.{PdfChoice}
 use Rattle.subset_args.specs.declared.options.chosen.Switches.{Switches}
 use Rattle.subset_args.specs.declared.jobs.command.Topic.{Topic}
@@ -177,7 +177,7 @@ request_of a = unless (wrong_stream (is_stream a.input) a.choice.sources) (reque
 abbrev pub request_from : Choice → Bool → List (List ℕ) → Result Request Fault
 request_from choice is_ended words = asked choice is_ended words >>= request_of
 
--- what the options and the arguments behind them ask for
+-- what the options and the arguments after them ask for
 abbrev pub command_of : Options → Result Command Fault
 command_of helped = Ok help
 command_of versioned = Ok version
@@ -190,27 +190,27 @@ command_by_options words = parsed None no_choice false words >>= command_of
 
 -- an option is in the place of IN
 unfoldable pub instead_of : List ℕ → Fault → Fault
-instead_of input fault = if not (looks_like_option input) then fault else (if is_option (kind_of input) || is_some (topic_of input) then record { wrong = BehindShown; word = input } else record { wrong = Unknown; word = input })
+instead_of input fault = if not (looks_like_option input) then fault else (if is_option (kind_of input) || is_some (topic_of input) then record { wrong = AfterShown; word = input } else record { wrong = Unknown; word = input })
 
 -- what is shown by the arguments `FONT [INDEX]`, with or without JSON; INDEX is 0 where it isn't given
 abbrev pub shown_of : Topic → Bool → List (List ℕ) → Result Command Fault
 shown_of topic json [] = refused NoInput []
 shown_of topic json (input ∷ []) = Ok (show topic json input 0)
 shown_of topic json (input ∷ index ∷ []) = or_fault (instead_of input (record { wrong = Index; word = index })) (option_map (show topic json input) (number_in_bits 32 index))
-shown_of topic json (input ∷ index ∷ word ∷ words) = Err (instead_of input (record { wrong = BehindShown; word = word }))
+shown_of topic json (input ∷ index ∷ word ∷ words) = Err (instead_of input (record { wrong = AfterShown; word = word }))
 
--- `--json` may be in front of them
+-- `--json` may be before them
 abbrev pub shown_by : Topic → List (List ℕ) → Result Command Fault
 shown_by topic [] = refused NoInput []
 shown_by topic (word ∷ words) = if bytes_eq word (codes "--json") then shown_of topic true words else shown_of topic false (word ∷ words)
 
 -- ---- the whole
 
--- the file behind `--batch`, alone
+-- the file after `--batch`, alone
 abbrev pub batch_of : List (List ℕ) → Result Command Fault
 batch_of [] = refused NoBatchFile []
 batch_of (file ∷ []) = Ok (batch file)
-batch_of (file ∷ word ∷ words) = refused BehindBatch word
+batch_of (file ∷ word ∷ words) = refused AfterBatch word
 
 -- what the arguments request: `--batch FILE`, `--axes [--json] FONT [INDEX]` or `--info` in its place, or the making of a subset
 abbrev pub command : List (List ℕ) → Result Command Fault

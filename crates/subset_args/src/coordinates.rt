@@ -5,7 +5,7 @@
 ghost use Rattle.std.specs.Prelude.{◌≡◌, ◌⊎◌, ◌≤◌, ◌<◌, ◌*◌, ◌++◌, ◌&&◌, nat_lt, ◌∷◌, [], map, OnOk, IfOk, IfErr, IfSome, Some, None, length, pos, neg_ℤ, unsigned_abs};
 ghost use Rattle.std.specs.Option.{option_map};
 ghost use Rattle.subset_args.specs.Coordinates.{decimal_of, size_in, fixed, below_zero, above_zero, with_minus, value_in, coordinate_of, coordinate_in, coordinates_of, coordinates_in};
-ghost use Rattle.subset_args.specs.Halves.{halves, behind_digit, halves_behind, quarters};
+ghost use Rattle.subset_args.specs.Halves.{halves, after_digit, halves_after, quarters};
 ghost use Rattle.std.specs.Str.{all_ascii_digits};
 ghost use Rattle.subset_args.specs.declared.jobs.command.ArgsError.TheVariants.{Usage, OutOfMemory};
 
@@ -22,23 +22,23 @@ pub struct Halves {
     pub more: bool,
 }
 
-/// The halves of a digit and of those behind it.
-fn behind_digit(digit: u8, behind: Halves) -> Halves
-    requires { behind.count ≤ 3014656 }
-    ensures value { result ≡ behind_digit digit behind }
+/// The halves of a digit and of those after it.
+fn after_digit(digit: u8, following: Halves) -> Halves
+    requires { following.count ≤ 3014656 }
+    ensures value { result ≡ after_digit digit following }
     ensures bound { result.count ≤ 3014656 }
 {
-    let count = u64::from(digit.saturating_sub(b'0')) * 131_072 + behind.count;
+    let count = u64::from(digit.saturating_sub(b'0')) * 131_072 + following.count;
     Halves {
         count: count / 10,
-        more: behind.more || count % 10 != 0,
+        more: following.more || count % 10 != 0,
     }
 }
 
-/// The halves of the digits behind a point.
+/// The halves of the digits after a point.
 #[tactic(auto, using(crate::proofs::Digits::halves_step, crate::proofs::Digits::halves_none))]
-fn halves_behind(digits: &[u8]) -> Halves
-    ensures value { result ≡ halves_behind digits.now }
+fn halves_after(digits: &[u8]) -> Halves
+    ensures value { result ≡ halves_after digits.now }
     ensures bound { result.count ≤ 3014656 }
 {
     let mut halves = Halves {
@@ -46,7 +46,7 @@ fn halves_behind(digits: &[u8]) -> Halves
         more: false,
     };
     for i in 0..digits.len() {
-        halves = behind_digit(digits[digits.len() - 1 - i], halves);
+        halves = after_digit(digits[digits.len() - 1 - i], halves);
     }
     halves
 }
@@ -70,7 +70,7 @@ fn is_digits(text: &str) -> bool
     text.len() > 0 && are_digits(text.as_bytes())
 }
 
-/// A number of digits in front of a point and behind it.
+/// A number of digits before a point and after it.
 #[tactic(auto, using(crate::proofs::Digits::decimal_is))]
 fn decimal_of(whole: &str, digits: &str) -> Option<Halves>
     ensures value { result ≡ option_map halves (decimal_of whole.now digits.now) }
@@ -80,10 +80,10 @@ fn decimal_of(whole: &str, digits: &str) -> Option<Halves>
         return None;
     }
     let units = u16_of(whole)?;
-    let behind = halves_behind(digits.as_bytes());
+    let following = halves_after(digits.as_bytes());
     Some(Halves {
-        count: u64::from(units) * 131_072 + behind.count,
-        more: behind.more,
+        count: u64::from(units) * 131_072 + following.count,
+        more: following.more,
     })
 }
 
@@ -141,7 +141,7 @@ fn positive(count: u64) -> i64
     count as i64
 }
 
-/// A value behind a minus, in 65536ths.
+/// A value after a minus, in 65536ths.
 #[tactic(auto, using(crate::proofs::Digits::below_is, crate::proofs::Digits::none_below))]
 fn below_zero(word: &str) -> Option<i32>
     ensures { result ≡ below_zero word.now }
@@ -159,12 +159,12 @@ fn above_zero(word: &str) -> Option<i32>
     fixed(positive(quarters_of(size)))
 }
 
-/// A value with a minus between two texts, in 65536ths: nothing is in front of it.
-fn with_minus(front: &str, behind: &str) -> Option<i32>
-    ensures { result ≡ with_minus front.now behind.now }
+/// A value with a minus between two texts, in 65536ths: nothing is before it.
+fn with_minus(front: &str, following: &str) -> Option<i32>
+    ensures { result ≡ with_minus front.now following.now }
 {
     if front.len() == 0 {
-        below_zero(behind)
+        below_zero(following)
     } else {
         None
     }
@@ -175,7 +175,7 @@ fn value_of(word: &str) -> Option<i32>
     ensures { result ≡ value_in word.now }
 {
     match word.split_once('-') {
-        Some((front, behind)) => with_minus(front, behind),
+        Some((front, following)) => with_minus(front, following),
         None => above_zero(word),
     }
 }

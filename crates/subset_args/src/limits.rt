@@ -1,6 +1,6 @@
 //! How far a charstring may run, and how many bytes the font may have, as the arguments say it.
 //!
-//! The value of `--limits` is cut at its first comma, and what is behind it at the next: a third one is in BYTES,
+//! The value of `--limits` is cut at its first comma, and what is after it at the next: a third one is in BYTES,
 //! which is then no number.
 
 ghost use Rattle.std.specs.Prelude.{◌≡◌, ◌≤◌, MatchOption};

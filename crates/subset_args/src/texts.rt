@@ -50,7 +50,7 @@ impl fmt::Display for Plain<'_> {
     }
 }
 
-/// What a mistake's line has in front of the argument, and behind it; none where it doesn't have the argument.
+/// What a mistake's line has before the argument, and after it; none where it doesn't have the argument.
 fn around(wrong: Wrong) -> (&'static str, Option<&'static str>) {
     match wrong {
         Wrong::NoInput => ("IN is missing", None),
@@ -59,7 +59,7 @@ fn around(wrong: Wrong) -> (&'static str, Option<&'static str>) {
         Wrong::NoGlyphs => ("GID is missing", None),
         Wrong::NoBatchFile => ("FILE is missing", None),
         Wrong::NoSource => ("no option requests glyphs", None),
-        Wrong::Further | Wrong::BehindShown | Wrong::BehindBatch | Wrong::BesideInput => {
+        Wrong::Further | Wrong::AfterShown | Wrong::AfterBatch | Wrong::BesideInput => {
             ("\"", Some("\" is one argument too many"))
         }
         Wrong::Late => ("", Some(" is after IN")),
@@ -90,10 +90,10 @@ fn around(wrong: Wrong) -> (&'static str, Option<&'static str>) {
 
 impl fmt::Display for Mistake<'_> {
     fn fmt<W: fmt::Write>(&self, f: &mut fmt::Formatter<W>) -> fmt::Result {
-        let (before, behind) = around(self.wrong);
-        match behind {
+        let (before, following) = around(self.wrong);
+        match following {
             None => write!(f, "{before}"),
-            Some(behind) => write!(f, "{before}{}{behind}", Shown(self.word)),
+            Some(following) => write!(f, "{before}{}{following}", Shown(self.word)),
         }
     }
 }
@@ -127,10 +127,10 @@ fn expected(wrong: Wrong) -> &'static str {
         }
         Wrong::NoGlyphs => "expected: glyph numbers as 36,37,38, or an option as --text",
         Wrong::Further => "expected: IN OUT INDEX GID, with no blanks between glyph numbers",
-        Wrong::BehindShown | Wrong::ShownLate => {
+        Wrong::AfterShown | Wrong::ShownLate => {
             "expected: --axes or --info, and then [--json] IN [INDEX]"
         }
-        Wrong::NoBatchFile | Wrong::BehindBatch | Wrong::BatchLate => {
+        Wrong::NoBatchFile | Wrong::AfterBatch | Wrong::BatchLate => {
             "expected: --batch and a FILE of requests, and no more"
         }
         Wrong::Late => "expected: options before IN; with -o or --pdf also after it",

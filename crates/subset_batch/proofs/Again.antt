@@ -6,7 +6,7 @@ use Rattle.std.proofs.lemmas.Bool.Decides.{nat_tests}
 use Rattle.std.proofs.lemmas.Str.{encode_ascii}
 use Rattle.std.proofs.Math.Utf8.{low_scalar}
 use Rattle.subset_batch.specs.declared.fault.Wanted.TheVariants.{Quote}
-use Rattle.subset_batch.specs.Bytes.{behind, escaped, hex_digit, is_high}
+use Rattle.subset_batch.specs.Bytes.{following, escaped, hex_digit, is_high}
 use Rattle.subset_batch.specs.Reading.{Fault, with_front, many, unit_at, unicode_at, char_at, goes_on, char_step, chars_at, string_at}
 use Rattle.subset_batch.specs.Written.{hex_of, escaped_byte, escaped_text}
 
@@ -69,14 +69,14 @@ char_back b rest = char_cases b rest (eqb b 34 || eqb b 92) (ltb b 32) refl refl
 
 -- no quotation mark is first
 open_cases : (b : ℕ) (rest : List ℕ) (p q : Bool) → (eqb b 34 || eqb b 92) ≡ p → ltb b 32 ≡ q
-    → behind 34 (cond p (92 ∷ b ∷ []) (cond q (92 ∷ 117 ∷ 48 ∷ 48 ∷ hex_of (b / 16) ∷ hex_of (b % 16) ∷ []) (b ∷ [])) ++ rest) ≡ None
+    → following 34 (cond p (92 ∷ b ∷ []) (cond q (92 ∷ 117 ∷ 48 ∷ 48 ∷ hex_of (b / 16) ∷ hex_of (b % 16) ∷ []) (b ∷ [])) ++ rest) ≡ None
 open_cases b rest true q hp hq = refl
 open_cases b rest false true hp hq = refl
 open_cases b rest false false hp hq =
     let p = or_false (eqb b 34) (eqb b 92) hp in
     rw (p.0) refl
 
-open_byte : (b : ℕ) (rest : List ℕ) → behind 34 (escaped_byte b ++ rest) ≡ None
+open_byte : (b : ℕ) (rest : List ℕ) → following 34 (escaped_byte b ++ rest) ≡ None
 open_byte b rest = open_cases b rest (eqb b 34 || eqb b 92) (ltb b 32) refl refl
 
 -- ---- a string
@@ -85,17 +85,17 @@ step_back : (b : ℕ) (rest : List ℕ) → char_step (escaped_byte b ++ rest) �
 unfolding char_step
 step_back b rest = rw (char_back b rest) refl
 
--- what is behind the first byte of a string
+-- what is after the first byte of a string
 regrouped : (b : ℕ) (t rest : List ℕ) → escaped_text (b ∷ t) ++ rest ≡ escaped_byte b ++ (escaped_text t ++ rest)
 regrouped b t rest = append_assoc (escaped_byte b) (escaped_text t) rest
 
-open_text : (b : ℕ) (t rest : List ℕ) → behind 34 (escaped_text (b ∷ t) ++ rest) ≡ None
-open_text b t rest = ap (behind 34) (regrouped b t rest) ∙ open_byte b (escaped_text t ++ rest)
+open_text : (b : ℕ) (t rest : List ℕ) → following 34 (escaped_text (b ∷ t) ++ rest) ≡ None
+open_text b t rest = ap (following 34) (regrouped b t rest) ∙ open_byte b (escaped_text t ++ rest)
 
-went_on : (bytes : List ℕ) → behind 34 bytes ≡ None → goes_on bytes ≡ (true, bytes)
+went_on : (bytes : List ℕ) → following 34 bytes ≡ None → goes_on bytes ≡ (true, bytes)
 went_on bytes h = rw (h, goes_on) refl
 
-more_chars : (b : ℕ) (bytes : List ℕ) (n : ℕ) → behind 34 bytes ≡ None → many char_step Quote (suc n) (escaped_byte b ++ bytes) ≡ with_front (b ∷ []) (many char_step Quote n bytes)
+more_chars : (b : ℕ) (bytes : List ℕ) (n : ℕ) → following 34 bytes ≡ None → many char_step Quote (suc n) (escaped_byte b ++ bytes) ≡ with_front (b ∷ []) (many char_step Quote n bytes)
 unfolding many
 more_chars b bytes n h =
     let f : Bool × List ℕ → Result (List ℕ × Bool × List ℕ) Fault = λ x. Ok (b ∷ [], x.0, x.1) in

@@ -18,7 +18,7 @@ pub no_front : {A : Type 0} (read : Result (List A × List ℕ) Fault) → with_
 no_front (Ok x) = refl
 no_front (Err f) = refl
 
--- one more step, behind which others follow
+-- one more step, after which others follow
 pub more_follow : {A : Type 0} (step : List ℕ → Result (List A × Bool × List ℕ) Fault) (wanted : Wanted) (front : List A) (count i : ℕ) (bytes : List ℕ) (piece : List A) (more : Bool) (after : List ℕ) (total : Result (List A × List ℕ) Fault)
     → i < count → step bytes ≡ Ok (piece, more, after) → more ≡ true → with_front front (many step wanted (count - i) bytes) ≡ total → with_front (front ++ piece) (many step wanted (count - (i + 1)) after) ≡ total
 unfolding many

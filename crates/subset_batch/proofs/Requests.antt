@@ -62,7 +62,7 @@ array_back (t ∷ ts) rest h =
     let bytes = strings [] (t ∷ ts) ++ 93 ∷ rest in
     items_back ts t (length bytes) rest (omega (arith, enough_items (t ∷ ts) [] rest)) p.0 p.1
 
--- ---- values, in front of a comma or a brace
+-- ---- values, before a comma or a brace
 
 abbrev Ends : ℕ → Type 0
 Ends d = (d ≡ 44) ⊎ (d ≡ 125)
@@ -97,7 +97,7 @@ value_back present d rest e h = present_back d rest e
 value_back (text t) d rest e h = text_back t (d ∷ rest) h
 value_back (texts ts) d rest e h = texts_back ts (d ∷ rest) h
 
--- no white space is in front of a value
+-- no white space is before a value
 skip_value : (v : Value) (rest : List ℕ) → skip_ws (written_value v ++ rest) ≡ written_value v ++ rest
 skip_value absent rest = refl
 skip_value present rest = refl
@@ -116,7 +116,7 @@ fitting_back : (m : Member) (d : ℕ) (rest : List ℕ) → Ends d → (w : IsWr
 unfolding fitting_at
 fitting_back m d rest e w = rw (value_back m.value d rest e w.value_in_utf8, w.fitting) refl
 
--- a member, and what is behind it
+-- a member, and what is after it
 abbrev member_bytes : Member → List ℕ → List ℕ
 member_bytes m rest = quoted m.name ++ (58 ∷ (written_value m.value ++ rest))
 
@@ -132,7 +132,7 @@ more_members : (m : Member) (bytes : List ℕ) (n : ℕ) → IsWritable m → sk
 unfolding many member_step
 more_members m bytes n w no_ws = rw (member_back m 44 bytes (inl refl) w, no_ws) refl
 
--- members, and what is behind them
+-- members, and what is after them
 first_member : (m : Member) (ms : List Member) (before rest : List ℕ) → written_members before (m ∷ ms) ++ rest ≡ before ++ member_bytes m (written_members (codes ",") ms ++ rest)
 first_member m ms before rest =
     let others = written_members (codes ",") ms in

@@ -3,7 +3,7 @@ use Rattle.std.specs.Prelude.{ℕ, ◌+◌, ◌-◌, ◌*◌, ◌==◌, ◌&&◌
 use Rattle.std.specs.List.{before_first, position_or_len}
 use Rattle.subset_args.specs.Listing.Lists.{is_blank}
 
--- the bytes behind the white space at the front: ws (section 2) is space, horizontal tab, line feed and carriage return
+-- the bytes after the white space at the front: ws (section 2) is space, horizontal tab, line feed and carriage return
 abbrev pub skip_ws : List ℕ → List ℕ
 skip_ws [] = []
 skip_ws (b ∷ bytes) = if is_blank b then skip_ws bytes else b ∷ bytes
@@ -16,21 +16,21 @@ is_structural b = (b == 91 || (b == 123 || b == 93)) || (b == 125 || (b == 58 ||
 abbrev pub ends_word : ℕ → Bool
 ends_word b = is_blank b || (is_structural b || b == 34)
 
--- the word at the front, and the bytes behind it
+-- the word at the front, and the bytes after it
 abbrev pub word : List ℕ → List ℕ
 word bytes = before_first ends_word bytes
 
-abbrev pub behind_word : List ℕ → List ℕ
-behind_word bytes = drop (position_or_len ends_word bytes) bytes
+abbrev pub past_word : List ℕ → List ℕ
+past_word bytes = drop (position_or_len ends_word bytes) bytes
 
--- the bytes behind this one, if it is first
-abbrev pub behind : ℕ → List ℕ → Option (List ℕ)
-behind b [] = None
-behind b (x ∷ bytes) = if x == b then Some bytes else None
+-- the bytes after this one, if it is first
+abbrev pub following : ℕ → List ℕ → Option (List ℕ)
+following b [] = None
+following b (x ∷ bytes) = if x == b then Some bytes else None
 
 -- ---- escapes (section 7)
 
--- what a letter behind a backslash stands for: \" \\ \/ \b \f \n \r \t
+-- what a letter after a backslash stands for: \" \\ \/ \b \f \n \r \t
 unfoldable pub escaped : ℕ → Option ℕ
 escaped e =
     if e == 34 then Some 34

@@ -18,7 +18,7 @@ line_if number bytes = if is_blank_line bytes then [] else (number, bytes) ∷ [
 -- the last ones of so many lines, with their numbers from 1, but for blank ones
 abbrev pub numbered : ℕ → List (List ℕ) → List (ℕ × List ℕ)
 numbered count [] = []
-numbered count (bytes ∷ behind) = line_if (count - length behind) bytes ++ numbered count behind
+numbered count (bytes ∷ following) = line_if (count - length following) bytes ++ numbered count following
 
 -- the lines of a file, each ended by a line feed (10), that aren't blank
 abbrev pub parts_of : List ℕ → List (List ℕ)

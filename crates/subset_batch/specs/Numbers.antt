@@ -20,7 +20,7 @@ is_int text = is_digits text && (length text == 1 || not (slice_index text 0 == 
 unfoldable pub is_decimal : List ℕ → Bool
 is_decimal text = if has_byte (is_byte 46) text then is_int (before_first (is_byte 46) text) && is_digits (after_first (is_byte 46) text) else is_int text
 
--- behind the e of exp = e [ minus / plus ] 1*DIGIT
+-- after the e of exp = e [ minus / plus ] 1*DIGIT
 abbrev pub is_sign : ℕ → Bool
 is_sign b = b == 45 || b == 43
 

@@ -6,7 +6,7 @@ use Rattle.std.specs.Str.{bytes_eq, is_utf8}
 use Rattle.subset_batch.specs.declared.fault.Wanted.{Wanted}
 use Rattle.subset_batch.specs.declared.fault.Wanted.TheVariants as needs
 use Rattle.subset_batch.specs.declared.kinds.Kind.{Kind}
-use Rattle.subset_batch.specs.Bytes.{skip_ws, word, behind_word, behind, escaped, hex_digit, is_high, is_low, paired}
+use Rattle.subset_batch.specs.Bytes.{skip_ws, word, past_word, following, escaped, hex_digit, is_high, is_low, paired}
 use Rattle.subset_batch.specs.Numbers.{is_number}
 use Rattle.subset_batch.specs.Words.{request_words}
 use Rattle.subset_batch.specs.Members.{Value, absent, present, text, texts, Member, kind_of, fits, repeated}
@@ -31,26 +31,26 @@ abbrev pub ◌>>=◌ : {A B : Type 0} → Result A Fault → (A → Result B Fau
 abbrev pub missing : {A : Type 0} → Wanted → List ℕ → Result A Fault
 missing wanted bytes = Err (expected wanted (length bytes))
 
--- a value that is there, or what is expected in front of these bytes
+-- a value that is there, or what is expected before these bytes
 abbrev pub or_missing : {A : Type 0} → Wanted → List ℕ → Option A → Result A Fault
 or_missing wanted bytes None = missing wanted bytes
 or_missing wanted bytes (Some x) = Ok x
 
 abbrev pub byte_at : ℕ → Wanted → List ℕ → Result (List ℕ) Fault
-byte_at b wanted bytes = or_missing wanted bytes (behind b bytes)
+byte_at b wanted bytes = or_missing wanted bytes (following b bytes)
 
 -- ---- members one after another
 
--- what is read before, and what is read behind it
+-- what is read before, and what is read after it
 abbrev pub with_front : {A : Type 0} → List A → Result (List A × List ℕ) Fault → Result (List A × List ℕ) Fault
 with_front front read = read >>= λ more. Ok (front ++ more.0, more.1)
 
--- what a step reads again and again, at most n times, until it says that no more follows; a step gives what it read, whether more follows, and the bytes behind
+-- what a step reads again and again, at most n times, until it says that no more follows; a step gives what it read, whether more follows, and the bytes after
 unfoldable pub many : {A : Type 0} → (List ℕ → Result (List A × Bool × List ℕ) Fault) → Wanted → ℕ → List ℕ → Result (List A × List ℕ) Fault
 many step wanted zero bytes = missing wanted bytes
 many step wanted (suc n) bytes = step bytes >>= λ x. if x.1 then with_front x.0 (many step wanted n x.2) else Ok (x.0, x.2)
 
--- value-separator or what closes an array or an object (sections 2, 4 and 5), with white space in front of it: whether a member follows, and the bytes behind
+-- value-separator or what closes an array or an object (sections 2, 4 and 5), with white space before it: whether a member follows, and the bytes after
 abbrev pub separator_in : ℕ → Wanted → List ℕ → Result (Bool × List ℕ) Fault
 separator_in close wanted [] = missing wanted []
 separator_in close wanted (b ∷ bytes) = if b == 44 then Ok (true, skip_ws bytes) else (if b == close then Ok (false, bytes) else missing wanted (b ∷ bytes))
@@ -82,17 +82,17 @@ low_at bytes = do
   low ← unit_at digits
   if is_low low.0 then Ok low else missing needs.LowSurrogate bytes
 
--- a character in UTF-8, behind which these bytes are
+-- a character in UTF-8, after which these bytes are
 abbrev pub coded : ℕ → List ℕ → List ℕ → Result (List ℕ × List ℕ) Fault
 coded code rest bytes = if scalar code then Ok (encode_utf8 code, rest) else missing needs.Scalar bytes
 
--- behind \u: a character, or the surrogate pair of one
+-- after \u: a character, or the surrogate pair of one
 unfoldable pub unicode_at : List ℕ → Result (List ℕ × List ℕ) Fault
 unicode_at bytes = do
   unit ← unit_at bytes
   if is_high unit.0 then (low_at unit.1 >>= λ low. coded (paired unit.0 low.0) low.1 bytes) else coded unit.0 unit.1 bytes
 
--- behind a backslash
+-- after a backslash
 abbrev pub escape_at : List ℕ → Result (List ℕ × List ℕ) Fault
 escape_at [] = missing needs.Escape []
 escape_at (e ∷ bytes) = if e == 117 then unicode_at bytes else (or_missing needs.Escape (e ∷ bytes) (escaped e) >>= λ b. Ok (b ∷ [], bytes))
@@ -102,18 +102,18 @@ abbrev pub char_at : List ℕ → Result (List ℕ × List ℕ) Fault
 char_at [] = missing needs.Quote []
 char_at (b ∷ bytes) = if b == 92 then escape_at bytes else (if nat_lt b 32 then missing needs.Character (b ∷ bytes) else Ok (b ∷ [], bytes))
 
--- whether a string goes on, and the bytes behind its quotation mark if it doesn't
+-- whether a string goes on, and the bytes after its quotation mark if it doesn't
 abbrev pub goes_on : List ℕ → Bool × List ℕ
-goes_on bytes = elim (behind 34 bytes) [ Some rest ↦ (false, rest) | None ↦ (true, bytes) ]
+goes_on bytes = elim (following 34 bytes) [ Some rest ↦ (false, rest) | None ↦ (true, bytes) ]
 
 unfoldable pub char_step : List ℕ → Result (List ℕ × Bool × List ℕ) Fault
 char_step bytes = do
   char ← char_at bytes
   Ok (char.0, (goes_on char.1).0, (goes_on char.1).1)
 
--- the characters behind the first quotation mark
+-- the characters after the first quotation mark
 abbrev pub chars_at : List ℕ → Result (List ℕ × List ℕ) Fault
-chars_at bytes = elim (behind 34 bytes) [ Some rest ↦ Ok ([], rest) | None ↦ many char_step needs.Quote (length bytes) bytes ]
+chars_at bytes = elim (following 34 bytes) [ Some rest ↦ Ok ([], rest) | None ↦ many char_step needs.Quote (length bytes) bytes ]
 
 -- a text in UTF-8 (section 8.1)
 abbrev pub in_utf8 : List ℕ → List ℕ × List ℕ → Result (List ℕ × List ℕ) Fault
@@ -126,10 +126,10 @@ string_at bytes = chars_at bytes >>= in_utf8 bytes
 
 -- a string or a number
 abbrev pub number_at : Wanted → List ℕ → Result (List ℕ × List ℕ) Fault
-number_at wanted bytes = if is_number (word bytes) && is_utf8 (word bytes) then Ok (word bytes, behind_word bytes) else missing wanted bytes
+number_at wanted bytes = if is_number (word bytes) && is_utf8 (word bytes) then Ok (word bytes, past_word bytes) else missing wanted bytes
 
 abbrev pub item_at : Wanted → List ℕ → Result (List ℕ × List ℕ) Fault
-item_at wanted bytes = elim (behind 34 bytes) [ Some rest ↦ string_at rest | None ↦ number_at wanted bytes ]
+item_at wanted bytes = elim (following 34 bytes) [ Some rest ↦ string_at rest | None ↦ number_at wanted bytes ]
 
 unfoldable pub item_step : List ℕ → Result (List (List ℕ) × Bool × List ℕ) Fault
 item_step bytes = do
@@ -137,9 +137,9 @@ item_step bytes = do
   after ← separator_at 93 needs.CommaOrBracket item.1
   Ok (item.0 ∷ [], after.0, after.1)
 
--- the members of an array (section 5), behind its bracket
+-- the members of an array (section 5), after its bracket
 abbrev pub items_in : List ℕ → Result (List (List ℕ) × List ℕ) Fault
-items_in bytes = elim (behind 93 bytes) [ Some rest ↦ Ok ([], rest) | None ↦ many item_step needs.CommaOrBracket (length bytes) bytes ]
+items_in bytes = elim (following 93 bytes) [ Some rest ↦ Ok ([], rest) | None ↦ many item_step needs.CommaOrBracket (length bytes) bytes ]
 
 -- the literal names
 unfoldable pub literal : List ℕ → Option Value
@@ -151,12 +151,12 @@ literal name =
 
 abbrev pub plain_at : List ℕ → Result (Value × List ℕ) Fault
 plain_at bytes = elim (literal (word bytes)) [
-  | Some value ↦ Ok (value, behind_word bytes)
+  | Some value ↦ Ok (value, past_word bytes)
   | None ↦ item_at needs.Value bytes >>= λ item. Ok (text item.0, item.1)
 ]
 
 unfoldable pub value_at : List ℕ → Result (Value × List ℕ) Fault
-value_at bytes = elim (behind 91 bytes) [
+value_at bytes = elim (following 91 bytes) [
   | Some rest ↦ items_in (skip_ws rest) >>= λ items. Ok (texts items.0, items.1)
   | None ↦ plain_at bytes
 ]
@@ -190,15 +190,15 @@ member_step bytes = do
   after ← separator_at 125 needs.CommaOrBrace member.1
   Ok (member.0 ∷ [], after.0, after.1)
 
--- the members behind the brace
+-- the members after the brace
 abbrev pub members_in : List ℕ → Result (List Member × List ℕ) Fault
-members_in bytes = elim (behind 125 bytes) [ Some rest ↦ Ok ([], rest) | None ↦ many member_step needs.CommaOrBrace (length bytes) bytes ]
+members_in bytes = elim (following 125 bytes) [ Some rest ↦ Ok ([], rest) | None ↦ many member_step needs.CommaOrBrace (length bytes) bytes ]
 
 -- members with names of their own
 abbrev pub distinct : List Member → Result (List Member) Fault
 distinct members = elim (repeated members) [ Some name ↦ Err (twice name) | None ↦ Ok members ]
 
--- members, behind which nothing is
+-- members, after which nothing is
 abbrev pub at_end : List Member → List ℕ → Result (List Member) Fault
 at_end members [] = distinct members
 at_end members (b ∷ bytes) = missing needs.End (b ∷ bytes)

@@ -1,4 +1,4 @@
--- What members request, as the words of a command line: options with their values, and IN behind `--`, which is no option whatever it looks like.
+-- What members request, as the words of a command line: options with their values, and IN after `--`, which is no option whatever it looks like.
 use Rattle.std.specs.Prelude.{ℕ, Bool, if◌then◌else◌, List, [], ◌∷◌, ◌++◌, codes}
 use Rattle.std.specs.Str.{bytes_eq}
 use Rattle.subset_batch.specs.Members.{Value, absent, present, text, texts, Member}
@@ -13,7 +13,7 @@ option_of name =
     else if bytes_eq name (codes "index") then codes "--face-index"
     else codes "--" ++ name
 
--- texts with a comma between each two, and this in front of the first
+-- texts with a comma between each two, and this before the first
 abbrev pub joined : List ℕ → List (List ℕ) → List ℕ
 joined before [] = []
 joined before (t ∷ ts) = (before ++ t) ++ joined (codes ",") ts

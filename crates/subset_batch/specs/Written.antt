@@ -22,7 +22,7 @@ escaped_text (b ∷ bytes) = escaped_byte b ++ escaped_text bytes
 abbrev pub quoted : List ℕ → List ℕ
 quoted t = codes "\"" ++ escaped_text t ++ codes "\""
 
--- strings with a comma between each two, and this in front of the first
+-- strings with a comma between each two, and this before the first
 abbrev pub strings : List ℕ → List (List ℕ) → List ℕ
 strings before [] = []
 strings before (t ∷ ts) = before ++ quoted t ++ strings (codes ",") ts

@@ -53,7 +53,7 @@ fn write_front<W: Write>(line: usize, status: u8, out: &mut W) -> Result<(), Unw
     Ok(())
 }
 
-/// Writes the members of an object that is a line behind others, and what closes it.
+/// Writes the members of an object that is a line after others, and what closes it.
 #[tactic(auto, using(subset_lines::proofs::Written::both))]
 fn write_further<W: Write>(object: &[u8], out: &mut W) -> Result<(), Unwritten>
     ensures { OnOk result (Appends (W.contents out.old) (W.contents out.new) (further object.now)) }
@@ -68,7 +68,7 @@ fn write_further<W: Write>(object: &[u8], out: &mut W) -> Result<(), Unwritten>
 }
 
 /// Writes the answer to the request of a line, counted from 1, that was done: `{"line":3,"status":0}` and a line end, with
-/// the members of an object behind the status, if there is one: `{"notes":[]}` and a line end.
+/// the members of an object after the status, if there is one: `{"notes":[]}` and a line end.
 #[tactic(auto, using(subset_lines::proofs::Written::both))]
 pub fn write_done<W: Write>(line: usize, object: &[u8], out: &mut W) -> Result<(), Unwritten>
     ensures { OnOk result (Appends (W.contents out.old) (W.contents out.new) (done_line line object.now)) }

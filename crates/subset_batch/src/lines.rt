@@ -53,9 +53,13 @@ fn numbered<'a>(alloc: Global, parts: &[&'a [u8]]) -> Result<Vec<Line<'a>>, Allo
 {
     let mut lines = Vec::new(alloc);
     let mut rest = parts;
-    while let [part, behind @ ..] = rest {
-        push_line(&mut lines, parts.len().saturating_sub(behind.len()), part)?;
-        rest = behind;
+    while let [part, following @ ..] = rest {
+        push_line(
+            &mut lines,
+            parts.len().saturating_sub(following.len()),
+            part,
+        )?;
+        rest = following;
     }
     Ok(lines)
 }

@@ -8,7 +8,7 @@ ghost use Rattle.subset_batch.specs.declared.fault.Wanted.TheVariants.{CommaOrBr
 ghost use Rattle.subset_batch.specs.View.{Gives, value_view, member_view, members_view};
 
 use crate::fault::{Fault, Unread, Wanted, missing};
-use crate::json::blanks::{behind, byte_at, separator_at, skip_ws};
+use crate::json::blanks::{byte_at, following, separator_at, skip_ws};
 use crate::json::strings::string_at;
 use crate::kinds::{Kind, fits, kind_of};
 use crate::values::{Value, value_at};
@@ -75,21 +75,21 @@ fn many_members(alloc: Global, count: usize, bytes: &[u8]) -> Result<(Vec<Member
     let mut members = Vec::new(alloc);
     let mut rest = bytes;
     for _ in 0..count {
-        let (member, more, behind) = member_step(alloc, rest)?;
+        let (member, more, following) = member_step(alloc, rest)?;
         members.push(member)?;
         if !more {
-            return Ok((members, behind));
+            return Ok((members, following));
         }
-        rest = behind;
+        rest = following;
     }
     Err(missing(Wanted::CommaOrBrace, rest))
 }
 
-/// The members behind the brace.
+/// The members after the brace.
 pub fn members_in(alloc: Global, bytes: &[u8]) -> Result<(Vec<Member>, &[u8]), Unread>
     ensures { Gives (λ x. (members_view x.0.items, x.1.now)) result (members_in bytes.now) }
 {
-    match behind(b'}', bytes) {
+    match following(b'}', bytes) {
         Some(rest) => Ok((Vec::new(alloc), rest)),
         None => many_members(alloc, bytes.len(), bytes),
     }
@@ -100,11 +100,11 @@ fn has_name(name: &str, members: &[Member]) -> bool
     ensures { result ≡ has_name name.now (members_view members.now) }
 {
     let mut rest = members;
-    while let [member, behind @ ..] = rest {
+    while let [member, following @ ..] = rest {
         if member.name.as_str() == name {
             return true;
         }
-        rest = behind;
+        rest = following;
     }
     false
 }
@@ -114,11 +114,11 @@ pub fn repeated(members: &[Member]) -> Option<&str>
     ensures { option_map (λ name. name.now) result ≡ repeated (members_view members.now) }
 {
     let mut rest = members;
-    while let [member, behind @ ..] = rest {
-        if has_name(member.name.as_str(), behind) {
+    while let [member, following @ ..] = rest {
+        if has_name(member.name.as_str(), following) {
             return Some(member.name.as_str());
         }
-        rest = behind;
+        rest = following;
     }
     None
 }

@@ -19,7 +19,7 @@ fn distinct(alloc: Global, members: Vec<Member>) -> Result<Vec<Member>, Unread>
     Ok(members)
 }
 
-/// Members, behind which nothing is.
+/// Members, after which nothing is.
 fn at_end(alloc: Global, members: Vec<Member>, rest: &[u8]) -> Result<Vec<Member>, Unread>
     ensures { Gives (λ v. members_view v.items) result (at_end (members_view members.items) rest.now) }
 {

@@ -39,15 +39,15 @@ fn push_both(text: &mut String, first: &str, second: &str) -> Result<(), AllocEr
     Ok(())
 }
 
-/// Adds texts, each behind a comma.
+/// Adds texts, each after a comma.
 #[tactic(auto, using(crate::proofs::Appends::at_first, crate::proofs::Appends::after_part, crate::proofs::Appends::at_last))]
-fn push_behind(text: &mut String, texts: &[String]) -> Result<(), AllocError>
+fn push_after(text: &mut String, texts: &[String]) -> Result<(), AllocError>
     ensures { OnOk result (string_bytes text.new ≡ string_bytes text.old ++ joined (codes ",") (words_view texts.now)) }
 {
     let mut rest = texts;
-    while let [t, behind @ ..] = rest {
+    while let [t, following @ ..] = rest {
         push_both(text, ",", t.as_str())?;
-        rest = behind;
+        rest = following;
     }
     Ok(())
 }
@@ -58,9 +58,9 @@ fn joined(alloc: Global, texts: &[String]) -> Result<String, AllocError>
 {
     match texts {
         [] => Ok(String::new(alloc)),
-        [first, behind @ ..] => {
+        [first, following @ ..] => {
             let mut text = String::from_str(alloc, first.as_str())?;
-            push_behind(&mut text, behind)?;
+            push_after(&mut text, following)?;
             Ok(text)
         }
     }
@@ -99,7 +99,7 @@ fn push_value(
     Ok(())
 }
 
-/// Adds IN behind `--`.
+/// Adds IN after `--`.
 #[tactic(auto, using(crate::proofs::Appends::two_words))]
 fn push_input(alloc: Global, words: &mut Vec<String>, value: &Value) -> Result<(), AllocError>
     ensures { OnOk result (words_view words.new.items ≡ words_view words.old.items ++ input_words (value_view value.now)) }
@@ -142,9 +142,9 @@ fn push_options(
     ensures { OnOk result (words_view words.new.items ≡ words_view words.old.items ++ option_words (members_view members.now)) }
 {
     let mut rest = members;
-    while let [member, behind @ ..] = rest {
+    while let [member, following @ ..] = rest {
         push_words(alloc, words, member)?;
-        rest = behind;
+        rest = following;
     }
     Ok(())
 }
@@ -155,9 +155,9 @@ fn push_inputs(alloc: Global, words: &mut Vec<String>, members: &[Member]) -> Re
     ensures { OnOk result (words_view words.new.items ≡ words_view words.old.items ++ last_words (members_view members.now)) }
 {
     let mut rest = members;
-    while let [member, behind @ ..] = rest {
+    while let [member, following @ ..] = rest {
         push_last(alloc, words, member)?;
-        rest = behind;
+        rest = following;
     }
     Ok(())
 }
@@ -181,14 +181,14 @@ fn request_in(alloc: Global, line: &[u8]) -> Result<Vec<String>, Unread>
     Ok(words_of(alloc, &members)?)
 }
 
-/// What a line requests, as the words of a command line: options with their values, and behind `--` IN.
+/// What a line requests, as the words of a command line: options with their values, and after `--` IN.
 ///
 /// A line is one object in JSON (RFC 8259), with white space around it. Its members have the names `in`, `out`, `index` and
 /// those of the program's long options, each once. A value is a string, a number, which stands for its text, or `true` for an
 /// option without a value; `false` and `null` are as if the member weren't there. `gids`, `unicodes`, `at` and `limits` may
 /// have an array of strings and numbers, which commas join.
 ///
-/// `Unread::Fault` has what is wrong first, with the number of bytes in front of it.
+/// `Unread::Fault` has what is wrong first, with the number of bytes before it.
 pub fn read_request(alloc: Global, line: &[u8]) -> Result<Vec<String>, Unread>
     ensures { Gives (λ v. words_view v.items) result (request_of line.now) }
 {

@@ -2,13 +2,13 @@
 
 ghost use Rattle.std.specs.Prelude.{◌≡◌, ◌∷◌, [], length, map, string_bytes, Some, None, IfOk};
 ghost use Rattle.std.specs.Option.{option_map};
-ghost use Rattle.subset_batch.specs.Bytes.{word, behind_word};
+ghost use Rattle.subset_batch.specs.Bytes.{word, past_word};
 ghost use Rattle.subset_batch.specs.Reading.{many, number_at, item_at, item_step, items_in, literal, plain_at, value_at};
 ghost use Rattle.subset_batch.specs.declared.fault.Wanted.TheVariants.{CommaOrBracket};
 ghost use Rattle.subset_batch.specs.View.{Gives, value_view};
 
 use crate::fault::{Unread, Wanted, missing};
-use crate::json::blanks::{behind, separator_at, skip_ws, split_word};
+use crate::json::blanks::{following, separator_at, skip_ws, split_word};
 use crate::json::numbers::is_number;
 use crate::json::strings::{string_at, text_of};
 use std::alloc::Global;
@@ -44,7 +44,7 @@ fn number_at(alloc: Global, wanted: Wanted, bytes: &[u8]) -> Result<(String, &[u
 fn item_at(alloc: Global, wanted: Wanted, bytes: &[u8]) -> Result<(String, &[u8]), Unread>
     ensures { Gives (λ x. (string_bytes x.0, x.1.now)) result (item_at wanted bytes.now) }
 {
-    match behind(b'"', bytes) {
+    match following(b'"', bytes) {
         Some(rest) => string_at(alloc, rest),
         None => number_at(alloc, wanted, bytes),
     }
@@ -68,21 +68,21 @@ fn many_items(alloc: Global, count: usize, bytes: &[u8]) -> Result<(Vec<String>,
     let mut items = Vec::new(alloc);
     let mut rest = bytes;
     for _ in 0..count {
-        let (item, more, behind) = item_step(alloc, rest)?;
+        let (item, more, following) = item_step(alloc, rest)?;
         items.push(item)?;
         if !more {
-            return Ok((items, behind));
+            return Ok((items, following));
         }
-        rest = behind;
+        rest = following;
     }
     Err(missing(Wanted::CommaOrBracket, rest))
 }
 
-/// The members of an array, behind its bracket.
+/// The members of an array, after its bracket.
 fn items_in(alloc: Global, bytes: &[u8]) -> Result<(Vec<String>, &[u8]), Unread>
     ensures { Gives (λ x. (map (λ t. string_bytes t) x.0.items, x.1.now)) result (items_in bytes.now) }
 {
-    match behind(b']', bytes) {
+    match following(b']', bytes) {
         Some(rest) => Ok((Vec::new(alloc), rest)),
         None => many_items(alloc, bytes.len(), bytes),
     }
@@ -122,7 +122,7 @@ fn plain_at(alloc: Global, bytes: &[u8]) -> Result<(Value, &[u8]), Unread>
 pub fn value_at(alloc: Global, bytes: &[u8]) -> Result<(Value, &[u8]), Unread>
     ensures { Gives (λ x. (value_view x.0, x.1.now)) result (value_at bytes.now) }
 {
-    match behind(b'[', bytes) {
+    match following(b'[', bytes) {
         Some(rest) => {
             let (items, rest) = items_in(alloc, skip_ws(rest))?;
             Ok((Value::Texts(items), rest))

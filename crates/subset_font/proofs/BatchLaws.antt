@@ -52,7 +52,7 @@ why_made plan bytes (Ok object) h = tt
 why_made plan bytes (Err e) (inl memory) = inl (no_memory plan bytes e memory)
 why_made plan bytes (Err e) (inr unwritten) = inr unwritten
 
--- a writer that failed did so behind all that is made
+-- a writer that failed did so after all that is made
 pub late : (failure : Failure) → (failure ≡ WritePdf) ⊎ (failure ≡ Write) → IsBeforeWriting failure → ⊥
 late failure (inl e) before = subst IsBeforeWriting e before
 late failure (inr e) before = subst IsBeforeWriting e before

@@ -46,19 +46,19 @@ whole_record bytes twelve =
 one_more : (n i : ℕ) → i < n → n - i ≡ suc (n - (i + 1))
 one_more n i less = omega arith
 
--- a record comes behind those before it
-behind : (is : Bool) (before : Option NameRecord) (bytes : List ℕ) (rest : Option (List ℕ)) → option_or (option_or before (if is then Some (name_record_of bytes) else None)) (option_map name_record_of rest) ≡ option_or before (option_map name_record_of (if is then Some bytes else rest))
-behind true None bytes rest = refl
-behind true (Some r) bytes rest = refl
-behind false None bytes rest = refl
-behind false (Some r) bytes rest = refl
+-- a record comes after those before it
+following : (is : Bool) (before : Option NameRecord) (bytes : List ℕ) (rest : Option (List ℕ)) → option_or (option_or before (if is then Some (name_record_of bytes) else None)) (option_map name_record_of rest) ≡ option_or before (option_map name_record_of (if is then Some bytes else rest))
+following true None bytes rest = refl
+following true (Some r) bytes rest = refl
+following false None bytes rest = refl
+following false (Some r) bytes rest = refl
 
 pub record_later : (kind : Kind) (n i : ℕ) (table : List ℕ) (at : ℕ) (bytes : List ℕ) (old new total : ℕ → Option NameRecord) → i < n → range table at 12 ≡ Some bytes → ((id : ℕ) → new id ≡ option_or (old id) (record_if kind id bytes)) → ((id : ℕ) → option_or (old id) (option_map name_record_of (first_name kind id (n - i) table at)) ≡ total id) → (id : ℕ) → option_or (new id) (option_map name_record_of (first_name kind id (n - (i + 1)) table (at + 12))) ≡ total id
 record_later kind n i table at bytes old new total less h added before id =
     let rest = first_name kind id (n - (i + 1)) table (at + 12) in
     let here : first_name kind id (suc (n - (i + 1))) table at ≡ (if is_name kind id bytes then Some bytes else rest) = rw h refl in
     let now : first_name kind id (n - i) table at ≡ (if is_name kind id bytes then Some bytes else rest) = ap (λ (k : ℕ). first_name kind id k table at) (one_more n i less) ∙ here in
-    ap (λ (o : Option NameRecord). option_or o (option_map name_record_of rest)) (added id) ∙ (behind (is_name kind id bytes) (old id) bytes rest ∙ (ap (λ (f : Option (List ℕ)). option_or (old id) (option_map name_record_of f)) (sym now) ∙ before id))
+    ap (λ (o : Option NameRecord). option_or o (option_map name_record_of rest)) (added id) ∙ (following (is_name kind id bytes) (old id) bytes rest ∙ (ap (λ (f : Option (List ℕ)). option_or (old id) (option_map name_record_of f)) (sym now) ∙ before id))
 
 or_none : (o : Option NameRecord) → option_or o None ≡ o
 or_none None = refl

@@ -32,7 +32,7 @@ both (Some xs) None new first second a b = elim a [ ]
 both (Some xs) (Some ys) None first second a b = elim b [ ]
 both (Some xs) (Some ys) (Some zs) first second a b = b ∙ ap (λ l. l ++ second) a ∙ append_assoc xs first second
 
--- nothing was written behind a text
+-- nothing was written after a text
 pub flushed : (old now new : Option (List ℕ)) (text : List ℕ) → Appends old now text → Appends now new [] → Appends old new text
 flushed None now new text a b = tt
 flushed (Some xs) None new text a b = elim a [ ]
@@ -44,7 +44,7 @@ pub then : {E : Type 0} (r : Result (Unit {0}) E) (old now new : Option (List �
 then (Ok done) old now new first second a b = both old now new first second a b
 then (Err e) old now new first second a b = tt
 
--- where nothing is written behind, if no error comes
+-- where nothing is written after, if no error comes
 pub ended : {E : Type 0} (r : Result (Unit {0}) E) (old now new : Option (List ℕ)) (text : List ℕ) → Appends old now text → OnOk r (Appends now new []) → OnOk r (Appends old new text)
 ended (Ok done) old now new text a b = flushed old now new text a b
 ended (Err e) old now new text a b = tt

@@ -11,7 +11,7 @@ abbrev pub index_line : Option ℕ → List ℕ
 index_line None = []
 index_line (Some index) = index_text index ++ codes "\n"
 
--- as a JSON string behind a text
+-- as a JSON string after a text
 abbrev pub index_string : List ℕ → Option ℕ → List ℕ
 index_string before None = []
 index_string before (Some index) = before ++ quoted (index_text index)

@@ -3,12 +3,12 @@ use Rattle.std.specs.Prelude.{ℕ, List, [], ◌∷◌, ◌++◌, drop, Option, 
 use Rattle.subsetter_base.specs.Indexes.{index_of}
 use Rattle.subset_lines.specs.Text.{Numbers, first_character, four_digits}
 
--- a character as `U+` and its number, with a blank behind it
+-- a character as `U+` and its number, with a blank after it
 abbrev pub name_of : Option ℕ → List ℕ
 name_of None = []
 name_of (Some c) = codes "U+" ++ four_digits c ++ codes " "
 
--- the line `old -> new`, with the character in front of it; nothing for a glyph without a new number
+-- the line `old -> new`, with the character before it; nothing for a glyph without a new number
 abbrev pub line_of : Option ℕ → ℕ → Option ℕ → List ℕ
 line_of character old None = []
 line_of character old (Some new) = name_of character ++ decimal old ++ codes " -> " ++ decimal new ++ 10 ∷ []

@@ -7,7 +7,7 @@ use Rattle.subset_lines.specs.Text.{four_digits}
 abbrev pub character_text : ℕ → List ℕ
 character_text c = codes "U+" ++ four_digits c
 
--- with a text in front of the first, and a comma between each two
+-- with a text before the first, and a comma between each two
 abbrev pub names_text : List ℕ → List ℕ → List ℕ
 names_text before [] = []
 names_text before (c ∷ characters) = (before ++ character_text c) ++ names_text (codes ", ") characters
@@ -28,7 +28,7 @@ abbrev pub missing_line : List ℕ → List ℕ
 missing_line [] = []
 missing_line (c ∷ characters) = missing_text (c ∷ characters) ++ codes "\n"
 
--- as a JSON string behind a text
+-- as a JSON string after a text
 abbrev pub missing_string : List ℕ → List ℕ → List ℕ
 missing_string before [] = []
 missing_string before (c ∷ characters) = before ++ quoted (missing_text (c ∷ characters))

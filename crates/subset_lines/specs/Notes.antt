@@ -28,7 +28,7 @@ note_text (Clamped tag given taken) = clamped_text tag given taken
 abbrev pub range_text : Axis → List ℕ
 range_text a = map shown a.tag.0 ++ (codes " " ++ fixed_text a.minimum) ++ (codes " to " ++ fixed_text a.maximum)
 
--- with a text in front of the first, and a comma between each two
+-- with a text before the first, and a comma between each two
 abbrev pub ranges_text : List ℕ → List Axis → List ℕ
 ranges_text before [] = []
 ranges_text before (a ∷ axes) = (before ++ range_text a) ++ ranges_text (codes ", ") axes
@@ -59,16 +59,16 @@ abbrev pub coordinate_strings : List Axis → List Note → List ℕ
 coordinate_strings axes [] = []
 coordinate_strings axes (note ∷ notes) = note_strings (note ∷ notes) ++ quoted (axes_note axes)
 
-abbrev pub comma_behind : List Note → List ℕ
-comma_behind [] = []
-comma_behind (note ∷ notes) = codes ","
+abbrev pub comma_after : List Note → List ℕ
+comma_after [] = []
+comma_after (note ∷ notes) = codes ","
 
-abbrev pub comma_behind_both : List Note → List ℕ → List ℕ
-comma_behind_both notes [] = comma_behind notes
-comma_behind_both notes (c ∷ characters) = codes ","
+abbrev pub comma_after_both : List Note → List ℕ → List ℕ
+comma_after_both notes [] = comma_after notes
+comma_after_both notes (c ∷ characters) = codes ","
 
 unfoldable pub all_strings : List Axis → List Note → List ℕ → Option ℕ → List ℕ
-all_strings axes notes characters index = coordinate_strings axes notes ++ missing_string (comma_behind notes) characters ++ index_string (comma_behind_both notes characters) index
+all_strings axes notes characters index = coordinate_strings axes notes ++ missing_string (comma_after notes) characters ++ index_string (comma_after_both notes characters) index
 
 abbrev pub notes_array : List Axis → List Note → List ℕ → Option ℕ → List ℕ
 notes_array axes notes characters index = codes "[" ++ all_strings axes notes characters index ++ codes "]"

@@ -20,7 +20,7 @@ fn is_separator(code: u32) -> bool
     code == 0x2028 || code == 0x2029
 }
 
-/// Whether a number is that of a character that sets the direction of those behind it.
+/// Whether a number is that of a character that sets the direction of those after it.
 fn is_direction(code: u32) -> bool
     ensures { result ≡ is_direction code }
 {

@@ -66,7 +66,7 @@ pub fn write_fixed<W: Write>(value: i32, out: &mut W) -> Result<(), Unwritten>
     write_size(value.unsigned_abs(), out)
 }
 
-/// Writes a coordinate behind a text.
+/// Writes a coordinate after a text.
 #[tactic(auto, using(crate::proofs::Written::both))]
 pub fn write_labelled<W: Write>(label: &[u8], value: i32, out: &mut W) -> Result<(), Unwritten>
     ensures { OnOk result (Appends (W.contents out.old) (W.contents out.new) (label.now ++ fixed_text value)) }

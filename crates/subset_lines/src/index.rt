@@ -48,7 +48,7 @@ fn index_bytes(alloc: Global, index: u32) -> Result<Vec<u8>, Unwritten>
     Ok(text)
 }
 
-/// Writes the note as a JSON string behind a text, if there is one.
+/// Writes the note as a JSON string after a text, if there is one.
 #[tactic(auto, using(crate::proofs::Written::both))]
 pub fn write_index_string<W: Write>(
     alloc: Global,

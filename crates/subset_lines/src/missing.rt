@@ -11,7 +11,7 @@ use crate::text::write_text;
 use std::alloc::Global;
 use std::io::Write;
 
-/// Writes a character as `U+` and its number, behind a text.
+/// Writes a character as `U+` and its number, after a text.
 #[tactic(auto, using(crate::proofs::Written::both))]
 fn write_character<W: Write>(before: &[u8], character: char, out: &mut W) -> Result<(), Unwritten>
     ensures { OnOk result (Appends (W.contents out.old) (W.contents out.new) (before.now ++ character_text character)) }
@@ -98,7 +98,7 @@ fn missing_bytes(alloc: Global, characters: &[char]) -> Result<Vec<u8>, Unwritte
     Ok(text)
 }
 
-/// Writes the note as a JSON string behind a text.
+/// Writes the note as a JSON string after a text.
 #[tactic(auto, using(crate::proofs::Written::both))]
 fn write_string<W: Write>(
     alloc: Global,
@@ -113,7 +113,7 @@ fn write_string<W: Write>(
     write_quoted(&text, out)
 }
 
-/// Writes the note as a JSON string behind a text; nothing where there are no characters.
+/// Writes the note as a JSON string after a text; nothing where there are no characters.
 pub fn write_missing_string<W: Write>(
     alloc: Global,
     before: &[u8],

@@ -4,7 +4,7 @@ ghost use Rattle.std.specs.Prelude.{◌≡◌, ◌++◌, [], OnOk, IfOk, codes, 
 ghost use Rattle.std.specs.Io.KnownBytes.{Appends};
 ghost use Rattle.subset_lines.specs.Faces.Axes.{shown};
 ghost use Rattle.subset_lines.specs.Fixed.{fixed_text};
-ghost use Rattle.subset_lines.specs.Notes.{no_axis_text, setting_text, clamped_text, note_text, range_text, ranges_text, axes_note, note_lines, notes_text, all_text, note_strings, coordinate_strings, comma_behind, comma_behind_both, all_strings, notes_array};
+ghost use Rattle.subset_lines.specs.Notes.{no_axis_text, setting_text, clamped_text, note_text, range_text, ranges_text, axes_note, note_lines, notes_text, all_text, note_strings, coordinate_strings, comma_after, comma_after_both, all_strings, notes_array};
 ghost use Rattle.subset_lines.specs.Objects.Quoted.{quoted};
 
 use crate::entry::Unwritten;
@@ -76,7 +76,7 @@ fn write_range_text<W: Write>(axis: &Axis, out: &mut W) -> Result<(), Unwritten>
     write_labelled(b" to ", axis.maximum, out)
 }
 
-/// Writes the same behind a text.
+/// Writes the same after a text.
 #[tactic(auto, using(crate::proofs::Written::both))]
 fn write_range<W: Write>(before: &[u8], axis: &Axis, out: &mut W) -> Result<(), Unwritten>
     ensures { OnOk result (Appends (W.contents out.old) (W.contents out.new) (before.now ++ range_text axis.now)) }
@@ -161,7 +161,7 @@ fn write_all<W: Write>(
     write_index_line(index, out)
 }
 
-/// The lines of notes: one for each, and behind them one of the axes that the font has, as `axes: wght 100 to 900`; one of
+/// The lines of notes: one for each, and after them one of the axes that the font has, as `axes: wght 100 to 900`; one of
 /// the characters without a glyph, if there are any; and one of the index of a face that the file doesn't have, if it is given. It
 /// is empty where there is nothing to note.
 ///
@@ -198,7 +198,7 @@ fn axes_bytes(alloc: Global, axes: &[Axis]) -> Result<Vec<u8>, Unwritten>
     Ok(text)
 }
 
-/// Writes a note as a JSON string with a comma behind it.
+/// Writes a note as a JSON string with a comma after it.
 #[tactic(auto, using(crate::proofs::Written::both))]
 fn write_note_string<W: Write>(alloc: Global, note: Note, out: &mut W) -> Result<(), Unwritten>
     ensures { OnOk result (Appends (W.contents out.old) (W.contents out.new) (quoted (note_text note) ++ codes ",")) }
@@ -237,9 +237,9 @@ fn write_coordinate_strings<W: Write>(
     write_quoted(&text, out)
 }
 
-/// A comma, if there are notes in front of it.
-fn comma_behind(notes: &[Note]) -> &'static [u8]
-    ensures { result.now ≡ comma_behind notes.now }
+/// A comma, if there are notes before it.
+fn comma_after(notes: &[Note]) -> &'static [u8]
+    ensures { result.now ≡ comma_after notes.now }
 {
     match notes {
         [] => b"",
@@ -247,12 +247,12 @@ fn comma_behind(notes: &[Note]) -> &'static [u8]
     }
 }
 
-/// A comma, if there are notes or characters in front of it.
-fn comma_behind_both(notes: &[Note], characters: &[char]) -> &'static [u8]
-    ensures { result.now ≡ comma_behind_both notes.now characters.now }
+/// A comma, if there are notes or characters before it.
+fn comma_after_both(notes: &[Note], characters: &[char]) -> &'static [u8]
+    ensures { result.now ≡ comma_after_both notes.now characters.now }
 {
     match characters {
-        [] => comma_behind(notes),
+        [] => comma_after(notes),
         _ => b",",
     }
 }
@@ -270,8 +270,8 @@ fn write_all_strings<W: Write>(
     ensures { OnOk result (Appends (W.contents out.old) (W.contents out.new) (all_strings axes.now notes.now characters.now index)) }
 {
     write_coordinate_strings(alloc, axes, notes, out)?;
-    write_missing_string(alloc, comma_behind(notes), characters, out)?;
-    write_index_string(alloc, comma_behind_both(notes, characters), index, out)
+    write_missing_string(alloc, comma_after(notes), characters, out)?;
+    write_index_string(alloc, comma_after_both(notes, characters), index, out)
 }
 
 /// Writes the same notes as a JSON array of strings.

@@ -26,7 +26,7 @@ pub fn write_decimal<W: Write>(number: u64, out: &mut W) -> Result<(), Unwritten
     Ok(())
 }
 
-/// Writes a number behind a text.
+/// Writes a number after a text.
 #[tactic(auto, using(crate::proofs::Written::both))]
 pub fn write_count<W: Write>(label: &[u8], number: u64, out: &mut W) -> Result<(), Unwritten>
     ensures { OnOk result (Appends (W.contents out.old) (W.contents out.new) (label.now ++ decimal number)) }

@@ -19,7 +19,7 @@ use Rattle.subset_task.specs.Batch.Orders.{is_given_stream, order_by, order_of, 
 use Rattle.std.specs.HashMap.{HashMap, get_by_text}
 use Rattle.std.specs.Map.{update}
 use Rattle.std.specs.Str.{bytes_eq}
-use Rattle.subset_task.specs.Batch.Requests.{writes_if, is_written, is_named_before, numbers_by, numbers_if, numbers_in, left_behind, AreNames, IsFirst, IsBegun, AddsLine, AreBegun, none, one_more}
+use Rattle.subset_task.specs.Batch.Requests.{writes_if, is_written, is_named_before, numbers_by, numbers_if, numbers_in, left_after, AreNames, IsFirst, IsBegun, AddsLine, AreBegun, none, one_more}
 use Rattle.subset_task.specs.Files.{list_name}
 use Rattle.subset_task.specs.declared.batch.answers.Answer.{Answer}
 use Rattle.subset_task.specs.declared.batch.requests.Batch.{Batch}
@@ -79,30 +79,30 @@ one_more_name old new key name same sets q = ap is_some (sets q) ∙ (some_or (b
 pub named_last : {S : Type 0} (requests : List Request) (r : Request) (old new : HashMap (String Global) (Unit {0}) S) → AreNames requests old → ((name : List ℕ) → is_some (get_by_text new name) ≡ (writes_if r.job name || is_some (get_by_text old name))) → AreNames (requests ++ r ∷ []) new
 named_last requests r old new before added = λ (name : List ℕ). added name ∙ (ap (λ (b : Bool). writes_if r.job name || b) (before name) ∙ sym (written_last requests r name))
 
--- how many more numbers lists may have behind the last request
+-- how many more numbers lists may have after the last request
 numbers_last : (requests : List Request) (r : Request) → numbers_in (requests ++ r ∷ []) ≡ numbers_in requests + numbers_if r.job
 numbers_last [] r = omega arith
 numbers_last (first ∷ requests) r =
     let more = numbers_last requests r in
     omega (arith, more)
 
-pub left_last : (requests : List Request) (r : Request) (left after : ℕ) → left ≡ left_behind requests → after ≡ left - numbers_if r.job → after ≡ left_behind (requests ++ r ∷ [])
+pub left_last : (requests : List Request) (r : Request) (left after : ℕ) → left ≡ left_after requests → after ≡ left - numbers_if r.job → after ≡ left_after (requests ++ r ∷ [])
 left_last requests r left after before is =
     let all = numbers_last requests r in
     omega (arith, all, before, is)
 
--- a line behind others: nothing is requested, too many numbers, or few enough
+-- a line after others: nothing is requested, too many numbers, or few enough
 pub begun_by_nothing : (before : List Request) (line : List ℕ) (answer : Answer) → IsNoOrder (order_of line) answer → IsBegun before line None (Answered answer)
 begun_by_nothing before line answer h = inl h
 
-pub begun_too_long : (before : List Request) (line : List ℕ) (job : Job) (left numbers : ℕ) (answer : Answer) → order_of line ≡ Some (job_view job) → left ≡ left_behind before → numbers ≡ numbers_by job.glyphs.items → left < numbers → IsFailedBy 2 answer → IsBegun before line None (Answered answer)
+pub begun_too_long : (before : List Request) (line : List ℕ) (job : Job) (left numbers : ℕ) (answer : Answer) → order_of line ≡ Some (job_view job) → left ≡ left_after before → numbers ≡ numbers_by job.glyphs.items → left < numbers → IsFailedBy 2 answer → IsBegun before line None (Answered answer)
 begun_too_long before line job left numbers answer is l n more refused =
-    let long : left_behind before < numbers_by job.glyphs.items = subst (λ (k : ℕ). left_behind before < k) n (subst (λ (k : ℕ). k < numbers) l more) in
+    let long : left_after before < numbers_by job.glyphs.items = subst (λ (k : ℕ). left_after before < k) n (subst (λ (k : ℕ). k < numbers) l more) in
     inr (record { job = job; is_requested = is; is_too_long = long; is_refused = refused })
 
-pub begun_few : (before : List Request) (line : List ℕ) (job : Job) (left numbers : ℕ) (state : State) → order_of line ≡ Some (job_view job) → left ≡ left_behind before → numbers ≡ numbers_by job.glyphs.items → numbers ≤ left → IsFirst (is_named_before before job) state → IsBegun before line (Some job) state
+pub begun_few : (before : List Request) (line : List ℕ) (job : Job) (left numbers : ℕ) (state : State) → order_of line ≡ Some (job_view job) → left ≡ left_after before → numbers ≡ numbers_by job.glyphs.items → numbers ≤ left → IsFirst (is_named_before before job) state → IsBegun before line (Some job) state
 begun_few before line job left numbers state is l n few first =
-    (is, (subst (λ (k : ℕ). k ≤ left_behind before) n (subst (λ (k : ℕ). numbers ≤ k) l few), first))
+    (is, (subst (λ (k : ℕ). k ≤ left_after before) n (subst (λ (k : ℕ). numbers ≤ k) l few), first))
 
 pub adds_line : (line : ℕ × List ℕ) (old new : Batch) (job : Option Job) (state : State) → IsBegun old.requests.items line.1 job state → new.requests.items ≡ old.requests.items ++ (record { line = line.0; job = job }) ∷ [] → new.states.items ≡ old.states.items ++ state ∷ [] → AddsLine line old new
 adds_line line old new job state begun requests states = record { job = job; state = state; is_begun = begun; requests = requests; states = states }
@@ -125,7 +125,7 @@ so_far_next line left all old new h a =
       whole = append_assoc h.lines (line ∷ []) left ∙ h.whole;
     }
 
--- as a loop goes on behind the first of its lines
+-- as a loop goes on after the first of its lines
 pub so_far_step : (rest : List Line) (other : Line) (all : List (ℕ × List ℕ)) (old new : Batch) → 1 ≤ length rest → AreSoFar (lines_view rest) all old.requests.items old.states.items → AddsLine (line_view (get_or rest 0 other)) old new → AreSoFar (lines_view (take (length rest - 1) (drop 1 rest))) all new.requests.items new.states.items
 so_far_step [] other all old new some h a = absurd (omega arith)
 so_far_step (line ∷ rest) other all old new some h a = subst (λ (left : List Line). AreSoFar (lines_view left) all new.requests.items new.states.items) (sym (take_rest (line ∷ rest) 1)) (so_far_next (line_view line) (lines_view rest) all old new h a)

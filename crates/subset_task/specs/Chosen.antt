@@ -1,4 +1,4 @@
--- What the options in front of IN choose for a task.
+-- What the options before IN choose for a task.
 use Rattle.std.specs.Prelude.{◌≡◌, ◌⊎◌, ℕ, ℤ, List, [], ◌∷◌, map, not, false, if◌then◌else◌, IsSome, Option, Some, None, string_bytes}
 use Rattle.std.specs.Option.{option_copied, option_and_then, option_map}
 use Rattle.subsetter.specs.Limits.{token_limit, depth_limit}

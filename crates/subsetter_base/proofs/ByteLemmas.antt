@@ -6,7 +6,7 @@
 --   number_at                    a number between two other parts
 --   range-fits, range-take_drop  where there is a part, and what it is
 --   stays_inside                 a reading moves to no offset past the end
---   range-drop                   a part of what is left behind an offset
+--   range-drop                   a part of what is left after an offset
 --   range-short, number-fits, number-short
 --                                how many bytes there are where a part or a number is there, or isn't
 --   IsBytes-take, IsBytes-drop, IsBytes-range, number-small
@@ -107,7 +107,7 @@ flat_map-bytes (b ∷ bytes) = ap (λ l. b ∷ l) (flat_map-bytes bytes)
 
 -- ---- joined lists
 
--- a part that ends before the join, or begins behind it
+-- a part that ends before the join, or begins after it
 pub range-left : (a b part : List ℕ) (at size : ℕ) → range a at size ≡ Some part → range (a ++ b) at size ≡ Some part
 range-left a b p at size e =
     let fits = range-fits a p at size e in
@@ -140,7 +140,7 @@ be-fits (b ∷ bytes) all =
     let whole : (b + 1) * 256 ^ length bytes ≤ 256 * 256 ^ length bytes = mul-le-mul_right (256 ^ length bytes) (omega arith) in
     omega (arith, power, whole, rest, add-mul b 1 (256 ^ length bytes))
 
--- a part of what is left behind an offset
+-- a part of what is left after an offset
 pub range-drop : (bytes : List ℕ) (k at size : ℕ) → k ≤ length bytes → range (drop k bytes) at size ≡ range bytes (k + at) size
 range-drop bytes k at size h =
     let len : length (take k bytes) ≡ k = length-take-le k bytes h in

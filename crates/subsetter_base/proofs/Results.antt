@@ -1,9 +1,9 @@
 -- Steps that answer or refuse, one after another.
 --   done, failed                 an answer and a refusal, whose values are told apart by done_is and failed_is
 --   ok_not_err                   nothing is both
---   bind_ok, bind_err            the steps behind an answer, and the step that refused
+--   bind_ok, bind_err            the steps after an answer, and the step that refused
 --   named_ok, named_err          a part that was asked for under the name of an error
---   with_front                   members in front of a list that is answered
+--   with_front                   members before a list that is answered
 use Rattle.std.proofs.Common.{◌≡◌, List, ◌++◌, Option, Some, None, Result, Ok, Err, refl, sym, ◌∙◌, ◌⊎◌, inl, inr}
 use Rattle.std.specs.Option.{ok_or}
 use Rattle.subsetter_base.specs.Bytes.{◌>>=◌}

@@ -28,7 +28,7 @@ impl<'a, T> Model for LazyArray16<'a, T> {
 }
 
 impl<'a, T: Readable<'a>> LazyArray16<'a, T> {
-    /// The array that the bytes spell; bytes behind its last whole item are left out.
+    /// The array that the bytes spell; bytes after its last whole item are left out.
     pub fn new(data: &'a [u8]) -> Self
         requires size { 0 < T.SIZE }
         requires few { length «data».now / T.SIZE ≤ 65535 }

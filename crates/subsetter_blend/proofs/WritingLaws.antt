@@ -1,5 +1,5 @@
 -- The charstring that is written.
-pub mod Behind
+pub mod Following
 pub mod Fits
 pub mod FittingLaws
 pub mod Places

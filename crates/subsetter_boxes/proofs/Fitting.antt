@@ -11,7 +11,7 @@ use Rattle.subsetter_points.specs.declared.bounds.Bounds.{Bounds}
 use Rattle.subsetter_blend.specs.declared.writing.placing.Position.{Position}
 use Rattle.subsetter_blend.specs.Runs.Number.{is_within, whole}
 use Rattle.subsetter_blend.specs.Writing.Placed.{is_short}
-use Rattle.subsetter_boxes.specs.CharstringBox.{in_units, point_box, points, least, outline, outline_box, behind_width, before_endchar, charstring_box}
+use Rattle.subsetter_boxes.specs.CharstringBox.{in_units, point_box, points, least, outline, outline_box, after_width, before_endchar, charstring_box}
 use Rattle.subsetter_boxes.specs.Joined.{around, joined, least_box, font_box}
 
 -- a box whose edges have 16 bits
@@ -82,7 +82,7 @@ outline_fits charstring = found (outline charstring) _ (λ segments is. found (l
 
 pub charstring_fits : (charstring : List ℕ) → Fits (charstring_box charstring)
 unfolding charstring_box
-charstring_fits charstring = found (behind_width charstring) _ (λ behind is. found (before_endchar behind) outline_box (λ body h. outline_fits body))
+charstring_fits charstring = found (after_width charstring) _ (λ following is. found (before_endchar following) outline_box (λ body h. outline_fits body))
 
 -- ---- around all
 all_fit : (first : Option Bounds) (charstrings : List (List ℕ)) → Fits first → Fits (fold joined first (map charstring_box charstrings))

@@ -4,7 +4,7 @@ use Rattle.std.specs.Prelude.{option_map}
 use Rattle.std.specs.Option.{option_and_then}
 use Rattle.subsetter_blend.specs.declared.writing.placing.Position.{Position}
 use Rattle.subsetter_blend.specs.Drawing.{event_drawn, events_drawn}
-use Rattle.subsetter_blend.specs.Drawn.{Segment, Move, Line, Curve, point_behind}
+use Rattle.subsetter_blend.specs.Drawn.{Segment, Move, Line, Curve, point_after}
 use Rattle.subsetter_blend.specs.Writing.Placed.{origin}
 use Rattle.subsetter_blend.specs.Writing.Taking.{Event}
 use Rattle.subsetter_points.specs.declared.bounds.Bounds.{Bounds}
@@ -14,7 +14,7 @@ use Rattle.subsetter_boxes.specs.CharstringBox.{points, point_box, least}
 use Rattle.subsetter_boxes.specs.Traced.{visited, followed, event_traced, pen_start}
 use Rattle.subsetter_boxes.proofs.Around.{joined_assoc, joined_none}
 
--- the pen behind a point, and behind some with a box around them
+-- the pen after a point, and after some with a box around them
 abbrev pen_with : Position → Pen → Bounds → Pen
 pen_with to pen own = record { at = to; bounds = joined pen.bounds (Some own) }
 
@@ -45,7 +45,7 @@ followed_least [] pen = ap (λ (b : Option Bounds). Some (record { at = pen.at; 
 followed_least (p ∷ ps) pen = ap (λ (o : Option Pen). option_and_then (followed ps) o) (visited_is p pen) ∙ point_more p ps pen (point_box p) (λ next. followed_least ps next)
 
 -- ---- where it ends
-points_end : (at : Position) (segments : List Segment) → last_point at (points segments) ≡ point_behind at segments
+points_end : (at : Position) (segments : List Segment) → last_point at (points segments) ≡ point_after at segments
 points_end at [] = refl
 points_end at (Move to ∷ segments) = points_end to segments
 points_end at (Line to ∷ segments) = points_end to segments
@@ -55,10 +55,10 @@ mapped_end : (pen next : Pen) (ps : List Position) (q : Option (Option Bounds)) 
 mapped_end pen next ps None h = absurd (cc)
 mapped_end pen next ps (Some box) h = let same : ◌≡◌ {A = Pen} (pen_after pen ps box) next = cc in sym (ap (λ (p : Pen). p.at) same)
 
-pub followed_end : (pen next : Pen) (segments : List Segment) → followed (points segments) pen ≡ Some next → next.at ≡ point_behind pen.at segments
+pub followed_end : (pen next : Pen) (segments : List Segment) → followed (points segments) pen ≡ Some next → next.at ≡ point_after pen.at segments
 followed_end pen next segments h = mapped_end pen next (points segments) (least (points segments)) (sym (followed_least (points segments) pen) ∙ h) ∙ points_end pen.at segments
 
--- ---- one path behind another
+-- ---- one path after another
 pub points_both : (a b : List Segment) → points (a ++ b) ≡ points a ++ points b
 points_both [] b = refl
 points_both (Move to ∷ a) b = ap (λ (ps : List Position). to ∷ ps) (points_both a b)
@@ -81,17 +81,17 @@ all_traced (e ∷ es) pen = option_and_then (all_traced es) (event_traced e pen)
 
 event_more : (e : Event) (es : List Event) (pen : Pen) (o : Option Pen) → followed (points (event_drawn e pen.at)) pen ≡ o
     → ((next : Pen) → all_traced es next ≡ followed (points (events_drawn next.at es)) next)
-    → option_and_then (all_traced es) o ≡ option_and_then (followed (points (events_drawn (point_behind pen.at (event_drawn e pen.at)) es))) o
+    → option_and_then (all_traced es) o ≡ option_and_then (followed (points (events_drawn (point_after pen.at (event_drawn e pen.at)) es))) o
 event_more e es pen None f ih = refl
 event_more e es pen (Some next) f ih = ih next ∙ ap (λ (at : Position). followed (points (events_drawn at es)) next) (followed_end pen next (event_drawn e pen.at) f)
 
 pub events_followed : (es : List Event) (pen : Pen) → all_traced es pen ≡ followed (points (events_drawn pen.at es)) pen
 events_followed [] pen = refl
 events_followed (e ∷ es) pen =
-    let behind = events_drawn (point_behind pen.at (event_drawn e pen.at)) es in
+    let following = events_drawn (point_after pen.at (event_drawn e pen.at)) es in
     event_more e es pen (followed (points (event_drawn e pen.at)) pen) refl (λ next. events_followed es next)
-    ∙ sym (followed_both (points (event_drawn e pen.at)) (points behind) pen)
-    ∙ ap (λ (ps : List Position). followed ps pen) (sym (points_both (event_drawn e pen.at) behind))
+    ∙ sym (followed_both (points (event_drawn e pen.at)) (points following) pen)
+    ∙ ap (λ (ps : List Position). followed ps pen) (sym (points_both (event_drawn e pen.at) following))
 
 -- ---- from the origin on
 bounds_are : (ps : List Position) (q : Option (Option Bounds)) → option_and_then (λ p. p.bounds) (option_map (pen_after pen_start ps) q) ≡ option_and_then (λ box. box) q

@@ -4,7 +4,7 @@ use Rattle.std.proofs.lemmas.Int.{ints}
 use Rattle.std.specs.Option.{option_and_then}
 use Rattle.subsetter_blend.specs.declared.writing.placing.Position.{Position}
 use Rattle.subsetter_blend.specs.declared.axes.Along.TheVariants.{X, Y}
-use Rattle.subsetter_blend.specs.Drawn.{Segment, Curve, by, curves, horizontal_curves, vertical_curves, alternating_curves, point_behind}
+use Rattle.subsetter_blend.specs.Drawn.{Segment, Curve, by, curves, horizontal_curves, vertical_curves, alternating_curves, point_after}
 use Rattle.subsetter_blend.specs.Writing.Placed.{position_after}
 use Rattle.subsetter_boxes.specs.declared.pen.Pen.{Pen}
 use Rattle.subsetter_boxes.specs.CharstringBox.{points}
@@ -14,11 +14,11 @@ use Rattle.subsetter_boxes.proofs.Followed.{points_both, followed_both, followed
 both : (one more : List Segment) (pen : Pen) → traced (one ++ more) pen ≡ option_and_then (traced more) (traced one pen)
 both one more pen = ap (λ (ps : List Position). followed ps pen) (points_both one more) ∙ followed_both (points one) (points more) pen
 
-pub more_of : (one : List Segment) (after : Position → List Segment) (pen p : Pen) (r : Option Pen) → Some p ≡ traced one pen → r ≡ traced (after p.at) p → r ≡ traced (one ++ after (point_behind pen.at one)) pen
+pub more_of : (one : List Segment) (after : Position → List Segment) (pen p : Pen) (r : Option Pen) → Some p ≡ traced one pen → r ≡ traced (after p.at) p → r ≡ traced (one ++ after (point_after pen.at one)) pen
 more_of one after pen p r h k =
     k ∙ ap (λ (at : Position). traced (after at) p) (followed_end pen p one (sym h))
-    ∙ ap (λ (o : Option Pen). option_and_then (traced (after (point_behind pen.at one))) o) h
-    ∙ sym (both one (after (point_behind pen.at one)) pen)
+    ∙ ap (λ (o : Option Pen). option_and_then (traced (after (point_after pen.at one))) o) h
+    ∙ sym (both one (after (point_after pen.at one)) pen)
 
 pub lost_of : (one more : List Segment) (pen : Pen) → None ≡ traced one pen → None ≡ traced (one ++ more) pen
 lost_of one more pen h = ap (λ (o : Option Pen). option_and_then (traced more) o) h ∙ sym (both one more pen)

@@ -16,7 +16,7 @@ use Rattle.subsetter_boxes.specs.CharstringBox.{alone, points, least, outline_bo
 use Rattle.subsetter_boxes.specs.Traced.{event_traced, pen_start, taken}
 use Rattle.subsetter_boxes.proofs.Followed.{all_traced, traced_box}
 
--- the pen behind events, if there was one
+-- the pen after events, if there was one
 abbrev pens : List Event → Option Pen → Option Pen
 pens es pen = option_and_then (all_traced es) pen
 

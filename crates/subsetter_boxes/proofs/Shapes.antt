@@ -3,7 +3,7 @@ use Rattle.std.proofs.Common.{◌≡◌, ℤ, pos, ◌<◌, Bool, true, false, L
 use Rattle.std.specs.Prelude.{not}
 use Rattle.subsetter_blend.specs.declared.writing.placing.Position.{Position}
 use Rattle.subsetter_blend.specs.Axes.{along_y}
-use Rattle.subsetter_blend.specs.Drawn.{Line, Curve, by, curves_line, lines_curve, alternating_curves, point_behind}
+use Rattle.subsetter_blend.specs.Drawn.{Line, Curve, by, curves_line, lines_curve, alternating_curves, point_after}
 use Rattle.subsetter_blend.specs.Writing.Placed.{position_after}
 use Rattle.subsetter_boxes.proofs.Fronts.{plus_none}
 
@@ -28,7 +28,7 @@ line_first at dx dy (a ∷ b ∷ c ∷ d ∷ e ∷ rest) n = refl
 
 -- a curve in front, with a last operand that says nothing
 pub alternating_first : (v : Bool) (at : Position) (a b c d : ℤ) (rest : List ℤ) → (length rest ≡ 1 → ⊥)
-    → alternating_curves v at (a ∷ b ∷ c ∷ d ∷ rest) ≡ alternating_curves v at (a ∷ b ∷ c ∷ d ∷ []) ++ alternating_curves (not v) (point_behind at (alternating_curves v at (a ∷ b ∷ c ∷ d ∷ []))) rest
+    → alternating_curves v at (a ∷ b ∷ c ∷ d ∷ rest) ≡ alternating_curves v at (a ∷ b ∷ c ∷ d ∷ []) ++ alternating_curves (not v) (point_after at (alternating_curves v at (a ∷ b ∷ c ∷ d ∷ []))) rest
 alternating_first true at a b c d [] n = refl
 alternating_first true at a b c d (x ∷ []) n = absurd (n refl)
 alternating_first true at a b c d (x ∷ y ∷ rest) n = refl

@@ -2,7 +2,7 @@
 use Rattle.std.proofs.Common.{◌≡◌, ℤ, pos, ◌≤◌, Bool, true, List, [], ◌∷◌, length, drop, get_or, Option, Some, None, sym, ap, ◌∙◌, arith}
 use Rattle.std.specs.Prelude.{not}
 use Rattle.subsetter_blend.specs.declared.axes.Along.TheVariants.{X, Y}
-use Rattle.subsetter_blend.specs.Drawn.{Segment, horizontal_curves, vertical_curves, odd_horizontal, odd_vertical, alternating_curves, point_behind}
+use Rattle.subsetter_blend.specs.Drawn.{Segment, horizontal_curves, vertical_curves, odd_horizontal, odd_vertical, alternating_curves, point_after}
 use Rattle.subsetter_blend.specs.Writing.Placed.{position_after}
 use Rattle.subsetter_boxes.specs.declared.pen.Pen.{Pen}
 use Rattle.subsetter_boxes.specs.Traced.{traced}
@@ -33,7 +33,7 @@ hh_lost pen (x ∷ a ∷ b ∷ []) t e l h = absurd (omega arith)
 hh_lost pen (x ∷ a ∷ b ∷ c ∷ []) t e l h = absurd (omega arith)
 hh_lost pen (x ∷ a ∷ b ∷ c ∷ d ∷ xs) t e l h =
     let one : List Segment = horizontal_curves (position_after Y x pen.at) (a ∷ b ∷ c ∷ d ∷ []) in
-    lost_of one (horizontal_curves (point_behind pen.at one) xs) pen (h ∙ ap (λ (s : List Segment). traced s pen) (level_end pen.at a x b c d))
+    lost_of one (horizontal_curves (point_after pen.at one) xs) pen (h ∙ ap (λ (s : List Segment). traced s pen) (level_end pen.at a x b c d))
     ∙ ap (λ (y : Bool). traced (odd_horizontal y pen.at (x ∷ a ∷ b ∷ c ∷ d ∷ xs)) pen) (sym e)
 
 pub vv_go : (pen p : Pen) (xs : List ℤ) (t : Bool) (r : Option Pen) → t ≡ true → 5 ≤ length xs
@@ -59,7 +59,7 @@ vv_lost pen (x ∷ a ∷ b ∷ []) t e l h = absurd (omega arith)
 vv_lost pen (x ∷ a ∷ b ∷ c ∷ []) t e l h = absurd (omega arith)
 vv_lost pen (x ∷ a ∷ b ∷ c ∷ d ∷ xs) t e l h =
     let one : List Segment = vertical_curves (position_after X x pen.at) (a ∷ b ∷ c ∷ d ∷ []) in
-    lost_of one (vertical_curves (point_behind pen.at one) xs) pen (h ∙ ap (λ (s : List Segment). traced s pen) (plumb_end pen.at x a b c d))
+    lost_of one (vertical_curves (point_after pen.at one) xs) pen (h ∙ ap (λ (s : List Segment). traced s pen) (plumb_end pen.at x a b c d))
     ∙ ap (λ (y : Bool). traced (odd_vertical y pen.at (x ∷ a ∷ b ∷ c ∷ d ∷ xs)) pen) (sym e)
 
 -- ---- alternating
@@ -94,5 +94,5 @@ alternating_lost v pen (a ∷ b ∷ []) l n h = absurd (omega arith)
 alternating_lost v pen (a ∷ b ∷ c ∷ []) l n h = absurd (omega arith)
 alternating_lost v pen (a ∷ b ∷ c ∷ d ∷ xs) l n h =
     let one : List Segment = alternating_curves v pen.at (a ∷ b ∷ c ∷ d ∷ []) in
-    lost_of one (alternating_curves (not v) (point_behind pen.at one) xs) pen (h ∙ ap (λ (s : List Segment). traced s pen) (alternating_four v pen.at a b c d))
+    lost_of one (alternating_curves (not v) (point_after pen.at one) xs) pen (h ∙ ap (λ (s : List Segment). traced s pen) (alternating_four v pen.at a b c d))
     ∙ ap (λ (s : List Segment). traced s pen) (sym (alternating_first v pen.at a b c d xs (λ one. n (omega (arith, one)))))

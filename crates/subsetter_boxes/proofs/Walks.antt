@@ -4,7 +4,7 @@ use Rattle.std.proofs.lemmas.List.{take_all}
 use Rattle.std.specs.Prelude.{IfSome}
 use Rattle.std.specs.Option.{option_and_then}
 use Rattle.subsetter_blend.specs.declared.writing.placing.Position.{Position}
-use Rattle.subsetter_blend.specs.Drawn.{Segment, by, lines, curves, curves_line, lines_curve, horizontal_curves, vertical_curves, point_behind}
+use Rattle.subsetter_blend.specs.Drawn.{Segment, by, lines, curves, curves_line, lines_curve, horizontal_curves, vertical_curves, point_after}
 use Rattle.subsetter_boxes.specs.declared.pen.Pen.{Pen}
 use Rattle.subsetter_boxes.specs.Traced.{visited, followed, traced}
 use Rattle.subsetter_boxes.proofs.Fronts.{more_of, lost_of, curve_at, horizontal_is, vertical_is}
@@ -17,7 +17,7 @@ point_is x y a b pen r h p q = h ∙ ap (λ (v : ℤ). visited (record { x = v; 
 pub there_is : (x y a b : ℤ) (r : Option Pen) → IfSome r (λ p. p.at ≡ record { x = a; y = b }) → a ≡ x → b ≡ y → IfSome r (λ p. p.at ≡ record { x = x; y = y })
 there_is x y a b r h p q = subst (λ (v : ℤ). IfSome r (λ o. o.at ≡ record { x = v; y = y })) p (subst (λ (v : ℤ). IfSome r (λ o. o.at ≡ record { x = a; y = v })) q h)
 
--- ---- what is behind some operands
+-- ---- what is after some operands
 pub rest_all : (n : ℕ) (xs : List ℤ) → take (length xs - n) (drop n xs) ≡ drop n xs
 rest_all n xs = take_all (length xs - n) (drop n xs) (omega (arith, length-drop n xs))
 
@@ -67,7 +67,7 @@ curves_lost pen (a ∷ b ∷ []) l h = absurd (omega arith)
 curves_lost pen (a ∷ b ∷ c ∷ []) l h = absurd (omega arith)
 curves_lost pen (a ∷ b ∷ c ∷ d ∷ []) l h = absurd (omega arith)
 curves_lost pen (a ∷ b ∷ c ∷ d ∷ e ∷ []) l h = absurd (omega arith)
-curves_lost pen (a ∷ b ∷ c ∷ d ∷ e ∷ f ∷ xs) l h = lost_of (curve_at pen.at a b c d e f) (curves (point_behind pen.at (curve_at pen.at a b c d e f)) xs) pen h
+curves_lost pen (a ∷ b ∷ c ∷ d ∷ e ∷ f ∷ xs) l h = lost_of (curve_at pen.at a b c d e f) (curves (point_after pen.at (curve_at pen.at a b c d e f)) xs) pen h
 
 -- ---- curves, and then a line
 pub two_line : (at : Position) (xs : List ℤ) → length xs ≡ 2 → lines at xs ≡ curves_line at xs
@@ -96,7 +96,7 @@ curves_line_lost pen (a ∷ b ∷ []) l h = absurd (omega arith)
 curves_line_lost pen (a ∷ b ∷ c ∷ []) l h = absurd (omega arith)
 curves_line_lost pen (a ∷ b ∷ c ∷ d ∷ []) l h = absurd (omega arith)
 curves_line_lost pen (a ∷ b ∷ c ∷ d ∷ e ∷ []) l h = absurd (omega arith)
-curves_line_lost pen (a ∷ b ∷ c ∷ d ∷ e ∷ f ∷ xs) l h = lost_of (curve_at pen.at a b c d e f) (curves_line (point_behind pen.at (curve_at pen.at a b c d e f)) xs) pen h
+curves_line_lost pen (a ∷ b ∷ c ∷ d ∷ e ∷ f ∷ xs) l h = lost_of (curve_at pen.at a b c d e f) (curves_line (point_after pen.at (curve_at pen.at a b c d e f)) xs) pen h
 
 -- ---- lines, and then a curve
 pub six_curve : (at : Position) (xs : List ℤ) → length xs ≡ 6 → curves at xs ≡ lines_curve at xs
@@ -148,7 +148,7 @@ horizontal_lost pen (a ∷ b ∷ []) l h = absurd (omega arith)
 horizontal_lost pen (a ∷ b ∷ c ∷ []) l h = absurd (omega arith)
 horizontal_lost pen (a ∷ b ∷ c ∷ d ∷ xs) l h =
     let one : List Segment = horizontal_curves pen.at (a ∷ b ∷ c ∷ d ∷ []) in
-    lost_of one (horizontal_curves (point_behind pen.at one) xs) pen (h ∙ ap (λ (s : List Segment). traced s pen) (horizontal_is pen.at a b c d))
+    lost_of one (horizontal_curves (point_after pen.at one) xs) pen (h ∙ ap (λ (s : List Segment). traced s pen) (horizontal_is pen.at a b c d))
 
 pub vertical_go : (pen p : Pen) (xs : List ℤ) (r : Option Pen) → 4 ≤ length xs
     → Some p ≡ traced (curve_at pen.at (pos 0) (get_or xs 0 (pos 0)) (get_or xs 1 (pos 0)) (get_or xs 2 (pos 0)) (pos 0) (get_or xs 3 (pos 0))) pen
@@ -169,4 +169,4 @@ vertical_lost pen (a ∷ b ∷ []) l h = absurd (omega arith)
 vertical_lost pen (a ∷ b ∷ c ∷ []) l h = absurd (omega arith)
 vertical_lost pen (a ∷ b ∷ c ∷ d ∷ xs) l h =
     let one : List Segment = vertical_curves pen.at (a ∷ b ∷ c ∷ d ∷ []) in
-    lost_of one (vertical_curves (point_behind pen.at one) xs) pen (h ∙ ap (λ (s : List Segment). traced s pen) (vertical_is pen.at a b c d))
+    lost_of one (vertical_curves (point_after pen.at one) xs) pen (h ∙ ap (λ (s : List Segment). traced s pen) (vertical_is pen.at a b c d))

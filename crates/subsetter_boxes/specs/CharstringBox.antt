@@ -58,11 +58,11 @@ outline_box charstring = do
   box
 
 -- ---- of a charstring of `CFF `
--- what is behind the first number
-abbrev pub behind_width : List ℕ → Option (List ℕ)
-behind_width charstring = option_map (λ number. number.1) (number_at charstring)
+-- what is after the first number
+abbrev pub after_width : List ℕ → Option (List ℕ)
+after_width charstring = option_map (λ number. number.1) (number_at charstring)
 
--- what is in front of endchar, the last operator
+-- what is before endchar, the last operator
 abbrev pub before_endchar : List ℕ → Option (List ℕ)
 before_endchar bytes =
     if length bytes == 0 then None
@@ -73,8 +73,8 @@ before_endchar bytes =
 -- at its end has one between them, and draws what that one draws.
 unfoldable pub charstring_box : List ℕ → Option Bounds
 charstring_box charstring = do
-  behind ← behind_width charstring
-  body ← before_endchar behind
+  following ← after_width charstring
+  body ← before_endchar following
   outline_box body
 
 -- Of a charstring without subroutines, which ends by endchar. A width in front is the operand more than its first operator takes (Technical
@@ -82,4 +82,4 @@ charstring_box charstring = do
 unfoldable pub flat_box : List ℕ → Option Bounds
 flat_box flat = do
   body ← before_endchar flat
-  option_or (outline_box body) (option_and_then outline_box (behind_width body))
+  option_or (outline_box body) (option_and_then outline_box (after_width body))

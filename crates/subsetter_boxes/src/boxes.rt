@@ -4,7 +4,7 @@ ghost use Rattle.std.specs.Prelude.{◌≡◌, ◌≢◌, [], Ok, IfErr, OnOk};
 ghost use Rattle.std.specs.Option.{option_copied};
 ghost use Rattle.subsetter_base.specs.Gives.{Gives};
 ghost use Rattle.subsetter_base.specs.declared.error.Error.TheVariants.{OutOfMemory};
-ghost use Rattle.subsetter_boxes.specs.CharstringBox.{before_endchar, behind_width, charstring_box, flat_box, outline_box};
+ghost use Rattle.subsetter_boxes.specs.CharstringBox.{before_endchar, after_width, charstring_box, flat_box, outline_box};
 
 use crate::events::Following;
 use subsetter_base::Error;
@@ -46,15 +46,15 @@ impl Regions for Unvaried {
     }
 }
 
-/// What is behind the first number.
-fn behind_width(charstring: &[u8]) -> Option<&[u8]>
-    ensures { option_copied result ≡ behind_width charstring.now }
+/// What is after the first number.
+fn after_width(charstring: &[u8]) -> Option<&[u8]>
+    ensures { option_copied result ≡ after_width charstring.now }
 {
     let read = read_number(charstring)?;
     Some(read.rest)
 }
 
-/// What is in front of endchar, the last operator.
+/// What is before endchar, the last operator.
 fn before_endchar(bytes: &[u8]) -> Option<&[u8]>
     ensures { option_copied result ≡ before_endchar bytes.now }
 {
@@ -117,10 +117,10 @@ pub fn charstring_box(charstring: &[u8]) -> Result<Option<Bounds>, Error>
     ensures value { Gives (λ b. b) result (Ok (charstring_box charstring.now)) }
     ensures err { IfErr result (λ e. e ≡ OutOfMemory) }
 {
-    let Some(behind) = behind_width(charstring) else {
+    let Some(following) = after_width(charstring) else {
         return Ok(None);
     };
-    let Some(body) = before_endchar(behind) else {
+    let Some(body) = before_endchar(following) else {
         return Ok(None);
     };
     outline_box(body)
@@ -142,8 +142,8 @@ pub fn flat_box(flat: &[u8]) -> Result<Option<Bounds>, Error>
     if let Some(bounds) = outline_box(body)? {
         return Ok(Some(bounds));
     }
-    match behind_width(body) {
-        Some(behind) => outline_box(behind),
+    match after_width(body) {
+        Some(following) => outline_box(following),
         None => Ok(None),
     }
 }

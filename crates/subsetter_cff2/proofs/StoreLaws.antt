@@ -11,9 +11,9 @@ use Rattle.subsetter_variation.specs.Items.ItemVariations.{Store, item_store, da
 record Keeps (bytes : List ℕ) (o : Option Store) : Type 0 where
   same : (s : Store) → o ≡ Some s → s.bytes ≡ bytes
 
-behind : {A : Type 0} (bytes : List ℕ) (o : Option A) (f : A → Option Store) → ((x : A) → Keeps bytes (f x)) → Keeps bytes (o >>= f)
-behind bytes None f h = record { same = λ s e. absurd (none-some s e) }
-behind bytes (Some x) f h = h x
+following : {A : Type 0} (bytes : List ℕ) (o : Option A) (f : A → Option Store) → ((x : A) → Keeps bytes (f x)) → Keeps bytes (o >>= f)
+following bytes None f h = record { same = λ s e. absurd (none-some s e) }
+following bytes (Some x) f h = h x
 
 if_format : (bytes : List ℕ) (b : Bool) (made : Store) → made.bytes ≡ bytes → Keeps bytes (cond b (Some made) None)
 if_format bytes true made is = record { same = λ s e. ap (λ (x : Store). x.bytes) (sym (same_Some _ _ e)) ∙ is }
@@ -22,8 +22,8 @@ if_format bytes false made is = record { same = λ s e. absurd (none-some s e) }
 keeps : (bytes : List ℕ) → Keeps bytes (item_store bytes)
 unfolding item_store
 keeps bytes =
-    behind bytes (number bytes 0 2) _ (λ format. behind bytes (nullable_offset bytes 2) _ (λ at. behind bytes (number bytes at 2) _ (λ axes.
-    behind bytes (number bytes (at + 2) 2) _ (λ count. behind bytes (range bytes (at + 4) (count * (axes * 6))) _ (λ regions. if_format bytes (eqb format 1) _ refl)))))
+    following bytes (number bytes 0 2) _ (λ format. following bytes (nullable_offset bytes 2) _ (λ at. following bytes (number bytes at 2) _ (λ axes.
+    following bytes (number bytes (at + 2) 2) _ (λ count. following bytes (range bytes (at + 4) (count * (axes * 6))) _ (λ regions. if_format bytes (eqb format 1) _ refl)))))
 
 pub begins : (bytes : List ℕ) (s : Store) → Some s ≡ item_store bytes
     → Some (record { axis_count = s.axis_count; region_count = s.region_count; regions = s.regions; bytes = bytes }) ≡ item_store bytes

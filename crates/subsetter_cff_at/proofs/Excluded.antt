@@ -47,9 +47,9 @@ refused_and_made : {A : Type 0} (r : Result A Error) (e : Error) (x : A) → r �
 refused_and_made {A = A} r e x h k = let bad : ◌≡◌ {A = Result A Error} (Err e) (Ok x) = sym h ∙ k in cc
 
 -- ---- the table as a whole
-record PartsFound (bytes : List ℕ) (axes : ℕ) (top : List ℕ) (behind : ℕ) : Type 0 where
+record PartsFound (bytes : List ℕ) (axes : ℕ) (top : List ℕ) (following : ℕ) : Type 0 where
   subroutines : List (Option (List ℕ))
-  subroutines_are : wide_index bytes behind ≡ Some subroutines
+  subroutines_are : wide_index bytes following ≡ Some subroutines
   charstrings : List (Option (List ℕ))
   charstrings_are : named_index bytes (last_of char_strings_operator (entries top)) ≡ Some charstrings
   dicts : List (Option (List ℕ))
@@ -59,10 +59,10 @@ record PartsFound (bytes : List ℕ) (axes : ℕ) (top : List ℕ) (behind : ℕ
   select : Option ℕ
   select_is : optional_offset (last_of font_dict_select_operator (entries top)) ≡ Some select
 
-parts_found : (bytes : List ℕ) (axes : ℕ) (top : List ℕ) (behind : ℕ) (cff : Cff2) → parts_by bytes axes (entries top) behind ≡ Some cff → PartsFound bytes axes top behind
+parts_found : (bytes : List ℕ) (axes : ℕ) (top : List ℕ) (following : ℕ) (cff : Cff2) → parts_by bytes axes (entries top) following ≡ Some cff → PartsFound bytes axes top following
 unfolding parts_by
-parts_found bytes axes top behind cff e =
-    let a = step (wide_index bytes behind) _ cff e in
+parts_found bytes axes top following cff e =
+    let a = step (wide_index bytes following) _ cff e in
     let b = step (named_index bytes (last_of char_strings_operator (entries top))) _ cff a.1.1 in
     let c = step (named_index bytes (last_of font_dicts_operator (entries top))) _ cff b.1.1 in
     let d = step (optional_offset (last_of store_operator (entries top))) _ cff c.1.1 in
@@ -70,10 +70,10 @@ parts_found bytes axes top behind cff e =
     let g = step (optional_offset (last_of font_dict_select_operator (entries top))) _ cff f.1.1 in
     record { subroutines = a.0; subroutines_are = a.1.0; charstrings = b.0; charstrings_are = b.1.0; dicts = c.0; dicts_are = c.1.0; offset = d.0; offset_is = d.1.0; select = g.0; select_is = g.1.0 }
 
-no_store : (bytes : List ℕ) (axes : ℕ) (top : List ℕ) (behind : ℕ) (cff : Cff2) (offset : Option ℕ) → parts_by bytes axes (entries top) behind ≡ Some cff → optional_offset (last_of store_operator (entries top)) ≡ Some offset → store_by bytes axes offset ≡ None → ⊥
+no_store : (bytes : List ℕ) (axes : ℕ) (top : List ℕ) (following : ℕ) (cff : Cff2) (offset : Option ℕ) → parts_by bytes axes (entries top) following ≡ Some cff → optional_offset (last_of store_operator (entries top)) ≡ Some offset → store_by bytes axes offset ≡ None → ⊥
 unfolding parts_by
-no_store bytes axes top behind cff offset e is none =
-    let a = step (wide_index bytes behind) _ cff e in
+no_store bytes axes top following cff offset e is none =
+    let a = step (wide_index bytes following) _ cff e in
     let b = step (named_index bytes (last_of char_strings_operator (entries top))) _ cff a.1.1 in
     let c = step (named_index bytes (last_of font_dicts_operator (entries top))) _ cff b.1.1 in
     let d = step (optional_offset (last_of store_operator (entries top))) _ cff c.1.1 in
@@ -85,25 +85,25 @@ front_found : (bytes : List ℕ) (axes : ℕ) (cff : Cff2) → cff2_parts bytes 
 unfolding cff2_parts
 front_found bytes axes cff e = step (front_at bytes) _ cff e
 
-parts_at : (bytes : List ℕ) (axes : ℕ) (cff : Cff2) (top : List ℕ) (behind : ℕ) → cff2_parts bytes axes ≡ Some cff → front_at bytes ≡ Some (top, behind) → parts_by bytes axes (entries top) behind ≡ Some cff
-parts_at bytes axes cff top behind e is =
+parts_at : (bytes : List ℕ) (axes : ℕ) (cff : Cff2) (top : List ℕ) (following : ℕ) → cff2_parts bytes axes ≡ Some cff → front_at bytes ≡ Some (top, following) → parts_by bytes axes (entries top) following ≡ Some cff
+parts_at bytes axes cff top following e is =
     let f = front_found bytes axes cff e in
-    let same : f.0 ≡ (top, behind) = same_Some _ _ (sym f.1.0 ∙ is) in
+    let same : f.0 ≡ (top, following) = same_Some _ _ (sym f.1.0 ∙ is) in
     ap (λ (q : List ℕ × ℕ). parts_by bytes axes (entries q.0) q.1) (sym same) ∙ f.1.1
 
 no_opening_fault : (bytes : List ℕ) (r : Request) (o : Opened) (e : Error) → OpenSteps bytes r o → HasOpeningFault bytes r e → ⊥
 no_opening_fault bytes r o _ s (bad_front none) = (let f = front_found bytes (length r.at) o.cff s.cff_is in both (front_at bytes) f.0 none f.1.0)
-no_opening_fault bytes r o _ s (bad_subroutines top behind front none) =
-    (let p = parts_found bytes (length r.at) top behind o.cff (parts_at bytes (length r.at) o.cff top behind s.cff_is front) in both (wide_index bytes behind) p.subroutines none p.subroutines_are)
-no_opening_fault bytes r o _ s (bad_char_strings top behind front none) =
-    (let p = parts_found bytes (length r.at) top behind o.cff (parts_at bytes (length r.at) o.cff top behind s.cff_is front) in both (named_index bytes (last_of char_strings_operator (entries top))) p.charstrings none p.charstrings_are)
-no_opening_fault bytes r o _ s (bad_font_dicts top behind front none) =
-    (let p = parts_found bytes (length r.at) top behind o.cff (parts_at bytes (length r.at) o.cff top behind s.cff_is front) in both (named_index bytes (last_of font_dicts_operator (entries top))) p.dicts none p.dicts_are)
-no_opening_fault bytes r o _ s (bad_store_offset top behind front none) =
-    (let p = parts_found bytes (length r.at) top behind o.cff (parts_at bytes (length r.at) o.cff top behind s.cff_is front) in both (optional_offset (last_of store_operator (entries top))) p.offset none p.offset_is)
-no_opening_fault bytes r o _ s (bad_store top behind offset front is none) = no_store bytes (length r.at) top behind o.cff offset (parts_at bytes (length r.at) o.cff top behind s.cff_is front) is none
-no_opening_fault bytes r o _ s (bad_select top behind front none) =
-    (let p = parts_found bytes (length r.at) top behind o.cff (parts_at bytes (length r.at) o.cff top behind s.cff_is front) in both (optional_offset (last_of font_dict_select_operator (entries top))) p.select none p.select_is)
+no_opening_fault bytes r o _ s (bad_subroutines top following front none) =
+    (let p = parts_found bytes (length r.at) top following o.cff (parts_at bytes (length r.at) o.cff top following s.cff_is front) in both (wide_index bytes following) p.subroutines none p.subroutines_are)
+no_opening_fault bytes r o _ s (bad_char_strings top following front none) =
+    (let p = parts_found bytes (length r.at) top following o.cff (parts_at bytes (length r.at) o.cff top following s.cff_is front) in both (named_index bytes (last_of char_strings_operator (entries top))) p.charstrings none p.charstrings_are)
+no_opening_fault bytes r o _ s (bad_font_dicts top following front none) =
+    (let p = parts_found bytes (length r.at) top following o.cff (parts_at bytes (length r.at) o.cff top following s.cff_is front) in both (named_index bytes (last_of font_dicts_operator (entries top))) p.dicts none p.dicts_are)
+no_opening_fault bytes r o _ s (bad_store_offset top following front none) =
+    (let p = parts_found bytes (length r.at) top following o.cff (parts_at bytes (length r.at) o.cff top following s.cff_is front) in both (optional_offset (last_of store_operator (entries top))) p.offset none p.offset_is)
+no_opening_fault bytes r o _ s (bad_store top following offset front is none) = no_store bytes (length r.at) top following o.cff offset (parts_at bytes (length r.at) o.cff top following s.cff_is front) is none
+no_opening_fault bytes r o _ s (bad_select top following front none) =
+    (let p = parts_found bytes (length r.at) top following o.cff (parts_at bytes (length r.at) o.cff top following s.cff_is front) in both (optional_offset (last_of font_dict_select_operator (entries top))) p.select none p.select_is)
 no_opening_fault bytes r o _ s (bad_matrix cff is none) =
     (let same : cff ≡ o.cff = same_Some _ _ (sym is ∙ s.cff_is) in both (top_matrix cff r.units) o.matrix none (ap (λ (c : Cff2). top_matrix c r.units) same ∙ s.matrix_is))
 no_opening_fault bytes r o _ s (bad_region cff is none) =

@@ -52,23 +52,23 @@ pub last_number : (cff : Cff2) (glyph : ℕ) (front : List (Option ℕ)) (whole 
 last_number cff glyph front whole same = sym same ∙ ap (λ (l : List (Option ℕ)). Ok l) (append-nil front)
 
 -- ---- charstrings
-texts_behind : (xs : List (List ℕ)) (y : List ℕ) → concat (xs ++ y ∷ []) ≡ concat xs ++ y
-texts_behind [] y = append-nil y
-texts_behind (x ∷ xs) y = rw (texts_behind xs y) (sym (append_assoc x (concat xs) y))
+texts_after : (xs : List (List ℕ)) (y : List ℕ) → concat (xs ++ y ∷ []) ≡ concat xs ++ y
+texts_after [] y = append-nil y
+texts_after (x ∷ xs) y = rw (texts_after xs y) (sym (append_assoc x (concat xs) y))
 
-ends_behind : (from : ℕ) (xs : List (List ℕ)) (y : List ℕ) → offsets from (xs ++ y ∷ []) ≡ offsets from xs ++ (from + length (concat xs) + length y) ∷ []
-ends_behind from [] y = ap (λ (n : ℕ). n ∷ []) (let e : from + length y ≡ from + 0 + length y = omega arith in e)
-ends_behind from (x ∷ xs) y =
-    rw (ends_behind (from + length x) xs y, length-append x (concat xs))
+ends_after : (from : ℕ) (xs : List (List ℕ)) (y : List ℕ) → offsets from (xs ++ y ∷ []) ≡ offsets from xs ++ (from + length (concat xs) + length y) ∷ []
+ends_after from [] y = ap (λ (n : ℕ). n ∷ []) (let e : from + length y ≡ from + 0 + length y = omega arith in e)
+ends_after from (x ∷ xs) y =
+    rw (ends_after (from + length x) xs y, length-append x (concat xs))
     (ap (λ (n : ℕ). (from + length x) ∷ (offsets (from + length x) xs ++ n ∷ [])) (let e : from + length x + length (concat xs) + length y ≡ from + (length x + length (concat xs)) + length y = omega arith in e))
 
-filled_behind : (xs : List (Option (List ℕ))) (x : Option (List ℕ)) → all_filled (xs ++ x ∷ []) ≡ all_filled xs ++ filled x ∷ []
-filled_behind [] x = refl
-filled_behind (y ∷ xs) x = ap (λ (l : List (List ℕ)). filled y ∷ l) (filled_behind xs x)
+filled_after : (xs : List (Option (List ℕ))) (x : Option (List ℕ)) → all_filled (xs ++ x ∷ []) ≡ all_filled xs ++ filled x ∷ []
+filled_after [] x = refl
+filled_after (y ∷ xs) x = ap (λ (l : List (List ℕ)). filled y ∷ l) (filled_after xs x)
 
-boxes_behind : (xs : List (Option (List ℕ))) (x : Option (List ℕ)) → text_boxes (xs ++ x ∷ []) ≡ text_boxes xs ++ charstring_box (filled x) ∷ []
-boxes_behind [] x = refl
-boxes_behind (y ∷ xs) x = ap (λ (l : List (Option Bounds)). charstring_box (filled y) ∷ l) (boxes_behind xs x)
+boxes_after : (xs : List (Option (List ℕ))) (x : Option (List ℕ)) → text_boxes (xs ++ x ∷ []) ≡ text_boxes xs ++ charstring_box (filled x) ∷ []
+boxes_after [] x = refl
+boxes_after (y ∷ xs) x = ap (λ (l : List (Option Bounds)). charstring_box (filled y) ∷ l) (boxes_after xs x)
 
 pub size_more : (front rest : List (Option (List ℕ))) (x : Option (List ℕ)) → texts_size (front ++ x ∷ rest) ≡ texts_size front + (text_size x + texts_size rest)
 size_more [] rest x = omega arith
@@ -80,12 +80,12 @@ size_kept (Some text) old new total e is = omega (arith, e, is)
 
 pub one_more : (before : List (Option (List ℕ))) (old new : Texts) (text : Option (List ℕ)) → AreTexts before old → IsPut old new text → AreTexts (before ++ text ∷ []) new
 one_more before old new text are put = record {
-  char_strings = put.char_strings ∙ ap (λ (l : List ℕ). l ++ filled text) are.char_strings ∙ sym (ap concat (filled_behind before text) ∙ texts_behind (all_filled before) (filled text));
+  char_strings = put.char_strings ∙ ap (λ (l : List ℕ). l ++ filled text) are.char_strings ∙ sym (ap concat (filled_after before text) ∙ texts_after (all_filled before) (filled text));
   ends =
       let size : length new.char_strings.items + 1 ≡ 1 + length (concat (all_filled before)) + length (filled text) =
       omega (arith, ap length put.char_strings, length-append old.char_strings.items (filled text), ap length are.char_strings) in
-      put.ends ∙ rw (are.ends, size) (sym (ap (offsets 1) (filled_behind before text) ∙ ends_behind 1 (all_filled before) (filled text)));
-  boxes = put.boxes ∙ ap (λ (l : List (Option Bounds)). l ++ charstring_box (filled text) ∷ []) are.boxes ∙ sym (boxes_behind before text);
+      put.ends ∙ rw (are.ends, size) (sym (ap (offsets 1) (filled_after before text) ∙ ends_after 1 (all_filled before) (filled text)));
+  boxes = put.boxes ∙ ap (λ (l : List (Option Bounds)). l ++ charstring_box (filled text) ∷ []) are.boxes ∙ sym (boxes_after before text);
   requested = size_kept text old.requested new.requested (texts_size before) put.requested are.requested ∙ ap (λ (n : ℕ). min n (2 ^ 64 - 1)) (sym (size_more before [] text));
 }
 

@@ -27,16 +27,16 @@ use Rattle.subsetter_cff_at.specs.Units.{top_matrix}
 pub data HasOpeningFault (bytes : List ℕ) (r : Request) : Error → Type 0 where
   -- the front is cut, of another major version than 2, or its header has fewer than 5 bytes ("Header")
   bad_front : front_at bytes ≡ None → HasOpeningFault bytes r MalformedFont
-  -- no global subroutines can be read behind the top dict
-  bad_subroutines : (top : List ℕ) (behind : ℕ) → front_at bytes ≡ Some (top, behind) → wide_index bytes behind ≡ None → HasOpeningFault bytes r MalformedFont
+  -- no global subroutines can be read after the top dict
+  bad_subroutines : (top : List ℕ) (following : ℕ) → front_at bytes ≡ Some (top, following) → wide_index bytes following ≡ None → HasOpeningFault bytes r MalformedFont
   -- the top dict leads to no charstrings, or to no font dicts
-  bad_char_strings : (top : List ℕ) (behind : ℕ) → front_at bytes ≡ Some (top, behind) → named_index bytes (last_of char_strings_operator (entries top)) ≡ None → HasOpeningFault bytes r MalformedFont
-  bad_font_dicts : (top : List ℕ) (behind : ℕ) → front_at bytes ≡ Some (top, behind) → named_index bytes (last_of font_dicts_operator (entries top)) ≡ None → HasOpeningFault bytes r MalformedFont
+  bad_char_strings : (top : List ℕ) (following : ℕ) → front_at bytes ≡ Some (top, following) → named_index bytes (last_of char_strings_operator (entries top)) ≡ None → HasOpeningFault bytes r MalformedFont
+  bad_font_dicts : (top : List ℕ) (following : ℕ) → front_at bytes ≡ Some (top, following) → named_index bytes (last_of font_dicts_operator (entries top)) ≡ None → HasOpeningFault bytes r MalformedFont
   -- the operands of its VariationStore are no offset, or it leads to no item variation store of as many axes
-  bad_store_offset : (top : List ℕ) (behind : ℕ) → front_at bytes ≡ Some (top, behind) → optional_offset (last_of store_operator (entries top)) ≡ None → HasOpeningFault bytes r MalformedFont
-  bad_store : (top : List ℕ) (behind : ℕ) (offset : Option ℕ) → front_at bytes ≡ Some (top, behind) → optional_offset (last_of store_operator (entries top)) ≡ Some offset → store_by bytes (length r.at) offset ≡ None → HasOpeningFault bytes r MalformedFont
+  bad_store_offset : (top : List ℕ) (following : ℕ) → front_at bytes ≡ Some (top, following) → optional_offset (last_of store_operator (entries top)) ≡ None → HasOpeningFault bytes r MalformedFont
+  bad_store : (top : List ℕ) (following : ℕ) (offset : Option ℕ) → front_at bytes ≡ Some (top, following) → optional_offset (last_of store_operator (entries top)) ≡ Some offset → store_by bytes (length r.at) offset ≡ None → HasOpeningFault bytes r MalformedFont
   -- the operands of its FDSelect are no offset
-  bad_select : (top : List ℕ) (behind : ℕ) → front_at bytes ≡ Some (top, behind) → optional_offset (last_of font_dict_select_operator (entries top)) ≡ None → HasOpeningFault bytes r MalformedFont
+  bad_select : (top : List ℕ) (following : ℕ) → front_at bytes ≡ Some (top, following) → optional_offset (last_of font_dict_select_operator (entries top)) ≡ None → HasOpeningFault bytes r MalformedFont
   -- its FontMatrix isn't six numbers
   bad_matrix : (cff : Cff2) → cff2_parts bytes (length r.at) ≡ Some cff → top_matrix cff r.units ≡ None → HasOpeningFault bytes r MalformedFont
   -- a region of the item variation store can't be read

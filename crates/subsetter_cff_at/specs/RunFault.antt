@@ -20,7 +20,7 @@ use Rattle.subsetter_blend.specs.Writing.Split.{split}
 use Rattle.subsetter_blend.specs.Writing.Taking.{Event}
 use Rattle.subsetter_blend.specs.Writing.Written.{Fitted, fitted, fitted_piece, fitted_start, start_point, may_begin, width}
 
--- ---- an operator, where these bytes stand behind it
+-- ---- an operator, where these bytes stand after it
 pub data HasOperatorFault (setting : Setting) (operator : Operator) (rest : List ℕ) (r : Registers) : Error → Type 0 where
   -- CFF2 has no such operator, as return and endchar
   unknown : operator_kind operator ≡ None → HasOperatorFault setting operator rest r CFFError
@@ -39,14 +39,14 @@ pub data HasOperatorFault (setting : Setting) (operator : Operator) (rest : List
   no_local : operator_kind operator ≡ Some CallsLocal → option_and_then (subroutine setting.library.local) (last_operand r.operands) ≡ None → HasOperatorFault setting operator rest r CFFError
   no_global : operator_kind operator ≡ Some CallsGlobal → option_and_then (subroutine setting.library.global) (last_operand r.operands) ≡ None → HasOperatorFault setting operator rest r CFFError
   -- blend: there are no such item variation data, the last operand is no number of results, there are fewer operands than it needs, or an
-  -- operand behind it is past 32,768 units
+  -- operand after it is past 32,768 units
   blend_without_data : operator_kind operator ≡ Some Blends → setting.scalars r.data_index ≡ None → HasOperatorFault setting operator rest r CFFError
   blend_without_count : operator_kind operator ≡ Some Blends → last_natural r ≡ None → HasOperatorFault setting operator rest r CFFError
   few_blended : (scalars : List ℤ) (n : ℕ) → operator_kind operator ≡ Some Blends → setting.scalars r.data_index ≡ Some scalars → last_natural r ≡ Some n
       → length (but_last r.operands) < n * (length scalars + 1) → HasOperatorFault setting operator rest r CFFError
   far_blended : (scalars : List ℤ) (n : ℕ) (operands : List ℤ) → operator_kind operator ≡ Some Blends → setting.scalars r.data_index ≡ Some scalars → last_natural r ≡ Some n
       → blended scalars n (but_last r.operands) ≡ Some operands → are_within operands ≡ false → HasOperatorFault setting operator rest r OverflowError
-  -- vsindex: it is a second one or behind a blend, isn't alone, or names no item variation data
+  -- vsindex: it is a second one or after a blend, isn't alone, or names no item variation data
   late_data : operator_kind operator ≡ Some ChoosesData → r.settled ≡ true → HasOperatorFault setting operator rest r CFFError
   wrong_data : operator_kind operator ≡ Some ChoosesData → length r.operands ≢ 1 → HasOperatorFault setting operator rest r CFFError
   unnamed_data : operator_kind operator ≡ Some ChoosesData → last_natural r ≡ None → HasOperatorFault setting operator rest r CFFError
@@ -64,10 +64,10 @@ pub data HasTokenFault (setting : Setting) (bytes : List ℕ) (r : Registers) : 
 -- a coordinate, an edge of a stem or the step to it has no 16 bits, in one of these pieces
 pub data IsFar : List Event → Fitted → Type 0 where
   far_here : (e : Event) (es : List Event) (f : Fitted) → placed e.operator (length e.operands) 0 e.operands (record { at = start_point (is_hint e.operator.0) f.pen.at; numbers = width f.pen.advance }) ≡ None → IsFar (e ∷ es) f
-  far_behind : (e : Event) (es : List Event) (f g : Fitted) → fitted_piece e f ≡ Ok g → IsFar es g → IsFar (e ∷ es) f
+  far_after : (e : Event) (es : List Event) (f g : Fitted) → fitted_piece e f ≡ Ok g → IsFar es g → IsFar (e ∷ es) f
 
 pub data HasEventFault (event : Event) (f : Fitted) : Error → Type 0 where
-  -- a line or a curve in front of the first move
+  -- a line or a curve before the first move
   no_move : may_begin f.pen.advance event.operator.0 ≡ false → HasEventFault event f CFFError
   far : may_begin f.pen.advance event.operator.0 ≡ true → IsFar (split (length (width f.pen.advance)) (opened event)) f → HasEventFault event f OverflowError
 

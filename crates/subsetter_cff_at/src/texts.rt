@@ -22,7 +22,7 @@ use subsetter_type2::limits::Limits;
 use subsetter_type2::operators::first_byte;
 use subsetter_type2::subroutines::SubroutineHandler;
 
-/// The charstrings of glyphs, one behind the other.
+/// The charstrings of glyphs, one after the other.
 #[derive(Drop)]
 pub struct Texts {
     /// Their bytes.
@@ -113,7 +113,7 @@ fn no_texts(alloc: Global, count: usize, limits: Limits) -> Result<Texts, Error>
     })
 }
 
-/// Puts the bytes of a charstring, and its box, behind the others.
+/// Puts the bytes of a charstring, and its box, after the others.
 fn put(texts: &mut Texts, bytes: &[u8], bounds: Option<Bounds>) -> Result<(), Error>
     ensures char_strings { OnOk result (texts.new.char_strings.items ≡ texts.old.char_strings.items ++ bytes.now) }
     ensures ends { OnOk result (texts.new.ends.items ≡ texts.old.ends.items ++ (length texts.new.char_strings.items + 1) ∷ []) }
@@ -127,7 +127,7 @@ fn put(texts: &mut Texts, bytes: &[u8], bounds: Option<Bounds>) -> Result<(), Er
     Ok(())
 }
 
-/// Puts `endchar` behind the others, which has no box.
+/// Puts `endchar` after the others, which has no box.
 #[inline(always)]
 #[tactic(auto, using(crate::proofs::Boxes::no_box))]
 fn put_end(texts: &mut Texts) -> Result<(), Error>

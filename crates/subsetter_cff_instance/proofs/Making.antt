@@ -1,7 +1,7 @@
 -- What is made of a font whose directory was read, by the plain way.
 --   hhea_there, head_long, lines_long      headers that were read from are long enough
 --   request_is                             what is requested of the table
---   made_is, drawn_are                     the plain way behind what is prepared
+--   made_is, drawn_are                     the plain way after what is prepared
 --   unprepared, unmade, unlaid             why nothing is made
 use Rattle.std.proofs.Common.{◌≡◌, ℕ, ◌≤◌, List, length, Option, Some, Result, Ok, Err, ℤ, refl, sym, subst, ◌⊎◌, inl, inr}
 use Rattle.std.specs.Prelude.{codes, IfSome, IfOk, IfErr}
@@ -43,7 +43,7 @@ pub request_is : (glyphs : List ℕ) (p : Prepared) (at : List ℤ) (gs : List (
     → record { at = at; glyphs = gs; units = units } ≡ request_at glyphs p
 request_is glyphs p at gs all n units e1 e2 e3 e4 e5 = rw (e1, e2, e3, e4, e5) refl
 
--- ---- behind what is prepared
+-- ---- after what is prepared
 
 module _ (find : List ℕ → Option (List ℕ)) (cff2 : List ℕ) (settings : List (Tag × ℤ)) (glyphs : List ℕ) (tokens depth : ℕ) (bound : Option ℕ) where
   abbrev Fails_here : Error → Type 0

@@ -26,7 +26,7 @@ use Rattle.subsetter_cff_instance.specs.Source.{Source}
 use Rattle.subsetter_cff_instance.specs.Tables.{hmtx_of, hhea_bytes, head_bytes, tables, new_tables, laid}
 use Rattle.subsetter_cff_instance.proofs.FileLaws.Head.{has_room}
 
--- the table of the metrics, one behind another
+-- the table of the metrics, one after another
 pub flat_is : (all : List (Option LongHorMetric)) → flat_map metric_bytes (filled all) ≡ hmtx_of all
 flat_is all = all_pairs (filled all) (length all) (omega (arith, length-map all (λ (m : Option LongHorMetric). unwrap_or m no_metric)))
 

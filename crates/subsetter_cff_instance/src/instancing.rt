@@ -89,7 +89,7 @@ struct NewCff {
     boxes: Vec<Option<Bounds>>,
 }
 
-/// The two pieces of a table, one behind the other.
+/// The two pieces of a table, one after the other.
 fn joined(pieces: CffPieces) -> Result<Vec<u8>, AllocError>
     ensures { IfOk result (λ v. v.items ≡ table_bytes pieces) }
 {

@@ -58,7 +58,7 @@ fn hmtx(alloc: Global, all: &[Option<LongHorMetric>]) -> Result<Vec<u8>, Error>
     Ok(hmtx)
 }
 
-/// The greatest advance, and what is behind it in `hhea`.
+/// The greatest advance, and what is after it in `hhea`.
 fn extreme_bytes(metrics: &[LongHorMetric], extents: Option<Extents>) -> [u8; 8]
     ensures { result ≡ extreme_bytes metrics.now extents }
 {

@@ -48,7 +48,7 @@ pub fn dict_is_read_again()
     ensures { (ls : List NewEntry) → AllByRecursion FitsNewEntry ls → entries (dict ls) ≡ map meaning ls }
 {}
 
-/// The entries of a DICT are the one in front, and those behind it.
+/// The entries of a DICT are the one in front, and those after it.
 #[tactic(auto, using(crate::proofs::DictsLaws::Entries::entries_step))]
 pub fn entries_follow_one_another()
     ensures { (bytes : List ℕ) → entries bytes ≡ option_map_or (λ e. limited e.0 ∷ entries e.1) (entry_at bytes) [] }

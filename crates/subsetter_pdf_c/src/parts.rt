@@ -21,7 +21,7 @@ pub struct PdfPart {
     /// 7: CIDToGIDMap.
     pub role: u32,
     pub number: u32,
-    /// The entries of its dictionary, each with a blank behind it, but for a stream's Length.
+    /// The entries of its dictionary, each with a blank after it, but for a stream's Length.
     pub entries: &'static [u8],
     /// Where the strings of the entries are, in order.
     pub strings: &'static [StringRange],

@@ -15,7 +15,7 @@ use pdf_text::FontObjects;
 use std::alloc::Global;
 use subsetter_base::Error;
 
-/// The objects of a font with these bytes of CIDToGIDMap, whole, one behind the other, with numbers from `first` on, and where
+/// The objects of a font with these bytes of CIDToGIDMap, whole, one after the other, with numbers from `first` on, and where
 /// each begins: as `pdf_text::write_objects` writes them.
 ///
 /// # Errors

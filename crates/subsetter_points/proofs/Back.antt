@@ -293,8 +293,8 @@ unfolding ends_of
 ends_of_length from [] = refl
 ends_of_length from (c ∷ o) = ap suc (ends_of_length (from + length c) o)
 
-behind_end : (from n : ℕ) → 0 < n → from + n - 1 + 1 ≡ from + n
-behind_end from n h = omega arith
+following_end : (from n : ℕ) → 0 < n → from + n - 1 + 1 ≡ from + n
+following_end from n h = omega arith
 
 size_of : (from n : ℕ) → 0 < n → from + n - 1 + 1 - from ≡ n
 size_of from n h = omega arith
@@ -312,7 +312,7 @@ contours_back from (c ∷ o) e =
     ap (λ k. take k (c ++ rest) ∷ contours (from + length c - 1 + 1) (ends_of (from + length c) o) (drop k (c ++ rest))) (size_of from (length c) some)
     ∙ ap (λ l. l ∷ contours (from + length c - 1 + 1) (ends_of (from + length c) o) (drop (length c) (c ++ rest))) (take_at c rest (length c) refl)
     ∙ ap (λ l. c ∷ contours (from + length c - 1 + 1) (ends_of (from + length c) o) l) (drop_at c rest (length c) refl)
-    ∙ ap (λ k. c ∷ contours k (ends_of (from + length c) o) rest) (behind_end from (length c) some)
+    ∙ ap (λ k. c ∷ contours k (ends_of (from + length c) o) rest) (following_end from (length c) some)
     ∙ ap (λ l. c ∷ l) (contours_back (from + length c) o a.1)
 
 pub are_ends_of : (from n : ℕ) (o : Outline) → list_all has_points o ≡ true → from + length (all_points o) ≡ n → are_ends from (ends_of from o) n ≡ true
@@ -323,7 +323,7 @@ are_ends_of from n (c ∷ o) e s =
     let some : 0 < length c = ltb-true 0 (length c) a.0 in
     let more : from + length c + length (all_points o) ≡ n = omega (arith, s, length-append c (all_points o)) in
     ap (λ b. b && are_ends (from + length c - 1 + 1) (ends_of (from + length c) o) n) (le-leb from (from + length c - 1) (omega arith))
-    ∙ ap (λ k. are_ends k (ends_of (from + length c) o) n) (behind_end from (length c) some)
+    ∙ ap (λ k. are_ends k (ends_of (from + length c) o) n) (following_end from (length c) some)
     ∙ are_ends_of (from + length c) n o a.1 more
 
 -- ---- the laws
@@ -336,7 +336,7 @@ law_of : (o : Outline) (points : List Point) (rest : List ℕ) → all_points o 
 law_of o [] rest a some few e f c = absurd (omega arith)
 law_of o (p ∷ ps) rest a some few e f c = from_parts (parts_bytes (ends_of 0 o) (p ∷ ps) ++ rest) (ends_of 0 o) (p ∷ ps) o (parts_back (ends_of 0 o) p ps rest e f few) c
 
--- an outline with points that fits, with anything behind it
+-- an outline with points that fits, with anything after it
 pub reads_back_before : (o : Outline) (rest : List ℕ) → IsTrue (fits o) → 0 < length o → simple (simple_bytes o ++ rest) ≡ Some o
 reads_back_before [] rest h some = absurd (omega arith)
 reads_back_before (c ∷ o) rest h some =

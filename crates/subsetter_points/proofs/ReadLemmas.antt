@@ -1,4 +1,4 @@
--- What is left to read, behind what was read: the step of each loop that reads.
+-- What is left to read, after what was read: the step of each loop that reads.
 use Rattle.std.proofs.Common.{◌≡◌, ℕ, suc, ◌+◌, ◌-◌, ◌<◌, List, [], ◌∷◌, ◌++◌, length, get_or, Option, Some, None, refl, sym, ap, ◌∙◌, append_assoc, arith, ℤ}
 use Rattle.std.specs.Prelude.{Result, Ok, Err, IfOk, ◌==◌, if◌then◌else◌}
 use Rattle.std.proofs.lemmas.List.{append-nil}

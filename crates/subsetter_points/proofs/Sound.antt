@@ -1,4 +1,4 @@
--- What is read is sound: as many points as the ends say, each behind the one before it.
+-- What is read is sound: as many points as the ends say, each after the one before it.
 use Rattle.std.proofs.Common.{◌≡◌, ℕ, zero, suc, ◌+◌, Bool, true, false, List, [], ◌∷◌, length, Option, Some, None, refl, sym, ap, ◌∙◌, arith, ℤ, pos}
 use Rattle.std.specs.Prelude.{◌==◌, ◌&&◌, nat_le, if◌then◌else◌, IsTrue, IfSome}
 use Rattle.std.specs.Option.{option_map}
@@ -57,8 +57,8 @@ points_at_length n bytes ps e =
     ap length (sym is) ∙ points_length a.0.0 b.0.0 c.0.0 (coordinates_length 0x02 0x10 (pos 0) a.0.0 a.0.1 b.0 b.1) (coordinates_length 0x04 0x20 (pos 0) a.0.0 b.0.1 c.0 c.1)
     ∙ flags_length n none bytes a.0 a.1
 
-end_behind : (from : ℕ) (bytes : List ℕ) (end : ℕ × List ℕ) → end_at from bytes ≡ Some end → nat_le from end.0 ≡ true
-end_behind from bytes end e =
+end_past : (from : ℕ) (bytes : List ℕ) (end : ℕ × List ℕ) → end_at from bytes ≡ Some end → nat_le from end.0 ≡ true
+end_past from bytes end e =
     let a = came (word bytes) (λ f. if nat_le from f.0 then Some f else None) end e in by (nat_le from a.0.0) a.0 refl a.2
   where
     by : (b : Bool) (f : ℕ × List ℕ) → nat_le from f.0 ≡ b → (if b then Some f else None) ≡ Some end → nat_le from end.0 ≡ true
@@ -75,7 +75,7 @@ ends_sound (suc n) from bytes out e =
     let b = came (ends n (a.0.0 + 1) a.0.1) (λ m. Some (a.0.0 ∷ m.0, m.1)) out a.2 in
     let rest = ends_sound n (a.0.0 + 1) a.0.1 b.0 b.1 in
     ap (λ (l : List ℕ). are_ends from l (count from l)) (put_in a.0.0 b.0 out b.2)
-    ∙ ap (λ t. t && are_ends (a.0.0 + 1) b.0.0 (count (a.0.0 + 1) b.0.0)) (end_behind from bytes a.0 a.1) ∙ rest
+    ∙ ap (λ t. t && are_ends (a.0.0 + 1) b.0.0 (count (a.0.0 + 1) b.0.0)) (end_past from bytes a.0 a.1) ∙ rest
 
 parts_at_sound : (n : ℕ) (bytes : List ℕ) (out : List ℕ × List Point) → parts_at n bytes ≡ Some out → are_ends 0 out.0 (length out.1) ≡ true
 unfolding parts_at

@@ -1,4 +1,4 @@
--- What is left to write, behind what was written, and what is left to test: the step of each loop.
+-- What is left to write, after what was written, and what is left to test: the step of each loop.
 use Rattle.std.proofs.Common.{◌≡◌, ℕ, ◌+◌, ◌-◌, ◌<◌, ◌≤◌, Bool, true, false, List, [], ◌∷◌, ◌++◌, length, take, drop, refl, sym, ap, ◌∙◌, append_assoc, arith, ℤ, pos, negsuc, w16}
 use Rattle.std.specs.Prelude.{◌==◌, ◌&&◌, nat_lt, nat_le, ◌-ℤ◌, IsTrue}
 use Rattle.std.specs.List.{list_all}
@@ -139,7 +139,7 @@ fits_of_parts es ps h =
     ∙ ap (λ t. t && points_fit (all_points o)) (parted_all 0 (length ps) es ps a.0 (omega arith))
     ∙ ap points_fit p.1 ∙ b.1
 
--- ---- parts one behind the other
+-- ---- parts one after the other
 
 pub four_written : (out one two three four a b c d : List ℕ) → one ≡ out ++ a → two ≡ one ++ b → three ≡ two ++ c → four ≡ three ++ d → four ≡ out ++ (a ++ b ++ c ++ d)
 four_written out one two three four a b c d p q r s =

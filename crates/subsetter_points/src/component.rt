@@ -1,8 +1,8 @@
 //! The record of a component, and its flags (OpenType, "glyf", "Composite glyph description").
 
-/// glyphIndex, two bytes, behind flags.
+/// glyphIndex, two bytes, after flags.
 pub const GLYPH_INDEX: usize = 2;
-/// argument1, and behind it argument2, two bytes each or one.
+/// argument1, and after it argument2, two bytes each or one.
 pub const ARGUMENTS: usize = 4;
 
 /// The arguments are two words, and not two bytes.

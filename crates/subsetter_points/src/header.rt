@@ -1,6 +1,6 @@
 //! The header of a glyph description (OpenType, "glyf", "Glyph Headers").
 
-/// xMin, two bytes, behind numberOfContours, and then yMin, xMax and yMax.
+/// xMin, two bytes, after numberOfContours, and then yMin, xMax and yMax.
 pub const X_MIN: usize = 2;
 /// How many bytes it has.
 pub const HEADER_SIZE: usize = 10;

@@ -141,7 +141,7 @@ fn read_header(bytes: &[u8]) -> Option<(u16, &[u8])>
 }
 
 /// What [`read_simple`] reads, before the points are joined. Flags and coordinates stand in the memory of columns that are spare, whose
-/// contents don't count. Four more coordinates have room behind those of the points.
+/// contents don't count. Four more coordinates have room after those of the points.
 pub fn read_columns(alloc: Global, spare: Columns, bytes: &[u8]) -> Result<Option<Columns>, Error>
     ensures parts { IfOk result (λ o. option_map parts_of_columns o ≡ parts bytes.now) }
     ensures xs { IfOk result (λ o. IfSome o (λ c. length c.xs.items ≡ length c.flags.items)) }

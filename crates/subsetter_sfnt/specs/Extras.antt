@@ -21,7 +21,7 @@ without_glyph_names bytes = if nat_le 32 (length bytes) then to_be_bytes w32 0x0
 abbrev pub no_instructions : List ℕ
 no_instructions = 0 ∷ 1 ∷ 0 ∷ 0 ∷ 0 ∷ 0 ∷ 0 ∷ 0 ∷ 0 ∷ 0 ∷ 0 ∷ 0 ∷ 0 ∷ 0 ∷ []
 
--- the fields of `maxp` behind numGlyphs, for outlines without instructions (OpenType, "maxp"): of version 1.0 those that bound instructions are 0,
+-- the fields of `maxp` after numGlyphs, for outlines without instructions (OpenType, "maxp"): of version 1.0 those that bound instructions are 0,
 -- and there is one zone; fields that end before these do stay
 abbrev pub bare_fields : List ℕ → List ℕ
 bare_fields fields = if nat_le 22 (length fields) then take 8 fields ++ no_instructions ++ drop 22 fields else fields

@@ -5,7 +5,7 @@ use Rattle.std.proofs.lemmas.List.{drop_all, drop_more}
 use Rattle.subsetter_text_c.specs.Units.{decoded, next_high, read_out, read_unit}
 use Rattle.subsetter_text_c.specs.declared.units.Read.{Read}
 
--- characters in front of those of units
+-- characters before those of units
 abbrev front : List ℕ → Option (List ℕ) → Option (List ℕ)
 front cs o = option_map (λ (l : List ℕ). cs ++ l) o
 
@@ -35,7 +35,7 @@ unit_wrong us k d high so_far total l is h =
 at_end : (us : List ℕ) (k : ℕ) (high : Option ℕ) (so_far : List ℕ) (total : Option (List ℕ)) → length us ≤ k → front so_far (decoded high (drop k us)) ≡ total → front so_far (decoded high []) ≡ total
 at_end us k high so_far total l h = sym (ap (λ (l : List ℕ). front so_far (decoded high l)) (drop_all k us l)) ∙ h
 
--- behind the last unit
+-- after the last unit
 pub all_read : (us : List ℕ) (k : ℕ) (high : Option ℕ) (so_far : List ℕ) (total : Option (List ℕ)) → length us ≤ k → high ≡ None → option_map (λ (cs : List ℕ). so_far ++ cs) (decoded high (drop k us)) ≡ total → total ≡ Some so_far
 all_read us k high so_far total l none h =
     sym (at_end us k high so_far total l h) ∙ ap (λ (o : Option ℕ). front so_far (decoded o [])) none ∙ ap Some (append-nil so_far)

@@ -27,15 +27,15 @@ is_low u = nat_le 0xDC00 u && nat_lt u 0xE000
 abbrev pub joined : ℕ → ℕ → ℕ
 joined h l = (65536 + (h - 0xD800) * 1024) + (l - 0xDC00)
 
-abbrev pub read_behind : ℕ → ℕ → Option Read
-read_behind h u = if is_high h && is_low u then option_map Character (said (joined h u)) else None
+abbrev pub read_past : ℕ → ℕ → Option Read
+read_past h u = if is_high h && is_low u then option_map Character (said (joined h u)) else None
 
 abbrev pub read_alone : ℕ → Option Read
 read_alone u = if is_high u then Some (High u) else option_map Character (said u)
 
 abbrev pub read_unit : Option ℕ → ℕ → Option Read
 read_unit None u = read_alone u
-read_unit (Some h) u = read_behind h u
+read_unit (Some h) u = read_past h u
 
 abbrev pub next_high : Read → Option ℕ
 next_high (High u) = Some u
@@ -45,12 +45,12 @@ abbrev pub read_out : Read → List ℕ
 read_out (High u) = []
 read_out (Character c) = c ∷ []
 
--- a text doesn't end behind a high surrogate
+-- a text doesn't end after a high surrogate
 abbrev pub ended : Option ℕ → Option (List ℕ)
 ended None = Some []
 ended (Some h) = None
 
--- the characters of units, behind a high surrogate or none
+-- the characters of units, after a high surrogate or none
 abbrev pub decoded : Option ℕ → List ℕ → Option (List ℕ)
 decoded high [] = ended high
 decoded high (u ∷ us) = option_and_then (λ r. option_map (λ cs. read_out r ++ cs) (decoded (next_high r) us)) (read_unit high u)

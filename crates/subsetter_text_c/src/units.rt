@@ -6,7 +6,7 @@ ghost use Rattle.pdf_runs.specs.declared.error.RunError.TheVariants.{InvalidText
 ghost use Rattle.subsetter_pdf_c.specs.Entries.{are_scalars};
 ghost use Rattle.subsetter_text_c.specs.declared.units.Units.TheVariants.{Utf8};
 ghost use Rattle.subsetter_text_c.specs.Pairs.{said};
-ghost use Rattle.subsetter_text_c.specs.Units.{AreCharactersOf, IsNoText, decoded, is_high, is_low, joined, next_high, read_alone, read_behind, read_out, read_unit, unit_of};
+ghost use Rattle.subsetter_text_c.specs.Units.{AreCharactersOf, IsNoText, decoded, is_high, is_low, joined, next_high, read_alone, read_past, read_out, read_unit, unit_of};
 
 use crate::pairs::said;
 use pdf_runs::{RunError, Unit};
@@ -78,9 +78,9 @@ fn joined(high: u16, low: u16) -> u32
     65_536 + (u32::from(high) - 0xD800) * 1024 + (u32::from(low) - 0xDC00)
 }
 
-/// What a unit is behind a high surrogate.
-fn read_behind(high: u16, unit: u16) -> Option<Read>
-    ensures { result ≡ read_behind high unit }
+/// What a unit is after a high surrogate.
+fn read_past(high: u16, unit: u16) -> Option<Read>
+    ensures { result ≡ read_past high unit }
 {
     if !is_high(high) || !is_low(unit) {
         return None;
@@ -91,7 +91,7 @@ fn read_behind(high: u16, unit: u16) -> Option<Read>
     }
 }
 
-/// What a unit is behind a character.
+/// What a unit is after a character.
 fn read_alone(unit: u16) -> Option<Read>
     ensures { result ≡ read_alone unit }
 {
@@ -109,12 +109,12 @@ fn read_unit(high: Option<u16>, unit: u16) -> Option<Read>
     ensures { result ≡ read_unit high unit }
 {
     match high {
-        Some(high) => read_behind(high, unit),
+        Some(high) => read_past(high, unit),
         None => read_alone(unit),
     }
 }
 
-/// The high surrogate behind which the next unit is.
+/// The high surrogate after which the next unit is.
 fn next_high(read: Read) -> Option<u16>
     ensures { result ≡ next_high read }
 {
@@ -124,7 +124,7 @@ fn next_high(read: Read) -> Option<u16>
     }
 }
 
-/// Puts a character behind others, if one ends.
+/// Puts a character after others, if one ends.
 fn push_read(characters: &mut Vec<char>, read: Read) -> Result<(), AllocError>
     ensures { OnOk result (characters.new.items ≡ characters.old.items ++ read_out read) }
 {

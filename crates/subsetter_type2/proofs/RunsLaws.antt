@@ -1,6 +1,6 @@
 -- The run of a charstring.
 pub mod Acts
-pub mod BehindRuns
+pub mod AfterRuns
 pub mod Operating
 pub mod OutputLemmas
 pub mod RecursionLemmas

@@ -14,7 +14,7 @@ pub trace_back : (library other : Library) (tokens depth other_depth : ℕ) (cha
 trace_back library other tokens depth other_depth charstring u d e =
     ap trace_of (plays_back library other tokens depth other_depth charstring u d (finishes (outcome library tokens depth charstring) u e))
 
--- the trace behind these bytes
+-- the trace after these bytes
 traced : (o : Outcome) (bytes : List ℕ) → bytes_of o ≡ Ok bytes → (u : Trace) × (trace_of o ≡ Some u) × (bytes ≡ flat u)
 traced (Finishes u) bytes e = (u, refl, cc)
 traced (Stops error) bytes e = absurd (cc)

@@ -1,5 +1,5 @@
 -- The run of a charstring.
-pub mod Behind
+pub mod Following
 pub mod Machine
 pub mod MachineView
 pub mod Output

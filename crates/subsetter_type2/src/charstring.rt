@@ -1,7 +1,7 @@
 //! Type 2 charstrings (Technical Note 5177).
 
 ghost use Rattle.std.specs.Prelude.{◌≡◌, None, length};
-ghost use Rattle.subsetter_base.specs.Gives.{Gives, behind};
+ghost use Rattle.subsetter_base.specs.Gives.{Gives, following};
 ghost use Rattle.subsetter_base.specs.Within.{GivesWithin};
 ghost use Rattle.subsetter_type2.specs.Flat.{flat_form};
 ghost use Rattle.subsetter_type2.specs.ProgramView.{program_bytes};
@@ -77,26 +77,26 @@ impl<'a> Decompiler<'a> {
     ///
     /// `CFFError` where the charstring is malformed or passes a limit, `Unimplemented` where it ends by putting two
     /// glyphs together, `OverflowError` where the bytes pass their bound, before more of them are written.
-    #[tactic(auto, using(crate::proofs::RunsLaws::BehindRuns::behind_none))]
+    #[tactic(auto, using(crate::proofs::RunsLaws::AfterRuns::after_none))]
     pub fn flatten(self, alloc: Global, charstring: CharString<'a>) -> Result<Vec<u8>, Error>
         ensures { GivesWithin (λ bytes. bytes.items) self.entry.bytes length result (flat_form self.entry.library self.entry.tokens self.entry.depth charstring.now) }
     {
         let mut rests: FixedStack<&'a [u8], 64> = FixedStack::new(charstring);
-        self.flatten_behind(Vec::new(alloc), charstring, &mut rests)
+        self.flatten_after(Vec::new(alloc), charstring, &mut rests)
     }
 
-    /// The charstring without its subroutines, written behind these bytes, which count too; they are lost where it can't be.
+    /// The charstring without its subroutines, written after these bytes, which count too; they are lost where it can't be.
     /// What is left of callers goes into a stack, whatever it held, which many charstrings can share.
     ///
     /// The errors are those of `flatten`.
-    pub fn flatten_behind(
+    pub fn flatten_after(
         self,
         bytes: Vec<u8>,
         charstring: CharString<'a>,
         rests: &mut FixedStack<&'a [u8], 64>,
     ) -> Result<Vec<u8>, Error>
-        ensures { GivesWithin (λ all. all.items) self.entry.bytes length result (behind bytes.items (flat_form self.entry.library self.entry.tokens self.entry.depth charstring.now)) }
+        ensures { GivesWithin (λ all. all.items) self.entry.bytes length result (following bytes.items (flat_form self.entry.library self.entry.tokens self.entry.depth charstring.now)) }
     {
-        flattening::flatten_behind(bytes, &self.subroutines, &self.limits, charstring, rests)
+        flattening::flatten_after(bytes, &self.subroutines, &self.limits, charstring, rests)
     }
 }

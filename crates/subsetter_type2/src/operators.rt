@@ -113,10 +113,10 @@ pub const HORIZONTAL_STEM_HINT_MASK: Operator = Operator(OneByteOperator([
     first_byte::HORIZONTAL_STEM_HINT_MASK,
 ]));
 
-/// hintmask (19): which stems count from here on, by the bits of the bytes behind it.
+/// hintmask (19): which stems count from here on, by the bits of the bytes after it.
 pub const HINT_MASK: Operator = Operator(OneByteOperator([first_byte::HINT_MASK]));
 
-/// cntrmask (20): between which stems white space is controlled, by the bits of the bytes behind it.
+/// cntrmask (20): between which stems white space is controlled, by the bits of the bytes after it.
 pub const COUNTER_MASK: Operator = Operator(OneByteOperator([first_byte::COUNTER_MASK]));
 
 /// rmoveto (21): the point moves, and a subpath begins there.

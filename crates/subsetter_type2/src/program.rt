@@ -82,7 +82,7 @@ impl<'a> Program<'a> {
     }
 }
 
-/// Writes the bytes of an instruction behind these.
+/// Writes the bytes of an instruction after these.
 fn append(bytes: &mut Vec<u8>, instruction: &Instruction) -> Result<(), Error>
     ensures ok { OnOk result (bytes.new.items ≡ bytes.old.items ++ instruction_bytes instruction.now) }
     ensures err { IfErr result (λ e. e ≡ OutOfMemory) }

@@ -61,16 +61,16 @@ words_length [] = refl
 words_length (e ∷ es) = omega (arith, length-append (to_be_bytes w16 e) (end_bytes es), words_length es)
 
 -- what stands around a length of 0
-bare_around : (bytes front behind : List ℕ) (n : ℕ) → bytes ≡ front ++ (0 ∷ 0 ∷ behind) → number bytes 0 2 ≡ Some n → length front ≡ 10 + 2 * n → bare_simple bytes ≡ bytes
+bare_around : (bytes front following : List ℕ) (n : ℕ) → bytes ≡ front ++ (0 ∷ 0 ∷ following) → number bytes 0 2 ≡ Some n → length front ≡ 10 + 2 * n → bare_simple bytes ≡ bytes
 unfolding bare_simple
-bare_around bytes front behind n is contours long =
-    let size : number bytes (10 + 2 * n) 2 ≡ Some 0 = number_at bytes front (0 ∷ 0 ∷ []) behind (10 + 2 * n) 2 0 is (sym long) refl refl in
-    let enough : leb (10 + 2 * n + 2 + 0) (length bytes) ≡ true = le-leb _ _ (omega (arith, ap length is, length-append front (0 ∷ 0 ∷ behind))) in
-    let before : take (10 + 2 * n) bytes ≡ front = ap (λ (k : ℕ). take k bytes) (sym long) ∙ ap (take (length front)) is ∙ take-append_seam front (0 ∷ 0 ∷ behind) in
-    let rest : drop (10 + 2 * n + 2 + 0) bytes ≡ behind = ap (λ (k : ℕ). drop k bytes) (omega arith) ∙ ap (drop (length front + 2)) is ∙ drop-append-add front (0 ∷ 0 ∷ behind) 2 in
+bare_around bytes front following n is contours long =
+    let size : number bytes (10 + 2 * n) 2 ≡ Some 0 = number_at bytes front (0 ∷ 0 ∷ []) following (10 + 2 * n) 2 0 is (sym long) refl refl in
+    let enough : leb (10 + 2 * n + 2 + 0) (length bytes) ≡ true = le-leb _ _ (omega (arith, ap length is, length-append front (0 ∷ 0 ∷ following))) in
+    let before : take (10 + 2 * n) bytes ≡ front = ap (λ (k : ℕ). take k bytes) (sym long) ∙ ap (take (length front)) is ∙ take-append_seam front (0 ∷ 0 ∷ following) in
+    let rest : drop (10 + 2 * n + 2 + 0) bytes ≡ following = ap (λ (k : ℕ). drop k bytes) (omega arith) ∙ ap (drop (length front + 2)) is ∙ drop-append-add front (0 ∷ 0 ∷ following) 2 in
     ap (λ (o : Option ℕ). unwrap_or (option_and_then (λ contours. bare_at bytes (10 + 2 * contours)) o) bytes) contours
-    ∙ ap (λ (o : Option ℕ). unwrap_or (option_and_then (λ size. option_and_then (λ behind. Some (take (10 + 2 * n) bytes ++ 0 ∷ 0 ∷ behind)) (from_offset bytes (10 + 2 * n + 2 + size))) o) bytes) size
-    ∙ ap (λ (q : Bool). unwrap_or (option_and_then (λ behind. Some (take (10 + 2 * n) bytes ++ 0 ∷ 0 ∷ behind)) (cond q (Some (drop (10 + 2 * n + 2 + 0) bytes)) None)) bytes) enough
+    ∙ ap (λ (o : Option ℕ). unwrap_or (option_and_then (λ size. option_and_then (λ following. Some (take (10 + 2 * n) bytes ++ 0 ∷ 0 ∷ following)) (from_offset bytes (10 + 2 * n + 2 + size))) o) bytes) size
+    ∙ ap (λ (q : Bool). unwrap_or (option_and_then (λ following. Some (take (10 + 2 * n) bytes ++ 0 ∷ 0 ∷ following)) (cond q (Some (drop (10 + 2 * n + 2 + 0) bytes)) None)) bytes) enough
     ∙ ap (λ (l : List ℕ). l ++ 0 ∷ 0 ∷ drop (10 + 2 * n + 2 + 0) bytes) before ∙ ap (λ (l : List ℕ). front ++ 0 ∷ 0 ∷ l) rest ∙ sym is
 
 -- what is written has none
@@ -81,12 +81,12 @@ bare_already es (p ∷ ps) lt =
     let word : List ℕ = to_be_bytes w16 (length es) in
     let text : List ℕ = parts_bytes es (p ∷ ps) in
     let zeros : List ℕ = replicate ((2 - length text % 2) % 2) 0 in
-    let behind : List ℕ = point_bytes (p ∷ ps) ++ zeros in
+    let following : List ℕ = point_bytes (p ∷ ps) ++ zeros in
     let front : List ℕ = word ++ (box p ps ++ end_bytes es) in
-    let whole : aligned 2 text ≡ front ++ (0 ∷ 0 ∷ behind) = simp append_assoc in
-    let contours : number (aligned 2 text) 0 2 ≡ Some (length es) = number_at (aligned 2 text) [] word ((box p ps ++ end_bytes es) ++ (0 ∷ 0 ∷ behind)) 0 2 (length es) (whole ∙ append_assoc word (box p ps ++ end_bytes es) (0 ∷ 0 ∷ behind)) refl refl (be-u16 (length es) (omega arith)) in
+    let whole : aligned 2 text ≡ front ++ (0 ∷ 0 ∷ following) = simp append_assoc in
+    let contours : number (aligned 2 text) 0 2 ≡ Some (length es) = number_at (aligned 2 text) [] word ((box p ps ++ end_bytes es) ++ (0 ∷ 0 ∷ following)) 0 2 (length es) (whole ∙ append_assoc word (box p ps ++ end_bytes es) (0 ∷ 0 ∷ following)) refl refl (be-u16 (length es) (omega arith)) in
     let long : length front ≡ 10 + 2 * length es = omega (arith, length-append word (box p ps ++ end_bytes es), length-append (box p ps) (end_bytes es), words_length es) in
-    bare_around (aligned 2 text) front behind (length es) whole contours long
+    bare_around (aligned 2 text) front following (length es) whole contours long
 
 -- ---- as it is subset
 

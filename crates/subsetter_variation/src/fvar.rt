@@ -37,7 +37,7 @@ pub fn axis_size(fvar: &[u8]) -> Option<u16>
     Reader::new_at(fvar, AXIS_SIZE).read::<u16>()
 }
 
-/// instanceCount. The records of instances are behind those of axes.
+/// instanceCount. The records of instances are after those of axes.
 pub fn instance_count(fvar: &[u8]) -> Option<u16>
     ensures { result ≡ number fvar.now 12 2 }
 {

@@ -8,7 +8,7 @@ use Rattle.text_glyphs.specs.Laws.{DoAscend, LastIsFound, last_of}
 record IsSplit (key : ℕ → Option ℕ) (c n r : ℕ) : Type 0 where
   within : r ≤ n
   front : (j : ℕ) → j < r → is_up_to c (key j) ≡ true
-  behind : (j : ℕ) → r ≤ j → j < n → is_up_to c (key j) ≡ false
+  following : (j : ℕ) → r ≤ j → j < n → is_up_to c (key j) ≡ false
 
 or_not : (b : Bool) → (b ≡ true) ⊎ (b ≡ false)
 or_not true = inl refl
@@ -72,30 +72,30 @@ module _ (key : ℕ → Option ℕ) (c : ℕ) where
       by (inr g) = g
 
     at_once : (low high : ℕ) → high ≤ low → low ≤ n → ((j : ℕ) → j < low → is_up_to c (key j) ≡ true) → ((j : ℕ) → high ≤ j → j < n → is_up_to c (key j) ≡ false) → IsSplit key c n low
-    at_once low high o h front behind = record { within = h; front = front; behind = λ j l k. behind j (omega arith) k }
+    at_once low high o h front following = record { within = h; front = front; following = λ j l k. following j (omega arith) k }
 
     abbrev Splits : ℕ → Type 0
     Splits steps = (low high : ℕ) → low ≤ high → high ≤ n → high - low < 2 ^ steps → ((j : ℕ) → j < low → is_up_to c (key j) ≡ true) → ((j : ℕ) → high ≤ j → j < n → is_up_to c (key j) ≡ false) → IsSplit key c n (halves key c steps low high)
 
     split_more : (steps : ℕ) → Splits steps → Splits (suc steps)
-    split_more steps fewer_steps low high o h s front behind = by (or_not (nat_lt low high)) (or_not (is_up_to c (key (middle low high)))) where
+    split_more steps fewer_steps low high o h s front following = by (or_not (nat_lt low high)) (or_not (is_up_to c (key (middle low high)))) where
       by : (nat_lt low high ≡ true) ⊎ (nat_lt low high ≡ false) → (is_up_to c (key (middle low high)) ≡ true) ⊎ (is_up_to c (key (middle low high)) ≡ false) → IsSplit key c n (halves key c (suc steps) low high)
       by (inl l) (inl t) =
           let order : low < high = ltb-true low high l in
           let inside = half low high order in
           let fewer = smaller steps (high - low) s in
           subst (IsSplit key c n) (sym (on steps low high l t))
-          (fewer_steps (middle low high + 1) high (omega arith) h (omega arith) (λ j k. a.order c j (middle low high) (omega arith) (omega arith) t) behind)
+          (fewer_steps (middle low high + 1) high (omega arith) h (omega arith) (λ j k. a.order c j (middle low high) (omega arith) (omega arith) t) following)
       by (inl l) (inr f) =
           let order : low < high = ltb-true low high l in
           let inside = half low high order in
           let fewer = smaller steps (high - low) s in
           subst (IsSplit key c n) (sym (back steps low high l f))
           (fewer_steps low (middle low high) (omega arith) (omega arith) (omega arith) front (later (middle low high) f))
-      by (inr l) x = subst (IsSplit key c n) (sym (done steps low high l)) (at_once low high (ltb-false low high l) (omega arith) front behind)
+      by (inr l) x = subst (IsSplit key c n) (sym (done steps low high l)) (at_once low high (ltb-false low high l) (omega arith) front following)
 
     split_none : Splits zero
-    split_none low high o h s front behind = subst (IsSplit key c n) (sym (none low high)) (at_once low high (omega arith) (omega arith) front behind)
+    split_none low high o h s front following = subst (IsSplit key c n) (sym (none low high)) (at_once low high (omega arith) (omega arith) front following)
 
     split : (steps : ℕ) → Splits steps
     split zero = split_none
@@ -114,8 +114,8 @@ module _ (key : ℕ → Option ℕ) (c : ℕ) where
         taken (is_up_to c (key n)) (Some n) (last_of key n c) (s.front n inside) ∙ sym (before_suc n) ∙ ap before (sym same)
     by (inr l) =
         let outside : r ≤ n = ltb-false n r l in
-        missed (is_up_to c (key n)) (Some n) (last_of key n c) (s.behind n outside (omega arith))
-        ∙ fewer r (record { within = outside; front = s.front; behind = λ j h k. s.behind j h (omega arith) })
+        missed (is_up_to c (key n)) (Some n) (last_of key n c) (s.following n outside (omega arith))
+        ∙ fewer r (record { within = outside; front = s.front; following = λ j h k. s.following j h (omega arith) })
 
   last_none : Lasts zero
   last_none r s = let w = s.within in let empty : r ≡ 0 = omega arith in ap before (sym empty)

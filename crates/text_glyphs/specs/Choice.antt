@@ -30,7 +30,7 @@ unfoldable pub encoded_from : Encoding → List ℕ → ℕ → ℕ → Option (
 encoded_from encoding cmap zero at = None
 encoded_from encoding cmap (suc n) at = first_of (encoded_table encoding cmap at) (encoded_from encoding cmap n (at + 8))
 
--- the first such table of a `cmap`: numTables stands at byte 2, the encoding records behind it
+-- the first such table of a `cmap`: numTables stands at byte 2, the encoding records after it
 abbrev pub encoded : Encoding → List ℕ → Option (List ℕ)
 encoded encoding cmap = option_and_then (λ n. encoded_from encoding cmap n 4) (number cmap 2 2)
 

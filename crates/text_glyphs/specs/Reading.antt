@@ -43,7 +43,7 @@ is_entry c = not (is_control c || is_ignorable c)
 abbrev pub entry_at : Begun → ℕ → ℕ → List ℕ → ℕ → Option Entry
 entry_at b at c rest g = if is_entry c then Some (record { glyph = g; start = b.from; end = at + 1 + ignorables_in rest }) else None
 
--- where the text of the next entry begins, behind a character at a place: behind it, but for default ignorables that no entry is before
+-- where the text of the next entry begins, after a character at a place: after it, but for default ignorables that no entry is before
 abbrev pub next_begun : Begun → ℕ → ℕ → Begun
 next_begun b at c = if is_ignorable c && not b.follows then b else record { follows = not (is_control c); from = at + 1 }
 

@@ -89,12 +89,12 @@ fn with_codes(
     let mut found = Vec::with_capacity(alloc, characters.len())?;
     let mut rest = characters;
     let mut left = glyphs;
-    while let [character, behind @ ..] = rest {
+    while let [character, following @ ..] = rest {
         let [glyph, others @ ..] = left else {
             return Ok(found);
         };
         found.push(if_coded(encoding, *character, *glyph))?;
-        rest = behind;
+        rest = following;
         left = others;
     }
     Ok(found)

@@ -21,7 +21,7 @@ pub struct Entry {
     pub glyph: u16,
     /// The place of its first character.
     pub start: usize,
-    /// The place behind its last character.
+    /// The place after its last character.
     pub end: usize,
 }
 
@@ -38,7 +38,7 @@ pub struct ReadText {
 /// Where the text of the next entry begins.
 #[derive(Clone, Copy)]
 pub(crate) struct Begun {
-    /// Whether it begins behind another entry.
+    /// Whether it begins after another entry.
     pub(crate) follows: bool,
     /// The place.
     pub(crate) from: usize,
@@ -88,12 +88,12 @@ fn with_sequences(
     let mut glyphs = Vec::with_capacity(alloc, text.len())?;
     let mut rest = text;
     let mut left = own;
-    while let [character, behind @ ..] = rest {
+    while let [character, following @ ..] = rest {
         let [glyph, others @ ..] = left else {
             return Ok(glyphs);
         };
-        glyphs.push(sequence_before(source, *character, behind).unwrap_or(*glyph))?;
-        rest = behind;
+        glyphs.push(sequence_before(source, *character, following).unwrap_or(*glyph))?;
+        rest = following;
         left = others;
     }
     Ok(glyphs)
@@ -147,7 +147,7 @@ fn entry_at(begun: Begun, place: usize, character: char, rest: &[char], glyph: u
     })
 }
 
-/// Where the text of the next entry begins, behind a character at a place.
+/// Where the text of the next entry begins, after a character at a place.
 fn next_begun(begun: Begun, place: usize, character: char) -> Begun
     requires { place + 1 < 2 ^ 64 }
     ensures { result ≡ next_begun begun place character }
@@ -184,17 +184,17 @@ fn entries_by(alloc: Global, text: &[char], glyphs: &[u16]) -> Result<Vec<Entry>
     let mut place = 0;
     let mut rest = text;
     let mut left = glyphs;
-    while let [character, behind @ ..] = rest {
+    while let [character, following @ ..] = rest {
         let [glyph, others @ ..] = left else {
             return Ok(entries);
         };
         push_entry(
             &mut entries,
-            entry_at(begun, place, *character, behind, *glyph),
+            entry_at(begun, place, *character, following, *glyph),
         )?;
         begun = next_begun(begun, place, *character);
         place += 1;
-        rest = behind;
+        rest = following;
         left = others;
     }
     Ok(entries)
@@ -231,13 +231,13 @@ fn missing_by(alloc: Global, text: &[char], glyphs: &[u16]) -> Result<Vec<usize>
     let mut place = 0;
     let mut rest = text;
     let mut left = glyphs;
-    while let [character, behind @ ..] = rest {
+    while let [character, following @ ..] = rest {
         let [glyph, others @ ..] = left else {
             return Ok(places);
         };
         push_place(&mut places, missing_at(place, *character, *glyph))?;
         place += 1;
-        rest = behind;
+        rest = following;
         left = others;
     }
     Ok(places)

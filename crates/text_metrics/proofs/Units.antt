@@ -19,19 +19,19 @@ divides found units h = grind arith
 units_above : (find : List ℕ → Option (List ℕ)) (units : ℕ) → units_in find ≡ Ok units → 0 < units
 unfolding units_in
 units_above find units h =
-    let (head, _, behind) = bind_ok (ok_or (find (codes "head")) MalformedFont) _ units h in
-    let (found, _, last) = bind_ok (ok_or (units_per_em head) MalformedFont) _ units behind in
+    let (head, _, following) = bind_ok (ok_or (find (codes "head")) MalformedFont) _ units h in
+    let (found, _, last) = bind_ok (ok_or (units_per_em head) MalformedFont) _ units following in
     divides found units last
 
 found_above : (outlines : Outlines) (find : List ℕ → Option (List ℕ)) (settings : List (Tag × ℤ)) (steps : ℕ) (glyphs : List ℕ) (a : Advances) → advances_by outlines find settings steps glyphs ≡ Ok a → 0 < a.units_per_em
 unfolding advances_by
 found_above outlines find settings steps glyphs a h =
-    let (units, is, behind) = bind_ok (units_in find) _ a h in
-    let (widths, _, last) = bind_ok (widths_of outlines find settings steps glyphs) _ a behind in
+    let (units, is, following) = bind_ok (units_in find) _ a h in
+    let (widths, _, last) = bind_ok (widths_of outlines find settings steps glyphs) _ a following in
     subst (λ (b : Advances). 0 < b.units_per_em) (done_is (record { units_per_em = units; widths = widths; heights = heights_in find settings units glyphs }) a last) (units_above find units is)
 
 pub above : (font : Font) (settings : List (Tag × ℤ)) (steps : ℕ) (glyphs : List ℕ) (a : Advances) → advances_of font settings steps glyphs ≡ Ok a → 0 < a.units_per_em
 unfolding advances_of
 above font settings steps glyphs a h =
-    let (o, _, behind) = bind_ok (opening font) _ a h in
-    found_above o.1 (table_in font.bytes o.0) settings steps glyphs a behind
+    let (o, _, following) = bind_ok (opening font) _ a h in
+    found_above o.1 (table_in font.bytes o.0) settings steps glyphs a following

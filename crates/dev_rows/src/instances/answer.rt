@@ -20,17 +20,17 @@ pub enum Answer {
 
 /// Writes the numbers of a list with commas between them, `-` where there are none.
 fn write_list<W: fmt::Write>(f: &mut fmt::Formatter<W>, list: &[i64]) -> fmt::Result {
-    let [first, behind @ ..] = list else {
+    let [first, following @ ..] = list else {
         return f.write_str("-");
     };
     write!(f, "{first}")?;
-    for number in behind {
+    for number in following {
         write!(f, ",{number}")?;
     }
     Ok(())
 }
 
-/// Writes lists of numbers, each behind a blank.
+/// Writes lists of numbers, each after a blank.
 fn write_lists<W: fmt::Write>(f: &mut fmt::Formatter<W>, lists: &[Vec<i64>]) -> fmt::Result {
     for list in lists {
         f.write_str(" ")?;
@@ -39,7 +39,7 @@ fn write_lists<W: fmt::Write>(f: &mut fmt::Formatter<W>, lists: &[Vec<i64>]) -> 
     Ok(())
 }
 
-/// Writes bytes as hexadecimal digits behind a blank, `-` where there are none.
+/// Writes bytes as hexadecimal digits after a blank, `-` where there are none.
 fn write_bytes<W: fmt::Write>(f: &mut fmt::Formatter<W>, bytes: &[u8]) -> fmt::Result {
     f.write_str(if bytes.is_empty() { " -" } else { " " })?;
     for byte in bytes {

@@ -7,7 +7,7 @@ use std::alloc::Global;
 use subsetter_base::GlyphRemapper;
 use subsetter_instance::instance;
 
-/// The words of a row of an instance behind its font.
+/// The words of a row of an instance after its font.
 #[derive(Clone, Copy)]
 pub struct Instance<'a> {
     pub index: &'a str,

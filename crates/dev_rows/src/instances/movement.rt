@@ -16,13 +16,13 @@ use subsetter_variation::glyphs::tuples::{
 };
 
 /// A tuple that is read: whether tuples share their point numbers, how many tuples there are, the first of them, and how
-/// many are behind it.
+/// many are after it.
 #[derive(Drop)]
 struct FirstTuple<'a> {
     is_shared: bool,
     left: u16,
     header: TupleHeader<'a>,
-    behind: u16,
+    following: u16,
 }
 
 /// The first tuple of a glyph, by the bytes of its variations.
@@ -32,12 +32,12 @@ fn first_tuple<'a>(gvar: &Gvar<'a>, bytes: &'a [u8]) -> Option<FirstTuple<'a>>
     let (is_shared, headers) = tuple_headers(bytes)?;
     let left = headers.left();
     let (header, headers) = next_header(gvar, headers)?;
-    let behind = headers.left();
+    let following = headers.left();
     Some(FirstTuple {
         is_shared,
         left,
         header,
-        behind,
+        following,
     })
 }
 
@@ -55,13 +55,13 @@ fn scalars_of(alloc: Global, header: &TupleHeader<'_>) -> Result<Vec<i64>, Failu
 }
 
 /// Whether point numbers are shared, how many tuples there are, whether the first has point numbers of its own, and how many are
-/// behind it.
+/// after it.
 fn counts_of(alloc: Global, tuple: &FirstTuple<'_>) -> Result<Vec<i64>, Failure> {
     let counts = [
         i64::from(tuple.is_shared),
         i64::from(tuple.left),
         i64::from(tuple.header.has_private_numbers()),
-        i64::from(tuple.behind),
+        i64::from(tuple.following),
     ];
     Ok(Vec::from_array(alloc, counts)?)
 }
@@ -85,7 +85,7 @@ fn tuple_of(alloc: Global, points: u32, tuple: &FirstTuple<'_>) -> Result<Answer
 }
 
 /// The first tuple of a glyph of so many points, of a table of one axis: whether point numbers are shared (1, else 0), how many
-/// tuples there are, whether it has point numbers of its own, and how many tuples are behind it; how far it counts at -1, 4096,
+/// tuples there are, whether it has point numbers of its own, and how many tuples are after it; how far it counts at -1, 4096,
 /// 16384 and 16385; its point numbers, none for all; its deltas.
 pub fn tuple(alloc: Global, gvar: &[u8], glyph: &str, points: &str) -> Result<Answer, Failure> {
     let Some(table) = gvar_table(gvar) else {
@@ -107,10 +107,10 @@ pub fn tuple(alloc: Global, gvar: &[u8], glyph: &str, points: &str) -> Result<An
 fn are_ends(start: usize, ends: &[usize], points: usize) -> bool
     ensures { result ≡ true → AreEnds start ends.now points }
 {
-    let [end, behind @ ..] = ends else {
+    let [end, following @ ..] = ends else {
         return start == points;
     };
-    start <= *end && *end < points && are_ends(*end + 1, behind, points)
+    start <= *end && *end < points && are_ends(*end + 1, following, points)
 }
 
 /// Where the points of an outline go at a location in so many steps: the coordinates in parts of 2^30, and the steps that are
@@ -141,7 +141,7 @@ fn points_moved(
     }
 }
 
-/// The words of a row of moved points behind its `gvar`.
+/// The words of a row of moved points after its `gvar`.
 #[derive(Clone, Copy)]
 pub struct Moved<'a> {
     pub glyph: &'a str,

@@ -36,7 +36,7 @@ fn named_if_any<'a>(all: &'a [Named<'_>], name: &str) -> Result<Option<&'a [u8]>
     Ok(Some(bytes_named(all, name)?))
 }
 
-/// What the calls answer for a row of one word behind its name.
+/// What the calls answer for a row of one word after its name.
 fn answer_of_one(
     alloc: Global,
     all: &[Named<'_>],
@@ -116,7 +116,7 @@ fn answer_of_more(
     }
 }
 
-/// What the calls answer for a row, by its kind and the words behind its name.
+/// What the calls answer for a row, by its kind and the words after its name.
 fn answer(alloc: Global, all: &[Named<'_>], kind: &str, words: &[&str]) -> Result<Answer, Failure> {
     match words {
         [name] => answer_of_one(alloc, all, kind, name),
@@ -137,14 +137,14 @@ fn run_line<'a, R: Print>(
         return Ok(());
     }
     let words: Vec<&str> = line.split(' ').collect(alloc)?;
-    let [kind, name, behind @ ..] = words.as_slice() else {
+    let [kind, name, following @ ..] = words.as_slice() else {
         return Err(Failure::Row);
     };
-    if let ("bytes", [digits]) = (*kind, behind) {
+    if let ("bytes", [digits]) = (*kind, following) {
         let bytes = bytes(alloc, digits)?;
         return Ok(all.push(Named { name: *name, bytes })?);
     }
-    let answer = answer(alloc, all, kind, behind)?;
+    let answer = answer(alloc, all, kind, following)?;
     println!(rt; "{name}:{answer}").ok().ok_or(Failure::Write)
 }
 

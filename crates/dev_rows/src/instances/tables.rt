@@ -78,7 +78,7 @@ pub fn region_scalar(alloc: Global, words: &str, at: &str) -> Result<Answer, Fai
     one(alloc, scalar(&region, &at))
 }
 
-/// A list, and how many bytes are behind it.
+/// A list, and how many bytes are after it.
 fn list_and_rest(alloc: Global, list: Vec<i64>, rest: &[u8]) -> Result<Answer, Failure> {
     let count = Vec::from_array(alloc, [count_of(rest.len())?])?;
     Ok(Answer::Lists(Vec::from_array(alloc, [list, count])?))
@@ -92,7 +92,7 @@ pub fn listed(alloc: Global, numbers: &Option<Vec<u32>>) -> Result<Vec<i64>, Fai
     }
 }
 
-/// The points that deltas are given for, none for all, and how many bytes are behind them.
+/// The points that deltas are given for, none for all, and how many bytes are after them.
 pub fn point_numbers(alloc: Global, limit: &str, bytes: &[u8]) -> Result<Answer, Failure> {
     let limit = number(limit)?;
     let mut spare = Vec::new(alloc);
@@ -102,7 +102,7 @@ pub fn point_numbers(alloc: Global, limit: &str, bytes: &[u8]) -> Result<Answer,
     }
 }
 
-/// So many deltas, and how many bytes are behind them.
+/// So many deltas, and how many bytes are after them.
 pub fn deltas(alloc: Global, count: &str, bytes: &[u8]) -> Result<Answer, Failure> {
     match packed::deltas(Vec::new(alloc), number(count)?, bytes) {
         Ok((deltas, rest)) => list_and_rest(alloc, list(alloc, &deltas)?, rest),

@@ -117,32 +117,32 @@ fn options_of(tokens: u32, depth: u32, drop: u32, bytes: u32) -> Result<Options,
     Ok(Options { limits, extras })
 }
 
-/// The choices of a row by its kind, and the words behind them.
+/// The choices of a row by its kind, and the words after them.
 fn choices<'a, 'b>(
     kind: Kind,
     words: &'b [&'a str],
 ) -> Result<(Result<Options, u32>, &'b [&'a str]), Failure> {
     match (kind, words) {
-        (Kind::Subset | Kind::Embed, behind) => Ok((options_of(0, 0, 0, 0), behind)),
-        (Kind::Limits, [tokens, depth, behind @ ..]) => {
-            Ok((limit_options(number(tokens)?, number(depth)?), behind))
+        (Kind::Subset | Kind::Embed, following) => Ok((options_of(0, 0, 0, 0), following)),
+        (Kind::Limits, [tokens, depth, following @ ..]) => {
+            Ok((limit_options(number(tokens)?, number(depth)?), following))
         }
-        (Kind::Options | Kind::EmbedOptions, [tokens, depth, drop, behind @ ..]) => {
+        (Kind::Options | Kind::EmbedOptions, [tokens, depth, drop, following @ ..]) => {
             let options = options_of(number(tokens)?, number(depth)?, number(drop)?, 0);
-            Ok((options, behind))
+            Ok((options, following))
         }
-        (_, [tokens, depth, drop, bytes, behind @ ..]) => {
+        (_, [tokens, depth, drop, bytes, following @ ..]) => {
             let (tokens, depth) = (number(tokens)?, number(depth)?);
             Ok((
                 options_of(tokens, depth, number(drop)?, number(bytes)?),
-                behind,
+                following,
             ))
         }
         _ => Err(Failure::Row),
     }
 }
 
-/// The answer of a row: its status and its font, and behind them its CIDs and its widths, if it has some.
+/// The answer of a row: its status and its font, and after them its CIDs and its widths, if it has some.
 fn expected_of(alloc: Global, words: &[&str]) -> Result<Answer, Failure> {
     let (status, font, cids, widths) = match words {
         [status, font] => (*status, *font, "-", "-"),
@@ -157,7 +157,7 @@ fn expected_of(alloc: Global, words: &[&str]) -> Result<Answer, Failure> {
     })
 }
 
-/// The coordinates of a row by its kind, and the words behind them.
+/// The coordinates of a row by its kind, and the words after them.
 fn coordinates_in<'a, 'b>(
     alloc: Global,
     kind: Kind,
@@ -166,23 +166,23 @@ fn coordinates_in<'a, 'b>(
     if !kind.varies() {
         return Ok((Vec::new(alloc), words));
     }
-    let [list, behind @ ..] = words else {
+    let [list, following @ ..] = words else {
         return Err(Failure::Row);
     };
-    Ok((settings(alloc, list)?, behind))
+    Ok((settings(alloc, list)?, following))
 }
 
-/// Reads a row from its words behind the one that says its kind.
+/// Reads a row from its words after the one that says its kind.
 ///
 /// `Row` where they aren't as the kind has them.
 pub fn read_row<'a>(alloc: Global, kind: Kind, words: &[&'a str]) -> Result<Row<'a>, Failure> {
-    let [name, font, index, glyphs, behind @ ..] = words else {
+    let [name, font, index, glyphs, following @ ..] = words else {
         return Err(Failure::Row);
     };
     let index = number(index)?;
     let glyphs = short_ranges(alloc, glyphs)?;
-    let (coordinates, behind) = coordinates_in(alloc, kind, behind)?;
-    let (options, behind) = choices(kind, behind)?;
+    let (coordinates, following) = coordinates_in(alloc, kind, following)?;
+    let (options, following) = choices(kind, following)?;
     Ok(Row {
         kind,
         name: *name,
@@ -191,6 +191,6 @@ pub fn read_row<'a>(alloc: Global, kind: Kind, words: &[&'a str]) -> Result<Row<
         glyphs,
         coordinates,
         options,
-        expected: expected_of(alloc, behind)?,
+        expected: expected_of(alloc, following)?,
     })
 }

@@ -116,7 +116,12 @@ fn run_line<'a>(
             Ok(Outcome::Nothing)
         }
         ["text", status, text] => run_text(alloc, *status, text),
-        [kind, behind @ ..] => run_row(alloc, fonts, kind_of(kind).ok_or(Failure::Row)?, behind),
+        [kind, following @ ..] => run_row(
+            alloc,
+            fonts,
+            kind_of(kind).ok_or(Failure::Row)?,
+            following,
+        ),
         [] => Err(Failure::Row),
     }
 }

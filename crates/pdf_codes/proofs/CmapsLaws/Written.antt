@@ -1,4 +1,4 @@
--- Lists that are written one piece behind the other.
+-- Lists that are written one piece after the other.
 use Rattle.std.proofs.Common.{◌≡◌, ℕ, ◌+◌, List, ◌++◌, length, ap, ◌∙◌, append_assoc, length-append, arith}
 
 -- where the whole is what was written and the rest, it is so after one piece more

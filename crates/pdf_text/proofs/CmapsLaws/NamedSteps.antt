@@ -17,13 +17,13 @@ use Rattle.pdf_text.proofs.CmapsLaws.CmapLaws.Tokens.{is_plain, all_dark}
 use Rattle.pdf_text.proofs.CmapsLaws.CmapLaws.Blocks.{all_read, all_said, all_rows}
 use Rattle.pdf_text.proofs.CmapsLaws.CmapLaws.Units.{pair_read}
 use Rattle.pdf_text.proofs.CmapsLaws.CmapLaws.Read.{pair_is_row, lines_of}
-use Rattle.pdf_text.proofs.Written.{three_behind_nothing}
+use Rattle.pdf_text.proofs.Written.{three_after_nothing}
 
 -- ---- the text
 
 pub lines_written : (ms : List CidOfCode) (empty w1 w2 w3 : List ℕ) → empty ≡ [] → w1 ≡ empty ++ code_space → w2 ≡ w1 ++ blocks (codes "cidchar") (length ms) (map cid_row ms) → w3 ≡ w2 ++ back → w3 ≡ code_lines (pairs_view ms)
 lines_written ms empty w1 w2 w3 n f g h =
-    three_behind_nothing empty code_space (blocks (codes "cidchar") (length (pairs_view ms)) (map pair_row (pairs_view ms))) back w1 w2 w3 n f
+    three_after_nothing empty code_space (blocks (codes "cidchar") (length (pairs_view ms)) (map pair_row (pairs_view ms))) back w1 w2 w3 n f
     (g ∙ ap (λ (t : List ℕ). w1 ++ t) (as_seen pair_view pair_row (codes "cidchar") ms)) h
 
 -- ---- the tokens
@@ -31,9 +31,9 @@ lines_written ms empty w1 w2 w3 n f g h =
 words_before : List (List ℕ)
 words_before = tokens (codes "/CIDInit /ProcSet findresource begin\n12 dict begin\nbegincmap\n/CIDSystemInfo << /Registry (Adobe) /Ordering (Identity) /Supplement 0 >> def\n/CMapName ")
 
-words_behind : Bool → List (List ℕ)
-words_behind true = tokens (codes "def\n/CMapType 1 def\n/WMode 1 def\n1 begincodespacerange\n<0000> <FFFF>\nendcodespacerange\n")
-words_behind false = tokens (codes "def\n/CMapType 1 def\n1 begincodespacerange\n<0000> <FFFF>\nendcodespacerange\n")
+words_after : Bool → List (List ℕ)
+words_after true = tokens (codes "def\n/CMapType 1 def\n/WMode 1 def\n1 begincodespacerange\n<0000> <FFFF>\nendcodespacerange\n")
+words_after false = tokens (codes "def\n/CMapType 1 def\n1 begincodespacerange\n<0000> <FFFF>\nendcodespacerange\n")
 
 front_read : (rest : List ℕ) → tokens (name_front ++ rest) ≡ words_before ++ tokens (47 ∷ rest)
 unfolding name_front words_before
@@ -42,16 +42,16 @@ front_read rest = refl
 slash_dark : (name : List ℕ) → All IsDark name → All IsDark (47 ∷ name)
 slash_dark name h = All-cons IsDark 47 name (dark 47 (omega arith)) h
 
-behind_read : (vertical : Bool) (name rest : List ℕ) → All IsDark name → tokens (47 ∷ (name ++ (name_back vertical ++ (code_space ++ rest)))) ≡ (47 ∷ name) ∷ (words_behind vertical ++ tokens rest)
-unfolding name_back code_space words_behind
-behind_read true name rest h = first_token (47 ∷ name) 32 (codes "def\n/CMapType 1 def\n/WMode 1 def\n1 begincodespacerange\n<0000> <FFFF>\nendcodespacerange\n" ++ rest) (slash_dark name h) (omega arith) refl
-behind_read false name rest h = first_token (47 ∷ name) 32 (codes "def\n/CMapType 1 def\n1 begincodespacerange\n<0000> <FFFF>\nendcodespacerange\n" ++ rest) (slash_dark name h) (omega arith) refl
+after_read : (vertical : Bool) (name rest : List ℕ) → All IsDark name → tokens (47 ∷ (name ++ (name_back vertical ++ (code_space ++ rest)))) ≡ (47 ∷ name) ∷ (words_after vertical ++ tokens rest)
+unfolding name_back code_space words_after
+after_read true name rest h = first_token (47 ∷ name) 32 (codes "def\n/CMapType 1 def\n/WMode 1 def\n1 begincodespacerange\n<0000> <FFFF>\nendcodespacerange\n" ++ rest) (slash_dark name h) (omega arith) refl
+after_read false name rest h = first_token (47 ∷ name) 32 (codes "def\n/CMapType 1 def\n1 begincodespacerange\n<0000> <FFFF>\nendcodespacerange\n" ++ rest) (slash_dark name h) (omega arith) refl
 
 words : Bool → List ℕ → List (List ℕ)
-words vertical name = words_before ++ ((47 ∷ name) ∷ words_behind vertical)
+words vertical name = words_before ++ ((47 ∷ name) ∷ words_after vertical)
 
 words_are_plain : (vertical : Bool) (name : List ℕ) → is_plain (codes "begincidchar") (words vertical name) ≡ true
-unfolding words_before words_behind words
+unfolding words_before words_after words
 words_are_plain true name = refl
 words_are_plain false name = refl
 
@@ -59,8 +59,8 @@ text_read : (vertical : Bool) (name rest : List ℕ) → All IsDark name → tok
 unfolding words
 text_read vertical name rest h =
     front_read (name ++ (name_back vertical ++ (code_space ++ rest)))
-    ∙ ap (λ (ts : List (List ℕ)). words_before ++ ts) (behind_read vertical name rest h)
-    ∙ sym (append_assoc words_before ((47 ∷ name) ∷ words_behind vertical) (tokens rest))
+    ∙ ap (λ (ts : List (List ℕ)). words_before ++ ts) (after_read vertical name rest h)
+    ∙ sym (append_assoc words_before ((47 ∷ name) ∷ words_after vertical) (tokens rest))
 
 -- ---- the name
 

@@ -17,9 +17,9 @@ end_of : (front t : List ℕ) (n : ℕ) (xs : List (List ℕ)) → get_or (offse
 end_of front t n [] = length-append front (t ++ []) ∙ ap (λ (l : List ℕ). length front + length l) (append-nil t)
 end_of front t n (x ∷ xs) = refl
 
-behind : (front t : List ℕ) (ts : List (List ℕ)) (k m : ℕ) (v : List ℕ) → IsObjectAt ((front ++ t) ++ concat ts) (get_or (offsets_from (length (front ++ t)) ts) k 0) (get_or (offsets_from (length (front ++ t)) ts) (suc k) (length ((front ++ t) ++ concat ts))) m v
+following : (front t : List ℕ) (ts : List (List ℕ)) (k m : ℕ) (v : List ℕ) → IsObjectAt ((front ++ t) ++ concat ts) (get_or (offsets_from (length (front ++ t)) ts) k 0) (get_or (offsets_from (length (front ++ t)) ts) (suc k) (length ((front ++ t) ++ concat ts))) m v
     → IsObjectAt (front ++ (t ++ concat ts)) (get_or (offsets_from (length front + length t) ts) k 0) (get_or (offsets_from (length front + length t) ts) (suc k) (length (front ++ (t ++ concat ts)))) m v
-behind front t ts k m v h =
+following front t ts k m v h =
     let P : List ℕ → Type 0 = λ text. IsObjectAt text (get_or (offsets_from (length (front ++ t)) ts) k 0) (get_or (offsets_from (length (front ++ t)) ts) (suc k) (length text)) m v in
     let Q : ℕ → Type 0 = λ n. IsObjectAt (front ++ (t ++ concat ts)) (get_or (offsets_from n ts) k 0) (get_or (offsets_from n ts) (suc k) (length (front ++ (t ++ concat ts)))) m v in
     subst Q (length-append front t) (subst P (append_assoc front t (concat ts)) h)
@@ -37,7 +37,7 @@ stands front n zero m (x ∷ xs) e l =
       ends = ap (λ i. length front + length (object_text i x)) equal ∙ sym (end_of front (object_text n x) (n + 1) xs);
     }
 stands front n (suc k) m (x ∷ xs) e l =
-    behind front (object_text n x) (objects_from (n + 1) xs) k m (get_or xs k []) (stands (front ++ object_text n x) (n + 1) k m xs (omega arith) (omega arith))
+    following front (object_text n x) (objects_from (n + 1) xs) k m (get_or xs k []) (stands (front ++ object_text n x) (n + 1) k m xs (omega arith) (omega arith))
 
 pub are_at : AreAt
 are_at first values k l =

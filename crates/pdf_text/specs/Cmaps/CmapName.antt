@@ -9,7 +9,7 @@ use Rattle.pdf_text.specs.SubsetName.{tag_of}
 unfoldable pub name_front : List ℕ
 name_front = codes "/CIDInit /ProcSet findresource begin\n12 dict begin\nbegincmap\n/CIDSystemInfo << /Registry (Adobe) /Ordering (Identity) /Supplement 0 >> def\n/CMapName /"
 
--- behind it
+-- after it
 unfoldable pub name_back : Bool → List ℕ
 name_back true = codes " def\n/CMapType 1 def\n/WMode 1 def\n"
 name_back false = codes " def\n/CMapType 1 def\n"

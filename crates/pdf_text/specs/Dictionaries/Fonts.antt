@@ -19,7 +19,7 @@ abbrev pub cmap_name : Option OwnCmap → Bool → List ℕ
 cmap_name (Some cmap) vertical = cmap.name.now
 cmap_name None vertical = identity_name vertical
 
--- behind the name of a font with CFF outlines: a hyphen, and the name of its CMap (9.7.6.1)
+-- after the name of a font with CFF outlines: a hyphen, and the name of its CMap (9.7.6.1)
 abbrev pub name_end : ProgramKind → List ℕ → List ℕ
 name_end TrueType cmap = []
 name_end BareCff cmap = codes "-" ++ cmap

@@ -22,7 +22,7 @@ alike a b = int_eq a.advance b.advance && (int_eq a.x b.x && int_eq a.y b.y)
 abbrev pub no_column : Column
 no_column = record { advance = pos 0; x = pos 0; y = pos 0 }
 
--- the mark of a column behind another: 0 if it is the default one, that of the other if both are alike, else one of its own
+-- the mark of a column after another: 0 if it is the default one, that of the other if both are alike, else one of its own
 abbrev pub mark : DefaultColumn → ℕ → Column → ℕ → Column → ℕ
 mark d own before m c = if is_default d c then 0 else if alike before c then m else own
 
@@ -92,29 +92,29 @@ abbrev pub integer_in : List ℕ → Option ℤ
 integer_in [] = None
 integer_in (b ∷ t) = if b == 45 then option_map (λ n. neg_ℤ (pos n)) (number_in t) else option_map pos (number_in (b ∷ t))
 
--- where a reader stands: between two parts, behind a first CID, behind a last one and up to two numbers, or on a list
+-- where a reader stands: between two parts, after a first CID, after a last one and up to two numbers, or on a list
 pub data State : Type 0 where
   between_spans : State
-  behind_first : ℕ → State
-  behind_last : ℕ → ℕ → State
-  behind_advance : ℕ → ℕ → ℤ → State
-  behind_x : ℕ → ℕ → ℤ → ℤ → State
+  past_first : ℕ → State
+  after_last : ℕ → ℕ → State
+  after_advance : ℕ → ℕ → ℤ → State
+  after_x : ℕ → ℕ → ℤ → ℤ → State
   on_list : ℕ → List Column → State
   on_advance : ℕ → List Column → ℤ → State
   on_x : ℕ → List Column → ℤ → ℤ → State
 
--- nothing stands behind the array
+-- nothing stands after the array
 abbrev pub at_end : List (List ℕ) → Option (List Span)
 at_end [] = Some []
 at_end (t ∷ ts) = None
 
 abbrev pub spans_in : State → List (List ℕ) → Option (List Span)
 spans_in state [] = None
-spans_in between_spans (t ∷ ts) = if bytes_eq t (codes "]") then at_end ts else option_and_then (λ first. spans_in (behind_first first) ts) (number_in t)
-spans_in (behind_first first) (t ∷ ts) = if bytes_eq t (codes "[") then spans_in (on_list first []) ts else option_and_then (λ last. spans_in (behind_last first last) ts) (number_in t)
-spans_in (behind_last first last) (t ∷ ts) = option_and_then (λ a. spans_in (behind_advance first last a) ts) (integer_in t)
-spans_in (behind_advance first last a) (t ∷ ts) = option_and_then (λ x. spans_in (behind_x first last a x) ts) (integer_in t)
-spans_in (behind_x first last a x) (t ∷ ts) = option_and_then (λ y. option_map (λ ss. same_columns first last (record { advance = a; x = x; y = y }) ∷ ss) (spans_in between_spans ts)) (integer_in t)
+spans_in between_spans (t ∷ ts) = if bytes_eq t (codes "]") then at_end ts else option_and_then (λ first. spans_in (past_first first) ts) (number_in t)
+spans_in (past_first first) (t ∷ ts) = if bytes_eq t (codes "[") then spans_in (on_list first []) ts else option_and_then (λ last. spans_in (after_last first last) ts) (number_in t)
+spans_in (after_last first last) (t ∷ ts) = option_and_then (λ a. spans_in (after_advance first last a) ts) (integer_in t)
+spans_in (after_advance first last a) (t ∷ ts) = option_and_then (λ x. spans_in (after_x first last a x) ts) (integer_in t)
+spans_in (after_x first last a x) (t ∷ ts) = option_and_then (λ y. option_map (λ ss. same_columns first last (record { advance = a; x = x; y = y }) ∷ ss) (spans_in between_spans ts)) (integer_in t)
 spans_in (on_list first cs) (t ∷ ts) = if bytes_eq t (codes "]") then option_map (λ ss. listed_columns first cs ∷ ss) (spans_in between_spans ts) else option_and_then (λ a. spans_in (on_advance first cs a) ts) (integer_in t)
 spans_in (on_advance first cs a) (t ∷ ts) = option_and_then (λ x. spans_in (on_x first cs a x) ts) (integer_in t)
 spans_in (on_x first cs a x) (t ∷ ts) = option_and_then (λ y. spans_in (on_list first (cs ++ record { advance = a; x = x; y = y } ∷ [])) ts) (integer_in t)

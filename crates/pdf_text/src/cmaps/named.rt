@@ -40,7 +40,7 @@ fn mode_end(vertical: bool) -> &'static [u8]
 }
 
 /// The name of a CMap with these lines.
-#[tactic(auto, using(crate::proofs::Pieces::two_behind_nothing))]
+#[tactic(auto, using(crate::proofs::Pieces::two_after_nothing))]
 fn name_of(alloc: Global, vertical: bool, lines: &[u8]) -> Result<Vec<u8>, Error>
     ensures ok { IfOk result (λ name. name.items ≡ tag_of lines.now ++ mode_end vertical) }
     ensures err { IfErr result (λ e. e ≡ OutOfMemory) }
@@ -63,7 +63,7 @@ fn write_front(text: &mut Vec<u8>) -> Result<(), Error>
     Ok(())
 }
 
-/// Writes what stands behind the name.
+/// Writes what stands after the name.
 #[tactic(auto, unfolding(crate::specs::Cmaps::CmapName::name_back))]
 fn write_back(text: &mut Vec<u8>, vertical: bool) -> Result<(), Error>
     ensures ok { OnOk result (text.new.items ≡ text.old.items ++ name_back vertical) }
@@ -78,7 +78,7 @@ fn write_back(text: &mut Vec<u8>, vertical: bool) -> Result<(), Error>
 }
 
 /// The text of a CMap with a name.
-#[tactic(auto, using(crate::proofs::Pieces::four_behind_nothing))]
+#[tactic(auto, using(crate::proofs::Pieces::four_after_nothing))]
 fn text_of(alloc: Global, vertical: bool, name: &[u8], lines: &[u8]) -> Result<Vec<u8>, Error>
     ensures ok { IfOk result (λ text. text.items ≡ name_front ++ (name.now ++ (name_back vertical ++ lines.now))) }
     ensures err { IfErr result (λ e. e ≡ OutOfMemory) }

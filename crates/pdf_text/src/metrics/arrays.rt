@@ -54,43 +54,43 @@ fn listed(most: usize, default: u32, widths: &[u32]) -> usize
 {
     let mut n = 0;
     let mut rest = widths;
-    while let [w, behind @ ..] = rest {
+    while let [w, following @ ..] = rest {
         if n == most || *w == default || six_equal(rest) {
             return n;
         }
         n += 1;
-        rest = behind;
+        rest = following;
     }
     n
 }
 
-/// What opens at a width, and how many of those behind it are settled with it.
+/// What opens at a width, and how many of those after it are settled with it.
 #[tactic(auto, using(crate::proofs::MetricsLaws::WidthLaws::Steps::front_more))]
 fn opened<'a>(
     most: usize,
     first: usize,
     default: u32,
     width: u32,
-    behind: &[u32],
+    following: &[u32],
     widths: &'a [u32],
 ) -> (Option<Part<'a>>, usize)
-    requires whole { widths.now ≡ width ∷ behind.now }
+    requires whole { widths.now ≡ width ∷ following.now }
     requires room { first + length widths.now < 2 ^ 64 }
-    ensures part { maybe_view result.0 ≡ opened most first default width behind.now }
-    ensures more { result.1 ≡ more most default width behind.now }
+    ensures part { maybe_view result.0 ≡ opened most first default width following.now }
+    ensures more { result.1 ≡ more most default width following.now }
 {
     if width == default {
         return (None, 0);
     }
     if six_equal(widths) {
-        let n = run(width, behind);
+        let n = run(width, following);
         return (Some(Part::Same(first, first + n, width)), n);
     }
-    let n = listed(most, default, behind);
+    let n = listed(most, default, following);
     (Some(Part::Each(first, &widths[..n + 1])), n)
 }
 
-/// Puts a part behind others, if there is one.
+/// Puts a part after others, if there is one.
 #[tactic(auto, using(crate::proofs::MetricsLaws::WidthLaws::Steps::one_more_part))]
 fn push_part<'a>(parts: &mut Vec<Part<'a>>, part: Option<Part<'a>>) -> Result<(), Error>
     ensures ok { OnOk result (parts_view parts.new.items ≡ parts_view parts.old.items ++ maybe_view part.entry) }
@@ -102,7 +102,7 @@ fn push_part<'a>(parts: &mut Vec<Part<'a>>, part: Option<Part<'a>>) -> Result<()
     Ok(())
 }
 
-/// Goes past a width, and puts behind the parts what opens there, if it isn't settled; how many of the next are settled.
+/// Goes past a width, and puts after the parts what opens there, if it isn't settled; how many of the next are settled.
 #[tactic(auto, using(crate::proofs::MetricsLaws::WidthLaws::Steps::past_settled, crate::proofs::MetricsLaws::WidthLaws::Steps::past_opened))]
 fn step<'a>(
     parts: &mut Vec<Part<'a>>,
@@ -111,23 +111,23 @@ fn step<'a>(
     first: usize,
     default: u32,
     width: u32,
-    behind: &[u32],
+    following: &[u32],
     widths: &'a [u32],
 ) -> Result<usize, Error>
-    requires whole { widths.now ≡ width ∷ behind.now }
+    requires whole { widths.now ≡ width ∷ following.now }
     requires room { first + length widths.now < 2 ^ 64 }
-    ensures ok { IfOk result (λ n. parts_view parts.new.items ++ entries_from most (first + 1) default n behind.now ≡ parts_view parts.old.items ++ entries_from most first default settled widths.now) }
+    ensures ok { IfOk result (λ n. parts_view parts.new.items ++ entries_from most (first + 1) default n following.now ≡ parts_view parts.old.items ++ entries_from most first default settled widths.now) }
     ensures err { IfErr result (λ e. e ≡ OutOfMemory) }
 {
     if settled > 0 {
         return Ok(settled - 1);
     }
-    let (part, more) = opened(most, first, default, width, behind, widths);
+    let (part, more) = opened(most, first, default, width, following, widths);
     push_part(parts, part)?;
     Ok(more)
 }
 
-/// The parts of an array for widths from CID 0 on. Behind its first a list has at most so many.
+/// The parts of an array for widths from CID 0 on. After its first a list has at most so many.
 #[tactic(auto, using(crate::proofs::MetricsLaws::WidthLaws::Steps::headed, crate::proofs::MetricsLaws::WidthLaws::Steps::all_past))]
 pub fn parts_of(
     alloc: Global,
@@ -142,12 +142,12 @@ pub fn parts_of(
     let mut settled = 0;
     let mut first = 0;
     let mut rest = widths;
-    while let [width, behind @ ..] = rest {
+    while let [width, following @ ..] = rest {
         settled = step(
-            &mut parts, most, settled, first, default, *width, behind, rest,
+            &mut parts, most, settled, first, default, *width, following, rest,
         )?;
         first += 1;
-        rest = behind;
+        rest = following;
     }
     Ok(parts)
 }
@@ -190,9 +190,12 @@ pub fn lists_of(alloc: Global, most: usize, widths: &[u32]) -> Result<Vec<Part<'
     let mut parts = Vec::new(alloc);
     let mut first = 0;
     while first < widths.len() {
-        let behind = first + most.min(widths.len() - first);
-        push_part(&mut parts, Some(Part::Each(first, &widths[first..behind])))?;
-        first = behind;
+        let following = first + most.min(widths.len() - first);
+        push_part(
+            &mut parts,
+            Some(Part::Each(first, &widths[first..following])),
+        )?;
+        first = following;
     }
     Ok(parts)
 }
@@ -273,7 +276,7 @@ fn write_parts(text: &mut Vec<u8>, parts: &[Part<'_>]) -> Result<(), Error>
 }
 
 /// The text of the parts.
-#[tactic(auto, using(crate::proofs::Written::three_behind_nothing))]
+#[tactic(auto, using(crate::proofs::Written::three_after_nothing))]
 fn array_of(alloc: Global, widths: &[u32], default: u32) -> Result<Vec<u8>, Error>
     ensures ok { IfOk result (λ text. text.items ≡ array_text (entries widths.now default)) }
     ensures err { IfErr result (λ e. e ≡ OutOfMemory) }

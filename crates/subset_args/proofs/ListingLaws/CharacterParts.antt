@@ -12,7 +12,7 @@ one_more (Some found) (Some more) old new total h t =
 one_more (Some found) None old new total h t = t
 one_more None q old new total h t = grind arith
 
--- what is left to list, behind one more part
+-- what is left to list, after one more part
 pub after_part : (old new part : List ℕ) (parts : List (List ℕ)) (total : Option (List ℕ)) → option_map (λ more. old ++ more) (part_characters part) ≡ Some new → option_map (λ more. old ++ more) (parts_characters (part ∷ parts)) ≡ total → option_map (λ more. new ++ more) (parts_characters parts) ≡ total
 after_part old new part parts total h t = one_more (part_characters part) (parts_characters parts) old new total h t
 

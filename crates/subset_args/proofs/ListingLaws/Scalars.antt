@@ -9,11 +9,11 @@ kept : (b : Bool) (x : ℕ) (rest : List ℕ) → (if b then x ∷ rest else res
 kept true x rest = refl
 kept false x rest = refl
 
--- the first code, and those behind it
+-- the first code, and those after it
 filter_step : (first end : ℕ) → first < end → filter is_scalar (counting first (end - first)) ≡ filter is_scalar (counting first 1) ++ filter is_scalar (counting (first + 1) (end - (first + 1)))
 filter_step first end h = ap (filter is_scalar) (counting_step first end h) ∙ kept (is_scalar first) first (filter is_scalar (counting (first + 1) (end - (first + 1))))
 
--- what is left to add, behind one more code
+-- what is left to add, after one more code
 pub after_code : (old new : List ℕ) (code end : ℕ) (total : List ℕ) → code < end → new ≡ old ++ filter is_scalar (counting code 1) → old ++ filter is_scalar (counting code (end - code)) ≡ total → new ++ filter is_scalar (counting (code + 1) (end - (code + 1))) ≡ total
 after_code old new code end total h n t =
     let rest = filter is_scalar (counting (code + 1) (end - (code + 1))) in

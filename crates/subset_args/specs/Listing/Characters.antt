@@ -25,7 +25,7 @@ hex_in word = option_and_then (λ code. if nat_lt code 0x110000 then Some code e
 abbrev pub is_plus : ℕ → Bool
 is_plus b = b == 43
 
--- `U+` may be in front of it, or `u+`
+-- `U+` may be before it, or `u+`
 abbrev pub is_mark : List ℕ → Bool
 is_mark word = bytes_eq word (codes "U") || bytes_eq word (codes "u")
 

@@ -25,7 +25,7 @@ abbrev pub wrong_codes : List ℕ → Option Wrong
 wrong_codes [] = None
 wrong_codes (b ∷ part) = if codes_descend (b ∷ part) then Some CodesDescend else wrong_if Codes (codes_in (b ∷ part))
 
--- a tag is in front of the equals sign
+-- a tag is before the equals sign
 abbrev pub wrong_setting : List ℕ → Wrong
 wrong_setting name = if is_some (tag_of name) then Coordinate else WrongTag
 

@@ -3,13 +3,13 @@
 ghost use Rattle.std.specs.Prelude.{◌≡◌, None};
 ghost use Rattle.std.specs.Option.{option_copied, option_map};
 ghost use Rattle.std.specs.Result.{is_ok};
-ghost use Rattle.subset_args.specs.Forms.{is_same, without_pdf, wrong_file, wrong_pdf, names_position, begins_with_digit, numbers, listed_behind, plain_with, plain_at, plain, unless_behind, joined_at, parsed, has_output, free, first_late, say_position, beside_input, wrong_at, second, before, alone, parsed_behind, from_input, asked};
+ghost use Rattle.subset_args.specs.Forms.{is_same, without_pdf, wrong_file, wrong_pdf, names_position, begins_with_digit, numbers, listed_after, plain_with, plain_at, plain, unless_after, joined_at, parsed, has_output, free, first_late, say_position, beside_input, wrong_at, second, before, alone, parsed_after, from_input, asked};
 ghost use Rattle.subset_args.specs.Mistakes.{fault_view, read_view};
 ghost use Rattle.subset_args.specs.View.{chosen_view, given_view, parsed_view, asked_view, words_view};
 
 use crate::mistakes::{Mistake, Wrong, mistake_in};
 use crate::options::chosen::Chosen;
-use crate::options::joined::{Given, joined, says_position, wrong_behind, wrong_place};
+use crate::options::joined::{Given, joined, says_position, wrong_after, wrong_place};
 use crate::options::names::{Kind, kind_of};
 use crate::words::u32_of;
 
@@ -100,9 +100,9 @@ fn numbers(list: &str) -> Result<Option<&str>, Mistake<'_>>
     Ok(Some(list))
 }
 
-/// The list of glyphs behind INDEX, which options may have in its place.
-fn listed_behind<'a>(are_given: bool, words: &'a [String]) -> Result<Option<&'a str>, Mistake<'a>>
-    ensures { read_view (λ listed. option_copied listed) result ≡ listed_behind are_given (words_view words.now) }
+/// The list of glyphs after INDEX, which options may have in its place.
+fn listed_after<'a>(are_given: bool, words: &'a [String]) -> Result<Option<&'a str>, Mistake<'a>>
+    ensures { read_view (λ listed. option_copied listed) result ≡ listed_after are_given (words_view words.now) }
 {
     match (are_given, words) {
         (false, []) => Err(mistake_in(Wrong::NoGlyphs, "")),
@@ -113,7 +113,7 @@ fn listed_behind<'a>(are_given: bool, words: &'a [String]) -> Result<Option<&'a 
     }
 }
 
-/// IN, OUT and INDEX, and what is behind them.
+/// IN, OUT and INDEX, and what is after them.
 fn plain_with<'a>(
     chosen: Chosen<'a>,
     input: &'a str,
@@ -123,7 +123,7 @@ fn plain_with<'a>(
 ) -> Result<Asked<'a>, Mistake<'a>>
     ensures { read_view asked_view result ≡ plain_with (chosen_view chosen.entry) input.now output.now index (words_view words.now) }
 {
-    let listed = listed_behind(chosen.sources.are_given(), words)?;
+    let listed = listed_after(chosen.sources.are_given(), words)?;
     if let Some(wrong) = wrong_pdf(&chosen, Some(output)) {
         return Err(wrong);
     }
@@ -136,7 +136,7 @@ fn plain_with<'a>(
     })
 }
 
-/// IN and OUT, and what is behind them.
+/// IN and OUT, and what is after them.
 fn plain_at<'a>(
     chosen: Chosen<'a>,
     input: &'a str,
@@ -145,11 +145,11 @@ fn plain_at<'a>(
 ) -> Result<Asked<'a>, Mistake<'a>>
     ensures { read_view asked_view result ≡ plain_at (chosen_view chosen.entry) input.now output.now (words_view words.now) }
 {
-    let [index, behind @ ..] = words else {
+    let [index, following @ ..] = words else {
         return Err(mistake_in(Wrong::NoIndex, ""));
     };
     match u32_of(index) {
-        Some(number) => plain_with(chosen, input, output, number, behind),
+        Some(number) => plain_with(chosen, input, output, number, following),
         None => Err(mistake_in(Wrong::Index, index)),
     }
 }
@@ -162,35 +162,35 @@ fn plain<'a>(chosen: Chosen<'a>, words: &'a [String]) -> Result<Asked<'a>, Mista
     match words {
         [] => Err(mistake_in(Wrong::NoInput, "")),
         [_] => Err(mistake_in(Wrong::NoOutput, "")),
-        [input, output, behind @ ..] => {
+        [input, output, following @ ..] => {
             if names_position(&chosen) {
                 return Err(mistake_in(Wrong::BesideInput, output));
             }
-            plain_at(chosen, input, output, behind)
+            plain_at(chosen, input, output, following)
         }
     }
 }
 
-/// What the options in front of other arguments say.
+/// What the options before other arguments say.
 #[derive(Clone, Copy)]
 pub enum Parsed<'a> {
     /// The help is wanted.
     Help,
     /// The version is wanted.
     Version,
-    /// What is chosen, whether `--` ended the options, and the arguments behind them.
+    /// What is chosen, whether `--` ended the options, and the arguments after them.
     Chosen(Chosen<'a>, bool, &'a [String]),
 }
 
-/// An option that is no option behind IN.
-fn unless_behind<'a>(
-    is_behind: bool,
+/// An option that is no option after IN.
+fn unless_after<'a>(
+    is_after: bool,
     word: &'a str,
     parsed: Parsed<'a>,
 ) -> Result<Parsed<'a>, Mistake<'a>>
-    ensures { read_view parsed_view result ≡ unless_behind is_behind word.now (parsed_view parsed.entry) }
+    ensures { read_view parsed_view result ≡ unless_after is_after word.now (parsed_view parsed.entry) }
 {
-    if is_behind {
+    if is_after {
         return Err(mistake_in(Wrong::Late, word));
     }
     Ok(parsed)
@@ -209,46 +209,46 @@ fn is_plain(chosen: Chosen<'_>, words: &[String]) -> bool
 /// A value in the same word, where the arguments from it on aren't of the plain form: then it is IN.
 fn joined_at<'a>(
     chosen: Chosen<'_>,
-    is_behind: bool,
+    is_after: bool,
     word: &'a str,
     words: &[String],
 ) -> Option<Given<'a>>
-    ensures { option_map given_view result ≡ joined_at (chosen_view chosen.entry) is_behind word.now (words_view words.now) }
+    ensures { option_map given_view result ≡ joined_at (chosen_view chosen.entry) is_after word.now (words_view words.now) }
 {
-    if !is_behind && is_plain(chosen, words) {
+    if !is_after && is_plain(chosen, words) {
         return None;
     }
     joined(word)
 }
 
-/// What the options in front of IN, or behind it, say, besides what is chosen already.
+/// What the options before IN, or after it, say, besides what is chosen already.
 pub fn parse_options<'a>(
     chosen: Chosen<'a>,
-    is_behind: bool,
+    is_after: bool,
     words: &'a [String],
 ) -> Result<Parsed<'a>, Mistake<'a>>
-    ensures { read_view parsed_view result ≡ parsed None (chosen_view chosen.entry) is_behind (words_view words.now) }
+    ensures { read_view parsed_view result ≡ parsed None (chosen_view chosen.entry) is_after (words_view words.now) }
 {
-    let [word, behind @ ..] = words else {
+    let [word, following @ ..] = words else {
         return Ok(Parsed::Chosen(chosen, false, words));
     };
     match kind_of(word) {
         Kind::Switch(switch) => {
-            parse_options(chosen.with_switch(switch, word)?, is_behind, behind)
+            parse_options(chosen.with_switch(switch, word)?, is_after, following)
         }
         Kind::Setting(setting) => {
-            let [value, rest @ ..] = behind else {
+            let [value, rest @ ..] = following else {
                 return Err(mistake_in(Wrong::NoValue, word));
             };
-            parse_options(chosen.with_setting(setting, word, value)?, is_behind, rest)
+            parse_options(chosen.with_setting(setting, word, value)?, is_after, rest)
         }
-        Kind::Help => unless_behind(is_behind, word, Parsed::Help),
-        Kind::Version => unless_behind(is_behind, word, Parsed::Version),
-        Kind::End => Ok(Parsed::Chosen(chosen, true, behind)),
-        Kind::Place => match joined_at(chosen, is_behind, word, words) {
+        Kind::Help => unless_after(is_after, word, Parsed::Help),
+        Kind::Version => unless_after(is_after, word, Parsed::Version),
+        Kind::End => Ok(Parsed::Chosen(chosen, true, following)),
+        Kind::Place => match joined_at(chosen, is_after, word, words) {
             Some(given) => {
                 let more = chosen.with_setting(given.setting, given.word, given.value)?;
-                parse_options(more, is_behind, behind)
+                parse_options(more, is_after, following)
             }
             None => Ok(Parsed::Chosen(chosen, false, words)),
         },
@@ -281,16 +281,16 @@ fn free<'a>(chosen: Chosen<'a>, input: &'a str) -> Result<Asked<'a>, Mistake<'a>
     })
 }
 
-/// The first option behind IN, or `--axes`, `--info` or `--batch` there.
+/// The first option after IN, or `--axes`, `--info` or `--batch` there.
 fn first_late(words: &[String]) -> Option<Mistake<'_>>
     ensures { option_map fault_view result ≡ first_late (words_view words.now) }
 {
     let mut rest = words;
-    while let [word, behind @ ..] = rest {
-        if let Some(wrong) = wrong_behind(word) {
+    while let [word, following @ ..] = rest {
+        if let Some(wrong) = wrong_after(word) {
             return Some(mistake_in(wrong, word));
         }
-        rest = behind;
+        rest = following;
     }
     None
 }
@@ -300,11 +300,11 @@ fn say_position(words: &[String]) -> bool
     ensures { result ≡ say_position (words_view words.now) }
 {
     let mut rest = words;
-    while let [word, behind @ ..] = rest {
+    while let [word, following @ ..] = rest {
         if says_position(word) {
             return true;
         }
-        rest = behind;
+        rest = following;
     }
     false
 }
@@ -313,22 +313,22 @@ fn say_position(words: &[String]) -> bool
 fn beside_input<'a>(
     wrong: Mistake<'a>,
     chosen: &Chosen<'_>,
-    behind: &'a [String],
+    following: &'a [String],
     word: &'a str,
     words: &[String],
 ) -> Mistake<'a>
-    ensures { fault_view result ≡ beside_input (fault_view wrong.entry) (chosen_view chosen.now) (words_view behind.now) word.now (words_view words.now) }
+    ensures { fault_view result ≡ beside_input (fault_view wrong.entry) (chosen_view chosen.now) (words_view following.now) word.now (words_view words.now) }
 {
     if names_position(chosen) || say_position(words) {
         return mistake_in(Wrong::BesideInput, word);
     }
-    match first_late(behind) {
+    match first_late(following) {
         Some(late) => late,
         None => wrong,
     }
 }
 
-/// What is wrong with an argument in the place of IN or behind it, by itself: nothing where it is behind `--`.
+/// What is wrong with an argument in the place of IN or after it, by itself: nothing where it is after `--`.
 fn wrong_at(is_ended: bool, word: &str) -> Option<Wrong>
     ensures { result ≡ wrong_at is_ended word.now }
 {
@@ -340,60 +340,60 @@ fn second<'a>(
     wrong: Mistake<'a>,
     chosen: &Chosen<'_>,
     is_ended: bool,
-    behind: &'a [String],
+    following: &'a [String],
     word: &'a str,
     words: &[String],
 ) -> Mistake<'a>
-    ensures { fault_view result ≡ second (fault_view wrong.entry) (chosen_view chosen.now) is_ended (words_view behind.now) word.now (words_view words.now) }
+    ensures { fault_view result ≡ second (fault_view wrong.entry) (chosen_view chosen.now) is_ended (words_view following.now) word.now (words_view words.now) }
 {
     match wrong_at(is_ended, word) {
         Some(wrong) => mistake_in(wrong, word),
-        None => beside_input(wrong, chosen, behind, word, words),
+        None => beside_input(wrong, chosen, following, word, words),
     }
 }
 
-/// IN with all options, and the arguments behind these.
+/// IN with all options, and the arguments after these.
 fn before<'a>(
     wrong: Mistake<'a>,
     chosen: Chosen<'a>,
     is_ended: bool,
     input: &'a str,
-    behind: &'a [String],
+    following: &'a [String],
     words: &'a [String],
 ) -> Result<Asked<'a>, Mistake<'a>>
-    ensures { read_view asked_view result ≡ before (fault_view wrong.entry) (chosen_view chosen.entry) is_ended input.now (words_view behind.now) (words_view words.now) }
+    ensures { read_view asked_view result ≡ before (fault_view wrong.entry) (chosen_view chosen.entry) is_ended input.now (words_view following.now) (words_view words.now) }
 {
     match words {
         [] => free(chosen, input),
-        [word, others @ ..] => Err(second(wrong, &chosen, is_ended, behind, word, others)),
+        [word, others @ ..] => Err(second(wrong, &chosen, is_ended, following, word, others)),
     }
 }
 
-/// IN, alone beside the options behind it.
+/// IN, alone beside the options after it.
 fn alone<'a>(
     wrong: Mistake<'a>,
     input: &'a str,
-    behind: &'a [String],
+    following: &'a [String],
     parsed: Parsed<'a>,
 ) -> Result<Asked<'a>, Mistake<'a>>
-    ensures { read_view asked_view result ≡ alone (fault_view wrong.entry) input.now (words_view behind.now) (parsed_view parsed.entry) }
+    ensures { read_view asked_view result ≡ alone (fault_view wrong.entry) input.now (words_view following.now) (parsed_view parsed.entry) }
 {
     match parsed {
         Parsed::Help => Err(wrong),
         Parsed::Version => Err(wrong),
         Parsed::Chosen(chosen, is_ended, words) => {
-            before(wrong, chosen, is_ended, input, behind, words)
+            before(wrong, chosen, is_ended, input, following, words)
         }
     }
 }
 
-/// The options behind IN; there are none behind `--`.
-fn parse_behind<'a>(
+/// The options after IN; there are none after `--`.
+fn parse_after<'a>(
     chosen: Chosen<'a>,
     is_ended: bool,
     words: &'a [String],
 ) -> Result<Parsed<'a>, Mistake<'a>>
-    ensures { read_view parsed_view result ≡ parsed_behind (chosen_view chosen.entry) is_ended (words_view words.now) }
+    ensures { read_view parsed_view result ≡ parsed_after (chosen_view chosen.entry) is_ended (words_view words.now) }
 {
     if is_ended {
         return Ok(Parsed::Chosen(chosen, true, words));
@@ -410,14 +410,14 @@ fn from_input<'a>(
 ) -> Result<Asked<'a>, Mistake<'a>>
     ensures { read_view asked_view result ≡ from_input (fault_view wrong.entry) (chosen_view chosen.entry) is_ended (words_view words.now) }
 {
-    let [input, behind @ ..] = words else {
+    let [input, following @ ..] = words else {
         return Err(wrong);
     };
     if let Some(wrong) = wrong_at(is_ended, input) {
         return Err(mistake_in(wrong, input));
     }
-    match parse_behind(chosen, is_ended, behind) {
-        Ok(parsed) => alone(wrong, input, behind, parsed),
+    match parse_after(chosen, is_ended, following) {
+        Ok(parsed) => alone(wrong, input, following, parsed),
         Err(other) => Err(other),
     }
 }

@@ -114,10 +114,10 @@ fn each_requested<'a>(alloc: Global, sources: &[Source<'a>]) -> Result<Vec<Glyph
 {
     let mut glyphs = Vec::new(alloc);
     let mut rest = sources;
-    while let [source, behind @ ..] = rest {
+    while let [source, following @ ..] = rest {
         let more = by_source(alloc, *source)?;
         push_glyphs(&mut glyphs, more)?;
-        rest = behind;
+        rest = following;
     }
     Ok(glyphs)
 }
@@ -174,14 +174,14 @@ pub fn wrong_stream<'a>(is_taken: bool, sources: &[Source<'_>]) -> Option<Mistak
 {
     let mut is_taken = is_taken;
     let mut rest = sources;
-    while let [source, behind @ ..] = rest {
+    while let [source, following @ ..] = rest {
         if let Some(kind) = stream_kind(*source) {
             if is_taken {
                 return Some(mistake_in(Wrong::InputTwice, file_option(kind)));
             }
             is_taken = true;
         }
-        rest = behind;
+        rest = following;
     }
     None
 }

@@ -4,7 +4,7 @@ ghost use Rattle.std.specs.Prelude.{◌≡◌, map, IfOk};
 ghost use Rattle.std.specs.Option.{option_map};
 ghost use Rattle.subset_args.specs.Mistakes.{fault_view, Gives};
 ghost use Rattle.subset_args.specs.Request.{request_with, request_at, request_of, request_from, command_of, command_by_options, instead_of, shown_of, shown_by, batch_of, command};
-ghost use Rattle.subset_args.specs.declared.mistakes.Wrong.TheVariants.{BehindShown};
+ghost use Rattle.subset_args.specs.declared.mistakes.Wrong.TheVariants.{AfterShown};
 ghost use Rattle.subset_args.specs.View.{chosen_view, parsed_view, asked_view, requested_view, position_view, job_view, command_view, words_view};
 
 use crate::jobs::command::{Command, Glyphs, Job, Position, Topic};
@@ -80,7 +80,7 @@ fn read_job<'a>(
     }
 }
 
-/// What the options and the arguments behind them request.
+/// What the options and the arguments after them request.
 fn read_parsed<'a>(alloc: Global, parsed: Parsed<'a>) -> Result<Command, Unread<'a>>
     ensures { Gives command_view result (command_of (parsed_view parsed.entry)) }
 {
@@ -113,7 +113,7 @@ fn instead_of<'a>(input: &'a str, wrong: Mistake<'a>) -> Mistake<'a>
         return wrong;
     }
     if is_option(kind_of(input)) || topic_of(input).is_some() {
-        mistake_in(Wrong::BehindShown, input)
+        mistake_in(Wrong::AfterShown, input)
     } else {
         mistake_in(Wrong::Unknown, input)
     }
@@ -121,9 +121,9 @@ fn instead_of<'a>(input: &'a str, wrong: Mistake<'a>) -> Mistake<'a>
 
 /// What is wrong where an argument follows INDEX.
 fn after_index<'a>(input: &'a str, word: &'a str) -> Mistake<'a>
-    ensures { fault_view result ≡ instead_of input.now (record { wrong = BehindShown; word = word.now }) }
+    ensures { fault_view result ≡ instead_of input.now (record { wrong = AfterShown; word = word.now }) }
 {
-    instead_of(input, mistake_in(Wrong::BehindShown, word))
+    instead_of(input, mistake_in(Wrong::AfterShown, word))
 }
 
 /// What the arguments `FONT [INDEX]` show. INDEX is 0 where it isn't given.
@@ -145,24 +145,24 @@ fn read_shown<'a>(topic: Topic, json: bool, words: &'a [String]) -> Result<Comma
 fn read_topic<'a>(topic: Topic, words: &'a [String]) -> Result<Command, Unread<'a>>
     ensures { Gives command_view result (shown_by topic (words_view words.now)) }
 {
-    let [word, behind @ ..] = words else {
+    let [word, following @ ..] = words else {
         return Err(Unread::Mistake(mistake_in(Wrong::NoInput, "")));
     };
     if word.as_str() == "--json" {
-        read_shown(topic, true, behind)
+        read_shown(topic, true, following)
     } else {
         read_shown(topic, false, words)
     }
 }
 
-/// What the arguments behind `--batch` request: FILE.
+/// What the arguments after `--batch` request: FILE.
 fn read_batch<'a>(words: &'a [String]) -> Result<Command, Unread<'a>>
     ensures { Gives command_view result (batch_of (words_view words.now)) }
 {
     match words {
         [] => Err(Unread::Mistake(mistake_in(Wrong::NoBatchFile, ""))),
         [file] => Ok(Command::Batch(file.clone()?)),
-        [_, word, ..] => Err(Unread::Mistake(mistake_in(Wrong::BehindBatch, word))),
+        [_, word, ..] => Err(Unread::Mistake(mistake_in(Wrong::AfterBatch, word))),
     }
 }
 
@@ -175,14 +175,14 @@ fn read_batch<'a>(words: &'a [String]) -> Result<Command, Unread<'a>>
 pub fn read_words<'a>(alloc: Global, words: &'a [String]) -> Result<Command, Unread<'a>>
     ensures { Gives command_view result (command (words_view words.now)) }
 {
-    let [word, behind @ ..] = words else {
+    let [word, following @ ..] = words else {
         return read_by_options(alloc, words);
     };
     if is_batch(word) {
-        return read_batch(behind);
+        return read_batch(following);
     }
     match topic_of(word) {
-        Some(topic) => read_topic(topic, behind),
+        Some(topic) => read_topic(topic, following),
         None => read_by_options(alloc, words),
     }
 }

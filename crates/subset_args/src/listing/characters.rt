@@ -48,14 +48,14 @@ fn hex_of(word: &str) -> Option<u32>
     if code < 0x110000 { Some(code) } else { None }
 }
 
-/// Whether a text is in front of the plus of `U+0041`.
+/// Whether a text is before the plus of `U+0041`.
 fn is_mark(word: &str) -> bool
     ensures { result ≡ is_mark word.now }
 {
     word == "U" || word == "u"
 }
 
-/// The code whose digits are behind a mark and a plus.
+/// The code whose digits are after a mark and a plus.
 fn marked(mark: &str, digits: &str) -> Option<u32>
     ensures { result ≡ marked mark.now digits.now }
 {

@@ -118,11 +118,11 @@ fn first_wrong<'a>(listing: Listing, parts: &[&'a str]) -> Mistake<'a>
     ensures { fault_view result ≡ first_wrong listing (map (λ part. part.now) parts.now) }
 {
     let mut rest = parts;
-    while let [part, behind @ ..] = rest {
+    while let [part, following @ ..] = rest {
         if let Some(wrong) = wrong_part(listing, part) {
             return mistake_in(wrong, part);
         }
-        rest = behind;
+        rest = following;
     }
     mistake_in(Wrong::TooMany, list_option(listing))
 }

@@ -2,7 +2,7 @@
 
 ghost use Rattle.std.specs.Prelude.{◌≡◌};
 ghost use Rattle.std.specs.Option.{option_map};
-ghost use Rattle.subset_args.specs.Forms.{topic_of, is_batch, looks_like_option, long_setting, joined, not_first, wrong_place, wrong_behind, is_option, says_position};
+ghost use Rattle.subset_args.specs.Forms.{topic_of, is_batch, looks_like_option, long_setting, joined, not_first, wrong_place, wrong_after, is_option, says_position};
 ghost use Rattle.subset_args.specs.View.{given_view};
 
 use crate::jobs::command::Topic;
@@ -105,9 +105,9 @@ pub fn is_option(kind: Kind) -> bool
     }
 }
 
-/// What is wrong with an argument behind IN that is an option.
-pub fn wrong_behind(word: &str) -> Option<Wrong>
-    ensures { result ≡ wrong_behind word.now }
+/// What is wrong with an argument after IN that is an option.
+pub fn wrong_after(word: &str) -> Option<Wrong>
+    ensures { result ≡ wrong_after word.now }
 {
     if is_option(kind_of(word)) || joined(word).is_some() {
         return Some(Wrong::Late);

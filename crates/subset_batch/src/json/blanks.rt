@@ -3,23 +3,23 @@
 ghost use Rattle.std.specs.Prelude.{◌≡◌, ◌≤◌, length, map};
 ghost use Rattle.std.specs.Option.{option_map, option_copied};
 ghost use Rattle.std.specs.List.{position_or_len};
-ghost use Rattle.subset_batch.specs.Bytes.{skip_ws, is_structural, ends_word, word, behind_word, behind};
+ghost use Rattle.subset_batch.specs.Bytes.{skip_ws, is_structural, ends_word, word, past_word, following};
 ghost use Rattle.subset_batch.specs.Reading.{byte_at, separator_in, separator_at};
 ghost use Rattle.subset_batch.specs.View.{Gives};
 
 use crate::fault::{Unread, Wanted, missing};
 use subset_args::is_blank;
 
-/// The bytes behind the white space at the front.
+/// The bytes after the white space at the front.
 pub fn skip_ws(bytes: &[u8]) -> &[u8]
     ensures { result.now ≡ skip_ws bytes.now }
 {
     let mut rest = bytes;
-    while let [b, behind @ ..] = rest {
+    while let [b, following @ ..] = rest {
         if !is_blank(*b) {
             return rest;
         }
-        rest = behind;
+        rest = following;
     }
     rest
 }
@@ -44,26 +44,26 @@ fn word_len(bytes: &[u8]) -> usize
     ensures within { result ≤ length bytes.now }
 {
     let mut rest = bytes;
-    while let [b, behind @ ..] = rest {
+    while let [b, following @ ..] = rest {
         if ends_word(*b) {
             return bytes.len().saturating_sub(rest.len());
         }
-        rest = behind;
+        rest = following;
     }
     bytes.len()
 }
 
-/// The word at the front, and the bytes behind it.
+/// The word at the front, and the bytes after it.
 pub fn split_word(bytes: &[u8]) -> (&[u8], &[u8])
     ensures word { result.0.now ≡ word bytes.now }
-    ensures rest { result.1.now ≡ behind_word bytes.now }
+    ensures rest { result.1.now ≡ past_word bytes.now }
 {
     bytes.split_at(word_len(bytes))
 }
 
-/// The bytes behind this one, if it is first.
-pub fn behind(byte: u8, bytes: &[u8]) -> Option<&[u8]>
-    ensures { option_map (λ rest. rest.now) result ≡ behind byte bytes.now }
+/// The bytes after this one, if it is first.
+pub fn following(byte: u8, bytes: &[u8]) -> Option<&[u8]>
+    ensures { option_map (λ rest. rest.now) result ≡ following byte bytes.now }
 {
     match bytes {
         [] => None,
@@ -71,11 +71,11 @@ pub fn behind(byte: u8, bytes: &[u8]) -> Option<&[u8]>
     }
 }
 
-/// The bytes behind this one, which is expected.
+/// The bytes after this one, which is expected.
 pub fn byte_at(byte: u8, wanted: Wanted, bytes: &[u8]) -> Result<&[u8], Unread>
     ensures { Gives (λ rest. rest.now) result (byte_at byte wanted bytes.now) }
 {
-    match behind(byte, bytes) {
+    match following(byte, bytes) {
         Some(rest) => Ok(rest),
         None => Err(missing(wanted, bytes)),
     }
@@ -99,7 +99,7 @@ fn separator_in(close: u8, wanted: Wanted, bytes: &[u8]) -> Result<(bool, &[u8])
     }
 }
 
-/// The same behind white space.
+/// The same after white space.
 pub fn separator_at(close: u8, wanted: Wanted, bytes: &[u8]) -> Result<(bool, &[u8]), Unread>
     ensures { Gives (λ x. (x.0, x.1.now)) result (separator_at close wanted bytes.now) }
 {

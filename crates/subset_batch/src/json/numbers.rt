@@ -12,11 +12,11 @@ fn are_digits(bytes: &[u8]) -> bool
     ensures { result ≡ all_ascii_digits bytes.now }
 {
     let mut rest = bytes;
-    while let [b, behind @ ..] = rest {
+    while let [b, following @ ..] = rest {
         if !b.is_ascii_digit() {
             return false;
         }
-        rest = behind;
+        rest = following;
     }
     true
 }
@@ -49,16 +49,16 @@ fn place_of(byte: u8, bytes: &[u8]) -> usize
     ensures within { result ≤ length bytes.now }
 {
     let mut rest = bytes;
-    while let [b, behind @ ..] = rest {
+    while let [b, following @ ..] = rest {
         if is_byte(byte, *b) {
             return bytes.len().saturating_sub(rest.len());
         }
-        rest = behind;
+        rest = following;
     }
     bytes.len()
 }
 
-/// What is in front of a byte, and behind it.
+/// What is before a byte, and after it.
 fn split_once(byte: u8, bytes: &[u8]) -> Option<(&[u8], &[u8])>
     ensures { option_map {U = List ℕ × List ℕ} (λ p. (p.0.now, p.1.now)) result ≡ (if has_byte (is_byte byte) bytes.now then Some (before_first (is_byte byte) bytes.now, after_first (is_byte byte) bytes.now) else None) }
 {

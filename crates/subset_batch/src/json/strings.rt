@@ -8,16 +8,16 @@ ghost use Rattle.subset_batch.specs.declared.fault.Wanted.TheVariants.{Quote};
 ghost use Rattle.subset_batch.specs.View.{Gives, character_view};
 
 use crate::fault::{Unread, Wanted, missing};
-use crate::json::blanks::behind;
+use crate::json::blanks::following;
 use crate::json::characters::{Character, char_at, push_character};
 use std::alloc::{AllocError, Global};
 
-/// Whether a string goes on, and the bytes behind its quotation mark if it doesn't.
+/// Whether a string goes on, and the bytes after its quotation mark if it doesn't.
 fn goes_on(bytes: &[u8]) -> (bool, &[u8])
     ensures more { result.0 ≡ (goes_on bytes.now).0 }
     ensures rest { result.1.now ≡ (goes_on bytes.now).1 }
 {
-    match behind(b'"', bytes) {
+    match following(b'"', bytes) {
         Some(rest) => (false, rest),
         None => (true, bytes),
     }
@@ -41,21 +41,21 @@ fn many_chars(alloc: Global, count: usize, bytes: &[u8]) -> Result<(Vec<u8>, &[u
     let mut text = Vec::new(alloc);
     let mut rest = bytes;
     for _ in 0..count {
-        let (character, more, behind) = char_step(rest)?;
+        let (character, more, following) = char_step(rest)?;
         push_character(&mut text, character)?;
         if !more {
-            return Ok((text, behind));
+            return Ok((text, following));
         }
-        rest = behind;
+        rest = following;
     }
     Err(missing(Wanted::Quote, rest))
 }
 
-/// The characters behind the first quotation mark.
+/// The characters after the first quotation mark.
 fn chars_at(alloc: Global, bytes: &[u8]) -> Result<(Vec<u8>, &[u8]), Unread>
     ensures { Gives (λ x. (x.0.items, x.1.now)) result (chars_at bytes.now) }
 {
-    match behind(b'"', bytes) {
+    match following(b'"', bytes) {
         Some(rest) => Ok((Vec::new(alloc), rest)),
         None => many_chars(alloc, bytes.len(), bytes),
     }
@@ -72,7 +72,7 @@ pub fn text_of(alloc: Global, bytes: &[u8]) -> Result<Option<String>, AllocError
     }
 }
 
-/// The string behind its first quotation mark.
+/// The string after its first quotation mark.
 #[tactic(auto, unfolding(crate::specs::Reading::string_at))]
 pub fn string_at(alloc: Global, bytes: &[u8]) -> Result<(String, &[u8]), Unread>
     ensures { Gives (λ x. (string_bytes x.0, x.1.now)) result (string_at bytes.now) }

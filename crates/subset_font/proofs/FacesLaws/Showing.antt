@@ -22,8 +22,8 @@ use Rattle.subset_task.specs.declared.task.RequestedGlyphs.{RequestedGlyphs}
 use Rattle.subset_task.specs.declared.task.Task.{Task}
 
 -- the same answer, by other names of its texts
-pub answered : (font : Font) (refusal reason shown behind : Option (List ℕ)) → IsAnswer font refusal reason → shown ≡ refusal → behind ≡ reason → IsAnswer font shown behind
-answered font refusal reason shown behind h p q = subst (λ (text : Option (List ℕ)). IsAnswer font text behind) (sym p) (subst (λ (text : Option (List ℕ)). IsAnswer font refusal text) (sym q) h)
+pub answered : (font : Font) (refusal reason shown following : Option (List ℕ)) → IsAnswer font refusal reason → shown ≡ refusal → following ≡ reason → IsAnswer font shown following
+answered font refusal reason shown following h p q = subst (λ (text : Option (List ℕ)). IsAnswer font text following) (sym p) (subst (λ (text : Option (List ℕ)). IsAnswer font refusal text) (sym q) h)
 
 -- the text of what is known is that of a cause
 pub cause_of : {X E : Type 0} (view : X → Option (List ℕ)) (font : Font) (failure : Failure) (glyphs : Bor (List ℕ)) (requested : RequestedGlyphs) (limits : Limits) (task : Task) (hint : Option Hint) (maxp : Option ℕ) (count : ℕ) (items : List ℕ) (r : Result X E) → glyphs.now ≡ items → items ≡ counting 0 count → count ≡ unwrap_or maxp 0 → maxp ≡ face_glyphs font → requested ≡ listed_or_every glyphs → LimitsAreChosen None limits → IsPlain font.index limits requested task → hint ≡ hint_of failure task font.bytes → IfOk r (λ x. view x ≡ option_map hint_text hint) → IfOk r (λ x. IsCause font failure (view x))

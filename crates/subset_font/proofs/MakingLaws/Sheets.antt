@@ -34,6 +34,6 @@ module _ (choice : PdfChoice) (task : Task) (bytes : List ℕ) (made : Made) (re
   unshown_by text lengths glyphs why is t n g (inl memory) = inl (ap failure_of memory)
   unshown_by text lengths glyphs why is t n g (inr fault) = inr (inl (fault_of text lengths glyphs why is t n g fault))
 
--- where nothing comes behind
+-- where nothing comes after
 pub nothing_more : (text : List ℕ) → text ≡ text ++ []
 nothing_more text = sym (append-nil text)

@@ -126,7 +126,7 @@ ended_by failure = Err failure
 pub not_output : (plan : Plan) (known : Option (List ℕ)) (failure : Failure) → IsFailureOf plan known failure → ended_by failure ≡ ended_by Output → ⊥
 not_output plan known failure f e = subst (λ (r : Result (Unit {0}) Failure). IfErr r IsBeforeWriting) e (before plan known failure f)
 
--- a writer that failed did so behind all that is made
+-- a writer that failed did so after all that is made
 pub kept_before : (result : Result (Unit {0}) Failure) (A : Type 0) → IfErr result (λ e. (e ≡ WritePdf) ⊎ ((e ≡ Write) ⊎ (e ≡ Output))) → IfErr result (λ e. IsBeforeWriting e → A)
 kept_before (Ok done) A h = tt
 kept_before (Err e) A (inl page) = λ b. absurd (subst IsBeforeWriting page b)

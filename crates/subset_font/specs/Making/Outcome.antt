@@ -32,7 +32,7 @@ use Rattle.subset_font.specs.declared.making.outcome.Outcome.{Outcome}
 use Rattle.subset_task.specs.declared.refusals.failure.Failure.{Failure}
 use Rattle.subset_task.specs.declared.refusals.failure.Failure.TheVariants.{Error, NoInstance}
 
--- ---- what is printed behind the numbers
+-- ---- what is printed after the numbers
 
 -- the tables of the font that is read and of the new one
 abbrev pub sizes_of : Font → List ℕ → List TableSize

@@ -1,4 +1,4 @@
-//! What a plan makes of the font that is read: a subset, and what is printed behind its numbers.
+//! What a plan makes of the font that is read: a subset, and what is printed after its numbers.
 
 ghost use Rattle.std.specs.Prelude.{◌≡◌, ◌⊎◌, true, false, IfOk, IfErr, Some, None, length, map};
 ghost use Rattle.std.specs.Option.{option_copied, option_map};
@@ -36,7 +36,7 @@ use subsetter_sfnt::face::FontKind;
 pub struct Outcome<'a> {
     /// The subset and its numbers.
     pub made: Made,
-    /// What is printed behind the numbers: further lines, or further members of the JSON object.
+    /// What is printed after the numbers: further lines, or further members of the JSON object.
     pub more: Vec<u8>,
     /// The names of the requested glyphs in the font that is read, as far as they are printed; an empty one is none.
     pub names: Vec<&'a [u8]>,
@@ -141,7 +141,7 @@ fn members_of(
     .map_err(|_| AllocError)
 }
 
-/// What is printed behind the numbers.
+/// What is printed after the numbers.
 fn more_of(
     alloc: Global,
     font: &[u8],

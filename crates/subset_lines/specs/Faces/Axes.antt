@@ -6,7 +6,7 @@ use Rattle.subsetter_base.specs.Bytes.{range, number}
 use Rattle.subsetter_variation.specs.declared.locations.axes.Axis.{Axis}
 use Rattle.subset_lines.specs.Fixed.{fixed_text}
 use Rattle.subset_lines.specs.Faces.Outlines.{outlines_line}
-use Rattle.subset_lines.specs.Faces.Names.{name_of, behind_instance}
+use Rattle.subset_lines.specs.Faces.Names.{name_of, after_instance}
 use Rattle.subset_lines.specs.declared.faces.outlines.Outlines.{Outlines}
 
 -- ---- axes
@@ -15,13 +15,13 @@ use Rattle.subset_lines.specs.declared.faces.outlines.Outlines.{Outlines}
 abbrev pub shown : ℕ → ℕ
 shown b = if nat_le 32 b && nat_lt b 127 then b else 63
 
--- a coordinate behind a blank
-unfoldable pub behind_blank : ℤ → List ℕ
-behind_blank v = codes " " ++ fixed_text v
+-- a coordinate after a blank
+unfoldable pub after_blank : ℤ → List ℕ
+after_blank v = codes " " ++ fixed_text v
 
 -- the least coordinate, the default and the greatest one
 unfoldable pub numbers_text : Axis → List ℕ
-numbers_text a = behind_blank a.minimum ++ behind_blank a.default ++ behind_blank a.maximum
+numbers_text a = after_blank a.minimum ++ after_blank a.default ++ after_blank a.maximum
 
 -- `axis wght 100 400 900`
 unfoldable pub axis_line : Axis → List ℕ
@@ -33,12 +33,12 @@ axis_lines (a ∷ axes) = axis_line a ++ axis_lines axes
 
 -- ---- named instances
 
--- so many records of one size each, one behind the other
+-- so many records of one size each, one after the other
 abbrev pub records_at : ℕ → ℕ → List ℕ → ℕ → Option (List (List ℕ))
 records_at zero size fvar at = Some []
 records_at (suc n) size fvar at = option_and_then (λ record_bytes. option_map (λ more. record_bytes ∷ more) (records_at n size fvar (at + size))) (range fvar at size)
 
--- they stand behind the axes; each has a name, flags, and a coordinate for each axis
+-- they stand after the axes; each has a name, flags, and a coordinate for each axis
 abbrev pub instances_of : ℕ → ℕ → ℕ → ℕ → ℕ → List ℕ → Option (List (List ℕ))
 instances_of at axes axis_size count size fvar = if count == 0 then Some [] else if nat_lt size (4 + 4 * axes) then None else records_at count size fvar (at + axes * axis_size)
 
@@ -51,14 +51,14 @@ abbrev pub coordinate_text : Option ℕ → List ℕ
 coordinate_text None = []
 coordinate_text (Some bits) = fixed_text (cast_signed w32 bits)
 
--- `wght=650,wdth=87.5`, as `--at` takes it: each axis with the coordinate that four bytes say, behind a text
+-- `wght=650,wdth=87.5`, as `--at` takes it: each axis with the coordinate that four bytes say, after a text
 abbrev pub settings_text : List ℕ → List Axis → List ℕ → List ℕ
 settings_text before [] bytes = []
 settings_text before (a ∷ axes) bytes = (before ++ map shown a.tag.0 ++ codes "=" ++ coordinate_text (number bytes 0 4)) ++ settings_text (codes ",") axes (drop 4 bytes)
 
--- `instance wght=650,wdth=87.5 Semi Bold`: its coordinates, which begin behind its name's number and its flags, and its name, where the table `name` has it
+-- `instance wght=650,wdth=87.5 Semi Bold`: its coordinates, which begin after its name's number and its flags, and its name, where the table `name` has it
 abbrev pub instance_line : List Axis → List ℕ → List ℕ → List ℕ
-instance_line axes names bytes = codes "instance " ++ settings_text [] axes (drop 4 bytes) ++ behind_instance (name_of names (number bytes 0 2)) ++ 10 ∷ []
+instance_line axes names bytes = codes "instance " ++ settings_text [] axes (drop 4 bytes) ++ after_instance (name_of names (number bytes 0 2)) ++ 10 ∷ []
 
 abbrev pub instance_lines : List Axis → List ℕ → List (List ℕ) → List ℕ
 instance_lines axes names [] = []

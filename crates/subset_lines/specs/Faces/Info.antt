@@ -35,16 +35,16 @@ permission_words (Some bits) = words_of_bits bits
 
 -- ---- lines
 
-abbrev pub line_behind : List ℕ → List ℕ → List ℕ
-line_behind front word = front ++ word ++ codes "\n"
+abbrev pub line_after : List ℕ → List ℕ → List ℕ
+line_after front word = front ++ word ++ codes "\n"
 
--- a line for each of the words, behind a text
-abbrev pub lines_behind : List ℕ → List (List ℕ) → List ℕ
-lines_behind front [] = []
-lines_behind front (word ∷ words) = line_behind front word ++ lines_behind front words
+-- a line for each of the words, after a text
+abbrev pub lines_after : List ℕ → List (List ℕ) → List ℕ
+lines_after front [] = []
+lines_after front (word ∷ words) = line_after front word ++ lines_after front words
 
 abbrev pub permission_lines : List (List ℕ) → List ℕ
-permission_lines words = lines_behind (codes "permission ") words
+permission_lines words = lines_after (codes "permission ") words
 
 abbrev pub glyphs_line : Option ℕ → List ℕ
 glyphs_line None = codes "glyphs not given\n"
@@ -53,7 +53,7 @@ glyphs_line (Some count) = codes "glyphs " ++ decimal count ++ codes "\n"
 abbrev pub counts_lines : ℕ → ℕ → List ℕ
 counts_lines faces bytes = codes "faces " ++ decimal faces ++ codes "\nbytes " ++ decimal bytes ++ codes "\n"
 
--- a text as a line behind another, if there is one
+-- a text as a line after another, if there is one
 abbrev pub if_any : List ℕ → Option (List ℕ) → List ℕ
 if_any front None = []
 if_any front (Some text) = front ++ text ++ codes "\n"
@@ -79,7 +79,7 @@ info_lines info = head_lines info (permission_words info.permission) ++ table_li
 
 -- ---- JSON
 
--- strings, with a text in front of the first and a comma between each two
+-- strings, with a text before the first and a comma between each two
 abbrev pub strings : List ℕ → List (List ℕ) → List ℕ
 strings before [] = []
 strings before (word ∷ words) = (before ++ quoted word) ++ strings (codes ",") words

@@ -83,7 +83,7 @@ text_of_units (a ∷ b ∷ bytes) = encode_utf8 (character_of (a * 256 + b)) ++ 
 text_of_units (a ∷ []) = []
 text_of_units [] = []
 
--- a name behind a blank, if there is one
-abbrev pub behind_instance : Option (List ℕ) → List ℕ
-behind_instance None = []
-behind_instance (Some bytes) = codes " " ++ text_of_units bytes
+-- a name after a blank, if there is one
+abbrev pub after_instance : Option (List ℕ) → List ℕ
+after_instance None = []
+after_instance (Some bytes) = codes " " ++ text_of_units bytes

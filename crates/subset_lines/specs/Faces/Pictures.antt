@@ -26,7 +26,7 @@ kind_name kind =
 abbrev pub picture_text : List ℕ → ℕ → ℕ → List ℕ
 picture_text middle kind count = kind_name kind ++ middle ++ decimal count
 
--- each, with a text in front of the first and one between each two
+-- each, with a text before the first and one between each two
 abbrev pub pictures_text : List ℕ → List ℕ → List ℕ → List (ℕ × ℕ) → List ℕ
 pictures_text before between middle [] = []
 pictures_text before between middle (p ∷ pictures) = (before ++ picture_text middle p.0 p.1) ++ pictures_text between between middle pictures

@@ -8,7 +8,7 @@ use Rattle.subset_lines.specs.Objects.AxesJson.{setting_member}
 use Rattle.subset_lines.specs.declared.faces.settings.SettingForm.{SettingForm}
 use Rattle.subset_lines.specs.declared.faces.settings.SettingForm.TheVariants.{Line, Member}
 
--- an axis with the coordinate that four bytes say, behind a text: `wght=650`, or a member of an object
+-- an axis with the coordinate that four bytes say, after a text: `wght=650`, or a member of an object
 abbrev pub setting_by : SettingForm → List ℕ → Tag → List ℕ → List ℕ
 setting_by Line before tag bytes = before ++ map shown tag.0 ++ codes "=" ++ coordinate_text (number bytes 0 4)
 setting_by Member before tag bytes = before ++ setting_member tag bytes

@@ -39,7 +39,7 @@ sizes_close t = (codes ",\"old\":" ++ number_or_null t.old) ++ (codes ",\"new\":
 abbrev pub table_object : TableSize → List ℕ
 table_object t = tag_open t.tag ++ sizes_close t
 
--- with a text in front of the first, and a comma between each two
+-- with a text before the first, and a comma between each two
 abbrev pub table_objects : List ℕ → List TableSize → List ℕ
 table_objects before [] = []
 table_objects before (t ∷ tables) = (before ++ table_object t) ++ table_objects (codes ",") tables

@@ -22,7 +22,7 @@ axis_numbers a = (codes ",\"least\":" ++ fixed_text a.minimum) ++ (codes ",\"def
 abbrev pub axis_object : Axis → List ℕ
 axis_object a = tag_open a.tag ++ axis_numbers a
 
--- with a text in front of the first, and a comma between each two
+-- with a text before the first, and a comma between each two
 abbrev pub axis_objects : List ℕ → List Axis → List ℕ
 axis_objects before [] = []
 axis_objects before (a ∷ axes) = (before ++ axis_object a) ++ axis_objects (codes ",") axes
@@ -39,7 +39,7 @@ abbrev pub name_or_null : Option (List ℕ) → List ℕ
 name_or_null None = codes "null"
 name_or_null (Some bytes) = quoted (text_of_units bytes)
 
--- its coordinates begin behind its name's number and its flags
+-- its coordinates begin after its name's number and its flags
 abbrev pub instance_name : Option (List ℕ) → List ℕ
 instance_name name = codes "{\"name\":" ++ name_or_null name
 

@@ -24,7 +24,7 @@ name_member (b ∷ name) = codes ",\"name\":" ++ quoted (map shown (b ∷ name))
 abbrev pub object_of : Option ℕ → List ℕ → ℕ → Option ℕ → List ℕ
 object_of character name old new = codes "{" ++ character_member character ++ (codes "\"old\":" ++ decimal old ++ codes ",\"new\":" ++ number_or_null new) ++ name_member name ++ codes "}"
 
--- the objects of glyphs, in order, with a text in front of the first and a comma between each two
+-- the objects of glyphs, in order, with a text before the first and a comma between each two
 abbrev pub objects : List ℕ → List ℕ → List (Option ℕ) → List (List ℕ) → List ℕ → List ℕ
 objects before order characters names [] = []
 objects before order characters names (old ∷ glyphs) = (before ++ object_of (first_character characters) (first_name names) old (index_of order old)) ++ objects (codes ",") order (drop 1 characters) (drop 1 names) glyphs
@@ -42,7 +42,7 @@ glyphs_member n = codes "{\"glyphs\":[" ++ objects [] n.order n.characters n.nam
 abbrev pub json_of : Numbers → List ℕ → List ℕ → List ℕ
 json_of n text members = glyphs_member n ++ widths_member text ++ members ++ codes "}\n"
 
--- numbers, with a text in front of the first and a comma between each two
+-- numbers, with a text before the first and a comma between each two
 abbrev pub numbers_from : List ℕ → List ℕ → List ℕ
 numbers_from before [] = []
 numbers_from before (n ∷ ns) = (before ++ decimal n) ++ numbers_from (codes ",") ns

@@ -11,6 +11,6 @@ name_member name = codes ",\"font\":" ++ quoted name
 abbrev pub pdf_open : ℕ → List ℕ → List ℕ
 pdf_open size name = (codes ",\"pdf\":{\"size\":" ++ decimal size) ++ name_member name
 
--- the member, with a comma in front of it, and with the code of each glyph in order
+-- the member, with a comma before it, and with the code of each glyph in order
 abbrev pub pdf_member : ℕ → List ℕ → List ℕ → List ℕ
 pdf_member size name codes_of = pdf_open size name ++ codes ",\"codes\":" ++ array_of codes_of ++ codes "}"

@@ -1,7 +1,7 @@
 -- A text without control characters as a JSON string (RFC 8259, section 7).
 use Rattle.std.specs.Prelude.{ℕ, ◌==◌, ◌||◌, if◌then◌else◌, List, [], ◌∷◌, ◌++◌, codes}
 
--- a backslash (92) is in front of a quotation mark (34) and of a backslash
+-- a backslash (92) is before a quotation mark (34) and of a backslash
 abbrev pub escaped_byte : ℕ → List ℕ
 escaped_byte b = if b == 34 || b == 92 then 92 ∷ b ∷ [] else b ∷ []
 

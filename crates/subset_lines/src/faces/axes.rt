@@ -6,12 +6,12 @@ ghost use Rattle.std.specs.Option.{ok_or};
 ghost use Rattle.subsetter_base.specs.Gives.{Gives};
 ghost use Rattle.subsetter_base.specs.declared.error.Error.TheVariants.{MalformedFont, OutOfMemory};
 ghost use Rattle.subsetter_variation.specs.Locations.Axes.{axes};
-ghost use Rattle.subset_lines.specs.Faces.Axes.{shown, behind_blank, numbers_text, axis_line, axis_lines, records_at, instances_of, instances, coordinate_text, settings_text, instance_line, instance_lines, text_of};
+ghost use Rattle.subset_lines.specs.Faces.Axes.{shown, after_blank, numbers_text, axis_line, axis_lines, records_at, instances_of, instances, coordinate_text, settings_text, instance_line, instance_lines, text_of};
 ghost use Rattle.subset_lines.specs.Fixed.{fixed_text};
 ghost use Rattle.subsetter_base.specs.Bytes.{number};
 
 use crate::entry::Unwritten;
-use crate::faces::names::{NameTable, write_behind};
+use crate::faces::names::{NameTable, write_after};
 use crate::faces::outlines::{Outlines, write_outlines};
 use crate::faces::settings::{SettingForm, write_each};
 use crate::fixed::write_fixed;
@@ -48,7 +48,7 @@ fn records_at(
     Ok(records)
 }
 
-/// The records of named instances behind so many axes.
+/// The records of named instances after so many axes.
 fn instances_of(
     alloc: Global,
     at: u16,
@@ -137,10 +137,10 @@ pub fn write_tag<W: Write>(tag: Tag, out: &mut W) -> Result<(), Unwritten>
     write_text(&tag_bytes(tag), out)
 }
 
-/// Writes a coordinate behind a blank.
-#[tactic(auto, using(crate::proofs::Written::both), unfolding(crate::specs::Faces::Axes::behind_blank))]
-fn write_behind_blank<W: Write>(value: i32, out: &mut W) -> Result<(), Unwritten>
-    ensures { OnOk result (Appends (W.contents out.old) (W.contents out.new) (behind_blank value)) }
+/// Writes a coordinate after a blank.
+#[tactic(auto, using(crate::proofs::Written::both), unfolding(crate::specs::Faces::Axes::after_blank))]
+fn write_after_blank<W: Write>(value: i32, out: &mut W) -> Result<(), Unwritten>
+    ensures { OnOk result (Appends (W.contents out.old) (W.contents out.new) (after_blank value)) }
 {
     write_text(b" ", out)?;
     write_fixed(value, out)
@@ -151,9 +151,9 @@ fn write_behind_blank<W: Write>(value: i32, out: &mut W) -> Result<(), Unwritten
 fn write_numbers<W: Write>(axis: &Axis, out: &mut W) -> Result<(), Unwritten>
     ensures { OnOk result (Appends (W.contents out.old) (W.contents out.new) (numbers_text axis.now)) }
 {
-    write_behind_blank(axis.minimum, out)?;
-    write_behind_blank(axis.default, out)?;
-    write_behind_blank(axis.maximum, out)
+    write_after_blank(axis.minimum, out)?;
+    write_after_blank(axis.default, out)?;
+    write_after_blank(axis.maximum, out)
 }
 
 /// Writes the line of an axis.
@@ -208,7 +208,7 @@ fn write_instance<W: Write>(
 {
     write_text(b"instance ", out)?;
     write_settings(axes, after_four(bytes), out)?;
-    write_behind(names.of_instance(bytes), out)?;
+    write_after(names.of_instance(bytes), out)?;
     write_text(b"\n", out)
 }
 

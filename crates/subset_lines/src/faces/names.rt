@@ -7,7 +7,7 @@ ghost use Rattle.std.specs.HashMap.{get};
 ghost use Rattle.std.specs.Option.{option_copied, option_map, option_or};
 ghost use Rattle.subsetter_base.specs.Bytes.{number};
 ghost use Rattle.subsetter_sfnt.specs.Fields.Name.{name_record_of};
-ghost use Rattle.subset_lines.specs.Faces.Names.{is_windows, serves, record_if, AreFirst, count_in, best_name, string_by, string_for, name_of, is_text, character_of, text_of_units, behind_instance};
+ghost use Rattle.subset_lines.specs.Faces.Names.{is_windows, serves, record_if, AreFirst, count_in, best_name, string_by, string_for, name_of, is_text, character_of, text_of_units, after_instance};
 
 use crate::characters::is_plain;
 use crate::entry::Unwritten;
@@ -252,10 +252,10 @@ pub fn write_units<W: Write>(bytes: &[u8], out: &mut W) -> Result<(), Unwritten>
     Ok(())
 }
 
-/// Writes a name behind a blank, if there is one.
+/// Writes a name after a blank, if there is one.
 #[tactic(auto, using(crate::proofs::Written::both))]
-pub fn write_behind<W: Write>(name: Option<&[u8]>, out: &mut W) -> Result<(), Unwritten>
-    ensures { OnOk result (Appends (W.contents out.old) (W.contents out.new) (behind_instance (option_copied name.entry))) }
+pub fn write_after<W: Write>(name: Option<&[u8]>, out: &mut W) -> Result<(), Unwritten>
+    ensures { OnOk result (Appends (W.contents out.old) (W.contents out.new) (after_instance (option_copied name.entry))) }
 {
     let Some(bytes) = name else {
         return Ok(());

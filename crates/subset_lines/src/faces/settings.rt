@@ -25,7 +25,7 @@ pub enum SettingForm {
     Member,
 }
 
-/// Writes an axis with the coordinate that four bytes say, as `--at` takes it, behind a text.
+/// Writes an axis with the coordinate that four bytes say, as `--at` takes it, after a text.
 #[tactic(auto, using(crate::proofs::Written::both))]
 fn write_in_line<W: Write>(
     before: &[u8],
@@ -41,7 +41,7 @@ fn write_in_line<W: Write>(
     write_coordinate(bytes, out)
 }
 
-/// Writes the same as a member of an object, behind a text.
+/// Writes the same as a member of an object, after a text.
 #[tactic(auto, using(crate::proofs::Written::both))]
 fn write_as_member<W: Write>(
     before: &[u8],

@@ -172,7 +172,7 @@ fn write_object<W: Write>(table: &TableSize, out: &mut W) -> Result<(), Unwritte
     write_sizes_close(table, out)
 }
 
-/// Writes the same behind a text.
+/// Writes the same after a text.
 #[tactic(auto, using(crate::proofs::Written::both))]
 fn write_table_object<W: Write>(
     before: &[u8],
@@ -198,7 +198,7 @@ fn write_table_objects<W: Write>(tables: &[TableSize], out: &mut W) -> Result<()
     Ok(())
 }
 
-/// Writes the member `"sizes"` of the JSON object, in bytes of both files, with a comma in front of it.
+/// Writes the member `"sizes"` of the JSON object, in bytes of both files, with a comma before it.
 #[tactic(auto, using(crate::proofs::Written::both))]
 pub fn write_sizes_member<W: Write>(old: u64, new: u64, out: &mut W) -> Result<(), Unwritten>
     ensures { OnOk result (Appends (W.contents out.old) (W.contents out.new) (sizes_member old new)) }
@@ -217,7 +217,7 @@ fn write_tables_open<W: Write>(tables: &[TableSize], out: &mut W) -> Result<(), 
     write_table_objects(tables, out)
 }
 
-/// Writes the member `"tables"` of the JSON object, with a comma in front of it.
+/// Writes the member `"tables"` of the JSON object, with a comma before it.
 #[tactic(auto, using(crate::proofs::Written::both))]
 pub fn write_tables_member<W: Write>(tables: &[TableSize], out: &mut W) -> Result<(), Unwritten>
     ensures { OnOk result (Appends (W.contents out.old) (W.contents out.new) (tables_member tables.now)) }

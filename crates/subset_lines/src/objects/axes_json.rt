@@ -61,7 +61,7 @@ fn write_axis_object<W: Write>(axis: &Axis, out: &mut W) -> Result<(), Unwritten
     write_axis_numbers(axis, out)
 }
 
-/// Writes the object of an axis, behind a text.
+/// Writes the object of an axis, after a text.
 #[tactic(auto, using(crate::proofs::Written::both))]
 fn write_axis<W: Write>(before: &[u8], axis: &Axis, out: &mut W) -> Result<(), Unwritten>
     ensures { OnOk result (Appends (W.contents out.old) (W.contents out.new) (before.now ++ axis_object axis.now)) }
@@ -153,7 +153,7 @@ fn write_instance_object<W: Write>(
     write_instance_settings(&all.axes, after_four(bytes), out)
 }
 
-/// Writes the same behind a text.
+/// Writes the same after a text.
 #[tactic(auto, using(crate::proofs::Written::both))]
 fn write_instance<W: Write>(
     alloc: Global,

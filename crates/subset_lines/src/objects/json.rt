@@ -63,7 +63,7 @@ fn write_name<W: Write>(name: &[u8], out: &mut W) -> Result<(), Unwritten>
     write_shown(name, out)
 }
 
-/// Writes the object of a glyph, behind a text.
+/// Writes the object of a glyph, after a text.
 #[tactic(auto, using(crate::proofs::Written::both))]
 fn write_object<W: Write>(
     before: &[u8],
@@ -136,14 +136,14 @@ fn write_widths<W: Write>(text: &[u8], out: &mut W) -> Result<(), Unwritten>
 fn write_between<W: Write>(
     front: &[u8],
     numbering: &Numbering<'_>,
-    behind: &[u8],
+    following: &[u8],
     out: &mut W,
 ) -> Result<(), Unwritten>
-    ensures { OnOk result (Appends (W.contents out.old) (W.contents out.new) (front.now ++ objects [] numbering.now.mapper.now numbering.now.characters.now (map (λ name. name.now) numbering.now.names.now) numbering.now.glyphs.now ++ behind.now)) }
+    ensures { OnOk result (Appends (W.contents out.old) (W.contents out.new) (front.now ++ objects [] numbering.now.mapper.now numbering.now.characters.now (map (λ name. name.now) numbering.now.names.now) numbering.now.glyphs.now ++ following.now)) }
 {
     write_text(front, out)?;
     write_entries(numbering, out)?;
-    write_text(behind, out)
+    write_text(following, out)
 }
 
 /// Writes the member that has the glyphs, and what opens the object.
@@ -184,7 +184,7 @@ pub fn write_json<W: Write>(
     flush(out)
 }
 
-/// Writes a number behind a text.
+/// Writes a number after a text.
 #[tactic(auto, using(crate::proofs::Written::both))]
 fn write_number<W: Write>(before: &[u8], number: u32, out: &mut W) -> Result<(), Unwritten>
     ensures { OnOk result (Appends (W.contents out.old) (W.contents out.new) (before.now ++ decimal number)) }

@@ -68,7 +68,7 @@ fn write_member<W: Write>(
     write_text(b"}", out)
 }
 
-/// The text of the member `"pdf"` of a JSON object, with a comma in front of it: the bytes of the PDF, the name of its font, and
+/// The text of the member `"pdf"` of a JSON object, with a comma before it: the bytes of the PDF, the name of its font, and
 /// the code of each glyph.
 ///
 /// `Unwritten` where a request for memory was refused.

@@ -10,7 +10,7 @@ use crate::faces::axes::shown;
 use crate::text::write_text;
 use std::io::Write;
 
-/// Writes a byte of a string: a backslash is in front of a quotation mark and of a backslash.
+/// Writes a byte of a string: a backslash is before a quotation mark and of a backslash.
 #[tactic(auto, using(crate::proofs::Written::both))]
 fn write_escaped_byte<W: Write>(byte: u8, out: &mut W) -> Result<(), Unwritten>
     ensures { OnOk result (Appends (W.contents out.old) (W.contents out.new) (escaped_byte byte)) }

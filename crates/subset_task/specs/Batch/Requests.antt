@@ -71,9 +71,9 @@ abbrev pub numbers_in : List Request → ℕ
 numbers_in [] = 0
 numbers_in (r ∷ requests) = numbers_if r.job + numbers_in requests
 
--- how many more a request may have behind others
-abbrev pub left_behind : List Request → ℕ
-left_behind before = 2000000 - numbers_in before
+-- how many more a request may have after others
+abbrev pub left_after : List Request → ℕ
+left_after before = 2000000 - numbers_in before
 
 -- ---- how far requests are before anything is made
 
@@ -87,12 +87,12 @@ IsFirst named Written = ⊥
 pub record IsTooLong (before : List Request) (line : List ℕ) (answer : Answer) : Type 0 where
   pub job : Job
   pub is_requested : order_of line ≡ Some (job_view job)
-  pub is_too_long : left_behind before < numbers_by job.glyphs.items
+  pub is_too_long : left_after before < numbers_by job.glyphs.items
   pub is_refused : IsFailedBy 2 answer
 
--- the request of a line behind others
+-- the request of a line after others
 abbrev pub IsBegun : List Request → List ℕ → Option Job → State → Type 0
-IsBegun before line (Some job) state = (order_of line ≡ Some (job_view job)) × ((numbers_by job.glyphs.items ≤ left_behind before) × IsFirst (is_named_before before job) state)
+IsBegun before line (Some job) state = (order_of line ≡ Some (job_view job)) × ((numbers_by job.glyphs.items ≤ left_after before) × IsFirst (is_named_before before job) state)
 IsBegun before line None (Answered answer) = IsNoOrder (order_of line) answer ⊎ IsTooLong before line answer
 IsBegun before line None Due = ⊥
 IsBegun before line None Written = ⊥

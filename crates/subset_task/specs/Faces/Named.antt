@@ -17,11 +17,11 @@ use Rattle.font_reasons.specs.Directory.{bytes_or_none}
 abbrev pub is_same_name : List ℕ → List ℕ → Bool
 is_same_name one other = bytes_eq (map to_ascii_lowercase one) (map to_ascii_lowercase other)
 
--- what a name has behind a text, if it begins so but for the case
-abbrev pub behind_same : List ℕ → List ℕ → Option (List ℕ)
-behind_same [] name = Some name
-behind_same (a ∷ text) [] = None
-behind_same (a ∷ text) (b ∷ name) = if to_ascii_lowercase a == to_ascii_lowercase b then behind_same text name else None
+-- what a name has after a text, if it begins so but for the case
+abbrev pub after_same : List ℕ → List ℕ → Option (List ℕ)
+after_same [] name = Some name
+after_same (a ∷ text) [] = None
+after_same (a ∷ text) (b ∷ name) = if to_ascii_lowercase a == to_ascii_lowercase b then after_same text name else None
 
 abbrev pub is_name_of : List ℕ → Option (List ℕ) → Bool
 is_name_of name None = false
@@ -49,7 +49,7 @@ abbrev pub settings_of : List Axis → List ℕ → List (Tag × ℤ)
 settings_of [] bytes = []
 settings_of (a ∷ axes) bytes = (a.tag, coordinate_in bytes) ∷ settings_of axes (drop 4 bytes)
 
--- they begin behind the name's number and the flags
+-- they begin after the name's number and the flags
 abbrev pub instance_settings : List ℕ → List ℕ → List ℕ → Option (List (Tag × ℤ))
 instance_settings names name fvar = option_and_then (λ a. option_and_then (λ records. option_map (λ bytes. settings_of a (drop 4 bytes)) (find_named names name records)) (instances fvar)) (axes fvar)
 
@@ -58,20 +58,20 @@ face_settings font name = option_and_then (instance_settings (bytes_or_none (sto
 
 -- ---- the line that lists the names
 
--- a name behind a text, if there is one
-abbrev pub name_behind : List ℕ → Option (List ℕ) → List ℕ
-name_behind before None = []
-name_behind before (Some units) = before ++ text_of_units units
+-- a name after a text, if there is one
+abbrev pub name_after : List ℕ → Option (List ℕ) → List ℕ
+name_after before None = []
+name_after before (Some units) = before ++ text_of_units units
 
--- what is in front of the next name
+-- what is before the next name
 abbrev pub before_next : List ℕ → Bool → List ℕ
 before_next before true = codes ", "
 before_next before false = before
 
 -- the names of instances, those that have one, by their records
-abbrev pub names_behind : List ℕ → List ℕ → List (List ℕ) → List ℕ
-names_behind before names [] = []
-names_behind before names (bytes ∷ more) = name_behind before (name_of names (number bytes 0 2)) ++ names_behind (before_next before (is_some (name_of names (number bytes 0 2)))) names more
+abbrev pub names_after : List ℕ → List ℕ → List (List ℕ) → List ℕ
+names_after before names [] = []
+names_after before names (bytes ∷ more) = name_after before (name_of names (number bytes 0 2)) ++ names_after (before_next before (is_some (name_of names (number bytes 0 2)))) names more
 
 abbrev pub line_of_names : List ℕ → List ℕ
 line_of_names [] = codes "the font has no named instances\n"
@@ -87,7 +87,7 @@ with_more text more = if more == 0 then text else text ++ (codes " and " ++ (dec
 
 -- the names of the first twenty: `named instances: Regular, Semi Bold`
 abbrev pub few_names : List ℕ → List (List ℕ) → List ℕ
-few_names names records = line_of_names (with_more (names_behind (codes "named instances: ") names (take 20 records)) (length records - 20))
+few_names names records = line_of_names (with_more (names_after (codes "named instances: ") names (take 20 records)) (length records - 20))
 
 abbrev pub names_line : List ℕ → Option (List (List ℕ)) → List ℕ
 names_line names None = line_of_names []

@@ -19,7 +19,7 @@ picked_view p = record { glyphs = p.glyphs.items; characters = p.characters.item
 abbrev pub nothing : Picked
 nothing = record { glyphs = []; characters = []; text = []; lengths = []; missing = [] }
 
--- glyphs behind others
+-- glyphs after others
 abbrev pub both : Picked → Picked → Picked
 both a b = record { glyphs = a.glyphs ++ b.glyphs; characters = a.characters ++ b.characters; text = a.text ++ b.text; lengths = a.lengths ++ b.lengths; missing = a.missing ++ b.missing }
 

@@ -34,13 +34,13 @@ picked_of font Every = or_failure (unless_no_font font.bytes (Error MalformedFon
 picked_of font (ByText text) = or_failure (unless_no_font font.bytes NoMapping) (option_map (λ source. of_text source (chars text.now)) (face_source font))
 picked_of font (ByCharacters given) = or_failure (unless_no_font font.bytes NoMapping) (option_map (λ source. of_characters source given.now) (face_source font))
 
--- behind others
-abbrev pub behind : Picked → Result Picked Failure → Result Picked Failure
-behind picked (Ok more) = Ok (both picked more)
-behind picked (Err failure) = Err failure
+-- after others
+abbrev pub following : Picked → Result Picked Failure → Result Picked Failure
+following picked (Ok more) = Ok (both picked more)
+following picked (Err failure) = Err failure
 
 abbrev pub with_rest : Result Picked Failure → Result Picked Failure → Result Picked Failure
-with_rest (Ok picked) rest = behind picked rest
+with_rest (Ok picked) rest = following picked rest
 with_rest (Err failure) rest = Err failure
 
 -- those of requests, one after another

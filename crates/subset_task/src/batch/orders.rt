@@ -39,11 +39,11 @@ fn lists_in_stream(glyphs: &[Glyphs]) -> bool
     ensures { result ≡ lists_in_stream (map requested_view glyphs.now) }
 {
     let mut rest = glyphs;
-    while let [one, behind @ ..] = rest {
+    while let [one, following @ ..] = rest {
         if is_given_stream(list_file(one)) {
             return true;
         }
-        rest = behind;
+        rest = following;
     }
     false
 }

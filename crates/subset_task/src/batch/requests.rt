@@ -8,7 +8,7 @@ ghost use Rattle.subset_args.specs.View.{job_view};
 ghost use Rattle.subset_batch.specs.View.{line_view};
 ghost use Rattle.subset_task.specs.Batch.Answers.{IsFailedBy};
 ghost use Rattle.subset_task.specs.Batch.Orders.{order_of, IsNoOrder};
-ghost use Rattle.subset_task.specs.Batch.Requests.{list_numbers, numbers_by, numbers_if, left_behind, is_of_name, writes, writes_if, is_written, is_written_if, is_named_before, AreNames, IsFirst, IsBegun, AddsLine, AreBegun, due, of_source, answer_in};
+ghost use Rattle.subset_task.specs.Batch.Requests.{list_numbers, numbers_by, numbers_if, left_after, is_of_name, writes, writes_if, is_written, is_written_if, is_named_before, AreNames, IsFirst, IsBegun, AddsLine, AreBegun, due, of_source, answer_in};
 
 use crate::batch::answers::{Answer, failed};
 use crate::batch::orders::order_of;
@@ -144,7 +144,7 @@ fn too_long(alloc: Global) -> Answer
     failed(TOO_LONG, String::from_str(alloc, text))
 }
 
-/// A request behind others, and how far it is, where lists may have so many more numbers.
+/// A request after others, and how far it is, where lists may have so many more numbers.
 #[tactic(auto, using(crate::proofs::BatchLaws::begun_too_long, crate::proofs::BatchLaws::begun_few))]
 fn admit(
     alloc: Global,
@@ -155,7 +155,7 @@ fn admit(
     job: Job,
 ) -> (Option<Job>, State)
     requires names { AreNames before.now names.now }
-    requires left { left ≡ left_behind before.now }
+    requires left { left ≡ left_after before.now }
     requires job { order_of line.now ≡ Some (job_view job) }
     ensures { IsBegun before.now line.now result.0 result.1 }
 {
@@ -166,7 +166,7 @@ fn admit(
     (Some(job), state)
 }
 
-/// The request of a line behind others by what the line requests, and how far it is, where lists may have so many more numbers.
+/// The request of a line after others by what the line requests, and how far it is, where lists may have so many more numbers.
 #[tactic(auto, using(crate::proofs::BatchLaws::begun_by_nothing))]
 fn begin(
     alloc: Global,
@@ -177,7 +177,7 @@ fn begin(
     order: Result<Job, Answer>,
 ) -> (Option<Job>, State)
     requires names { AreNames before.now names.now }
-    requires left { left ≡ left_behind before.now }
+    requires left { left ≡ left_after before.now }
     requires order { IfOk order (λ job. order_of line.now ≡ Some (job_view job)) }
     requires no_order { IfErr order (IsNoOrder (order_of line.now)) }
     ensures { IsBegun before.now line.now result.0 result.1 }
@@ -246,12 +246,12 @@ pub fn push_order(
     order: Result<Job, Answer>,
 ) -> Result<(), AllocError>
     requires names { AreNames batch.old.requests.items names.old }
-    requires left { left.old ≡ left_behind batch.old.requests.items }
+    requires left { left.old ≡ left_after batch.old.requests.items }
     requires order { IfOk order (λ job. order_of line.bytes.now ≡ Some (job_view job)) }
     requires no_order { IfErr order (IsNoOrder (order_of line.bytes.now)) }
     ensures line { OnOk result (AddsLine (line_view line.entry) batch.old batch.new) }
     ensures names { OnOk result (AreNames batch.new.requests.items names.new) }
-    ensures left { OnOk result (left.new ≡ left_behind batch.new.requests.items) }
+    ensures left { OnOk result (left.new ≡ left_after batch.new.requests.items) }
 {
     let (job, state) = begin(alloc, &batch.requests, names, *left, line.bytes, order);
     add_names_if(alloc, names, &job)?;
@@ -276,10 +276,10 @@ pub fn requests_of(alloc: Global, file: &[u8]) -> Result<Batch, AllocError>
     let mut left = MOST_NUMBERS;
     let lines = lines_of(alloc, file)?;
     let mut rest = lines.as_slice();
-    while let [line, behind @ ..] = rest {
+    while let [line, following @ ..] = rest {
         let order = order_of(alloc, line.bytes);
         push_order(alloc, &mut batch, &mut names, &mut left, *line, order)?;
-        rest = behind;
+        rest = following;
     }
     Ok(batch)
 }

@@ -34,9 +34,9 @@ pub fn first_missing(alloc: Global, characters: &[char]) -> Result<Vec<char>, Al
 {
     let mut found = Vec::new(alloc);
     let mut rest = characters;
-    while let [character, behind @ ..] = rest {
+    while let [character, following @ ..] = rest {
         push_missing(&mut found, *character)?;
-        rest = behind;
+        rest = following;
     }
     Ok(found)
 }

@@ -6,7 +6,7 @@ ghost use Rattle.subsetter_base.specs.Bytes.{number};
 ghost use Rattle.subsetter_base.specs.declared.error.Error.TheVariants.{OutOfMemory, UnknownKind, MalformedFont};
 ghost use Rattle.subsetter_sfnt.specs.Extras.{all_extras};
 ghost use Rattle.subsetter_sfnt.specs.Read.{header_offset, stored};
-ghost use Rattle.subset_task.specs.Faces.Named.{is_same_name, behind_same, is_name_of, has_name, find_named, coordinate_in, settings_of, instance_settings, face_settings, name_behind, before_next, names_behind, line_of_names, records_of, with_more, few_names, names_line, face_names};
+ghost use Rattle.subset_task.specs.Faces.Named.{is_same_name, after_same, is_name_of, has_name, find_named, coordinate_in, settings_of, instance_settings, face_settings, name_after, before_next, names_after, line_of_names, records_of, with_more, few_names, names_line, face_names};
 ghost use Rattle.subset_lines.specs.Faces.Names.{name_of, text_of_units};
 ghost use Rattle.font_reasons.specs.Directory.{bytes_or_none};
 ghost use Rattle.subset_task.specs.declared.refusals.failure.Failure.TheVariants.{Error as Refused, NoInstance};
@@ -21,19 +21,19 @@ use subsetter_base::read::{Reader, after_four};
 use subsetter_sfnt::directory::{header_offset, table};
 use subsetter_variation::locations::axes::Axis;
 
-/// What a name has behind a text, which may differ from it in the case of ASCII letters. None where it doesn't begin so.
-fn behind_same<'a>(text: &[u8], name: &'a [u8]) -> Option<&'a [u8]>
-    ensures { option_copied result ≡ behind_same text.now name.now }
+/// What a name has after a text, which may differ from it in the case of ASCII letters. None where it doesn't begin so.
+fn after_same<'a>(text: &[u8], name: &'a [u8]) -> Option<&'a [u8]>
+    ensures { option_copied result ≡ after_same text.now name.now }
 {
     let mut rest = name;
     for byte in text {
-        let [first, behind @ ..] = rest else {
+        let [first, following @ ..] = rest else {
             return None;
         };
         if !byte.eq_ignore_ascii_case(first) {
             return None;
         }
-        rest = behind;
+        rest = following;
     }
     Some(rest)
 }
@@ -46,8 +46,8 @@ fn is_text_of(units: &[u8], name: &[u8]) -> bool
     let mut rest = units;
     while let [high, low, more @ ..] = rest {
         let mut room = [0; 4];
-        match behind_same(encoded(*high, *low, &mut room), left) {
-            Some(behind) => left = behind,
+        match after_same(encoded(*high, *low, &mut room), left) {
+            Some(following) => left = following,
             None => return false,
         }
         rest = more;
@@ -108,7 +108,7 @@ fn coordinate_of(bytes: &[u8]) -> i32
     }
 }
 
-/// The coordinates of each axis, from the bytes behind the flags of a record.
+/// The coordinates of each axis, from the bytes after the flags of a record.
 fn settings_of(alloc: Global, axes: &[Axis], bytes: &[u8]) -> Result<Vec<(Tag, i32)>, AllocError>
     ensures { IfOk result (λ v. v.items ≡ settings_of axes.now bytes.now) }
 {
@@ -164,7 +164,7 @@ pub fn face_settings(
     }
 }
 
-/// Adds the name of the instance of a record, if it has one, behind a text, and answers whether it has one.
+/// Adds the name of the instance of a record, if it has one, after a text, and answers whether it has one.
 fn push_name(
     text: &mut Vec<u8>,
     alloc: Global,
@@ -172,7 +172,7 @@ fn push_name(
     names: &NameTable<'_>,
     bytes: &[u8],
 ) -> Result<bool, AllocError>
-    ensures text { OnOk result (text.new.items ≡ text.old.items ++ name_behind before.now (name_of names.now (number bytes.now 0 2))) }
+    ensures text { OnOk result (text.new.items ≡ text.old.items ++ name_after before.now (name_of names.now (number bytes.now 0 2))) }
     ensures found { IfOk result (λ b. b ≡ is_some (name_of names.now (number bytes.now 0 2))) }
 {
     let Some(found) = names.of_instance(bytes) else {
@@ -186,22 +186,22 @@ fn push_name(
     Ok(true)
 }
 
-/// What is in front of the next name, behind one if there is one.
+/// What is before the next name, after one if there is one.
 fn before_next(before: &[u8], found: bool) -> &[u8]
     ensures { result.now ≡ before_next before.now found }
 {
     if found { b", " } else { before }
 }
 
-/// The names of the instances of records, the first behind a text.
+/// The names of the instances of records, the first after a text.
 #[tactic(auto, using(crate::proofs::Steps::name_later))]
-fn names_behind(
+fn names_after(
     alloc: Global,
     front: &[u8],
     names: &NameTable<'_>,
     records: &[&[u8]],
 ) -> Result<Vec<u8>, AllocError>
-    ensures { IfOk result (λ text. text.items ≡ names_behind front.now names.now (map (λ bytes. bytes.now) records.now)) }
+    ensures { IfOk result (λ text. text.items ≡ names_after front.now names.now (map (λ bytes. bytes.now) records.now)) }
 {
     let mut text = Vec::new(alloc);
     let mut before = front;
@@ -247,7 +247,7 @@ fn with_more(alloc: Global, mut text: Vec<u8>, more: usize) -> Result<Vec<u8>, A
 fn few_names(alloc: Global, names: &NameTable<'_>, records: &[&[u8]]) -> Result<Vec<u8>, AllocError>
     ensures { IfOk result (λ line. line.items ≡ few_names names.now (map (λ bytes. bytes.now) records.now)) }
 {
-    let text = names_behind(alloc, b"named instances: ", names, few_records(records))?;
+    let text = names_after(alloc, b"named instances: ", names, few_records(records))?;
     let text = with_more(alloc, text, records.len().saturating_sub(MOST_NAMES))?;
     line_of_names(text)
 }

@@ -131,9 +131,9 @@ fn texts_of(alloc: Global, text: &[char], entries: &[Entry]) -> Result<Vec<char>
 {
     let mut texts = Vec::with_capacity(alloc, text.len())?;
     let mut rest = entries;
-    while let [entry, behind @ ..] = rest {
+    while let [entry, following @ ..] = rest {
         texts.extend_from_slice(part(text, *entry))?;
-        rest = behind;
+        rest = following;
     }
     Ok(texts)
 }
@@ -216,14 +216,14 @@ fn lacking(alloc: Global, characters: &[char], glyphs: &[u16]) -> Result<Vec<cha
     let mut found = Vec::new(alloc);
     let mut rest = characters;
     let mut left = glyphs;
-    while let [character, behind @ ..] = rest {
+    while let [character, following @ ..] = rest {
         let [glyph, others @ ..] = left else {
             return Ok(found);
         };
         if *glyph == 0 {
             found.push(*character)?;
         }
-        rest = behind;
+        rest = following;
         left = others;
     }
     Ok(found)
@@ -371,7 +371,7 @@ fn push_picked(picked: &mut Picked, more: &Picked) -> Result<(), Failure>
 }
 
 /// The glyphs of requests, one after another.
-#[tactic(auto, using(crate::proofs::Requesting::behind_nothing, crate::proofs::Requesting::behind_one, crate::proofs::Requesting::failed_at))]
+#[tactic(auto, using(crate::proofs::Requesting::after_nothing, crate::proofs::Requesting::after_one, crate::proofs::Requesting::failed_at))]
 fn pick_each(
     alloc: Global,
     font: &[u8],
@@ -383,10 +383,10 @@ fn pick_each(
 {
     let mut picked = Picked::new(alloc);
     let mut rest = asked;
-    while let [one, behind @ ..] = rest {
+    while let [one, following @ ..] = rest {
         let more = pick_one(alloc, font, index, one)?;
         push_picked(&mut picked, &more)?;
-        rest = behind;
+        rest = following;
     }
     Ok(picked)
 }

@@ -180,12 +180,12 @@ pub fn each_requested<'a>(
     let mut requested = Vec::new(alloc);
     let mut rest = glyphs;
     let mut left = lists;
-    while let [one, behind @ ..] = rest {
+    while let [one, following @ ..] = rest {
         let [list, others @ ..] = left else {
             return Ok(requested);
         };
         push_requested(&mut requested, requested_of(one, list)).map_err(no_memory)?;
-        rest = behind;
+        rest = following;
         left = others;
     }
     Ok(requested)

@@ -12,7 +12,7 @@ use Rattle.subsetter.specs.Glyf.BareOutlines.Bare.{requested_component, requeste
 use Rattle.subsetter.specs.Glyf.Parts.{Component, Chain, Parts, Composite, Simple, rest_size, has_more, has_instructions, component_at, with_component, last_component, chain_at, composite_parts, outline_parts, spelled, parts_bytes}
 use Rattle.subsetter.specs.Glyf.Reaching.Closure.{first_byte_in}
 use Rattle.subsetter.specs.Glyf.Plain.{renumbered_component, renumbered_chain, renumbered, rewritten_composite, rewritten}
-use Rattle.subsetter_base.specs.Gives.{behind}
+use Rattle.subsetter_base.specs.Gives.{following}
 
 -- a component that is whole
 pub record IsComponent (bytes : List ℕ) (c : Component) : Type 0 where
@@ -87,7 +87,7 @@ with_front front o = option_map (λ text. front ++ text) o
 abbrev pub written : Bool → List ℕ → Component → Component
 written hint order c = renumbered_component order (requested_component hint c)
 
--- what is kept of the bytes behind the last component
+-- what is kept of the bytes after the last component
 abbrev pub kept_after : Bool → Component → List ℕ → List ℕ
 kept_after hint c after = requested_tail hint (cond (has_instructions c.flags) after [])
 
@@ -175,11 +175,11 @@ composite_is hint order bytes le =
     ap (λ b. ok_or (option_map (λ p. parts_bytes (renumbered order p)) (requested_parts hint (option_and_then (λ head. option_and_then (λ chain. Some (Composite head chain)) (chain_at (length bytes) rest)) (cond b (Some (take 10 (drop 0 bytes))) None)))) MalformedFont) (le-leb 10 (length bytes) le)
     ∙ ap (λ (o : Option (List ℕ)). ok_or o MalformedFont) (composite_by hint order (take 10 bytes) (chain_at (length bytes) rest) ∙ ap (λ (o : Option Chain). with_front (take 10 bytes) (option_map (chain_bytes hint order) o)) same)
 
--- the same behind other bytes
-pub composite_behind : (hint : Bool) (before order bytes : List ℕ) → 10 ≤ length bytes → behind before (rewritten_composite hint order bytes) ≡ ok_or (with_front (before ++ take 10 bytes) (chain_text hint order (drop 10 bytes))) MalformedFont
-composite_behind hint before order bytes le = ap (behind before) (composite_is hint order bytes le) ∙ by (chain_text hint order (drop 10 bytes))
+-- the same after other bytes
+pub composite_after : (hint : Bool) (before order bytes : List ℕ) → 10 ≤ length bytes → following before (rewritten_composite hint order bytes) ≡ ok_or (with_front (before ++ take 10 bytes) (chain_text hint order (drop 10 bytes))) MalformedFont
+composite_after hint before order bytes le = ap (following before) (composite_is hint order bytes le) ∙ by (chain_text hint order (drop 10 bytes))
   where
-    by : (o : Option (List ℕ)) → behind before (ok_or (with_front (take 10 bytes) o) MalformedFont) ≡ ok_or (with_front (before ++ take 10 bytes) o) MalformedFont
+    by : (o : Option (List ℕ)) → following before (ok_or (with_front (take 10 bytes) o) MalformedFont) ≡ ok_or (with_front (before ++ take 10 bytes) o) MalformedFont
     by None = refl
     by (Some text) = ap Ok (sym (append_assoc before (take 10 bytes) text))
 

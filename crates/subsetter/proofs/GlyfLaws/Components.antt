@@ -22,7 +22,7 @@ numbers_none (suc n) bytes lt =
       | Some flags ↦ rw (number_none bytes 2 2 lt) refl
     ]
 
--- one component, and those behind it
+-- one component, and those after it
 pub numbers_more : (n : ℕ) (bytes : List ℕ) (flags glyph : ℕ) → number bytes 0 2 ≡ Some flags → number bytes 2 2 ≡ Some glyph → numbers_at (suc n) bytes ≡ glyph ∷ cond (has_more flags) (numbers_at n (drop (4 + rest_size flags) bytes)) []
 unfolding numbers_at
 numbers_more n bytes flags glyph a b =

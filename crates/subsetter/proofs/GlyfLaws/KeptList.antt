@@ -5,7 +5,7 @@ use Rattle.std.specs.Borrow.{Bor}
 use Rattle.std.specs.Option.{option_copied, ok_or}
 use Rattle.std.proofs.lemmas.List.{append-nil, drop_more, map-append, take-append-drop, drop-drop, get_or-map}
 use Rattle.subsetter_base.specs.Bytes.{◌>>=◌}
-use Rattle.subsetter_base.specs.Gives.{Fails, behind}
+use Rattle.subsetter_base.specs.Gives.{Fails, following}
 use Rattle.subsetter_base.specs.declared.error.Error.{Error}
 use Rattle.subsetter_base.specs.declared.error.Error.TheVariants as errors
 use Rattle.subsetter_base.proofs.Lists.{rest_of}
@@ -79,12 +79,12 @@ outlines_fail errors.SubsetError hint order front os rest total h so_far = sym s
 outlines_fail errors.OverflowError hint order front os rest total h so_far = sym so_far ∙ outlines_apart hint order front os rest ∙ rw h refl
 outlines_fail errors.CFFError hint order front os rest total h so_far = sym so_far ∙ outlines_apart hint order front os rest ∙ rw h refl
 
--- the outline at an index, and those behind it
+-- the outline at an index, and those after it
 pub outline_at : (hint : Bool) (order : List ℕ) (front : List (List ℕ)) (block : List (Option (Bor (List ℕ)))) (i : ℕ) (d : Option (Bor (List ℕ))) (total : Result (List (List ℕ)) Error) → i < length block → with_outlines front (kept_outlines hint order (map option_copied (drop i block))) ≡ total
     → with_outlines front (kept_outlines hint order (option_copied (get_or block i d) ∷ map option_copied (drop (i + 1) block))) ≡ total
 outline_at hint order front block i d total lt so_far = ap (λ (l : List (Option (Bor (List ℕ)))). with_outlines front (kept_outlines hint order (map option_copied l))) (sym (drop_more block i d lt)) ∙ so_far
 
--- a block of outlines, and those behind it
+-- a block of outlines, and those after it
 pub block_of : (items slice : List (Option (Bor (List ℕ)))) (at count n : ℕ) → slice ≡ items → n ≡ count → map option_copied (take n (drop at slice)) ++ map option_copied (drop (at + count) items) ≡ map option_copied (drop at items)
 block_of items slice at count n same is =
     ap (λ (l : List (Option (Bor (List ℕ)))). map option_copied (take n (drop at l)) ++ map option_copied (drop (at + count) items)) same
@@ -106,9 +106,9 @@ unfolding kept kept_outline
 all_by_outlines t order [] = refl
 all_by_outlines t order (g ∷ gs) = ap (λ r. kept t order g >>= λ first. r >>= λ rest. Ok (first ∷ rest)) (all_by_outlines t order gs)
 
--- what was written behind other bytes
-pub behind_ok : (front : List ℕ) (read : Result (List ℕ) Error) (all : List ℕ) → behind front read ≡ Ok all → (b : List ℕ) × (read ≡ Ok b) × (front ++ b ≡ all)
-behind_ok front read all h =
+-- what was written after other bytes
+pub after_ok : (front : List ℕ) (read : Result (List ℕ) Error) (all : List ℕ) → following front read ≡ Ok all → (b : List ℕ) × (read ≡ Ok b) × (front ++ b ≡ all)
+after_ok front read all h =
     let k = bind_ok read (λ b. Ok (front ++ b)) all h in
     (k.0, k.1, done_is (front ++ k.0) all k.2)
 

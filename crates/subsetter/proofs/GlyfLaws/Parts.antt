@@ -118,8 +118,8 @@ component_back c others f g len =
     ∙ ap (λ (o : Option ℕ). option_and_then (λ glyph. option_and_then (λ rest. made c.flags glyph rest) (range X 4 (rest_size c.flags))) o) b
     ∙ ap (λ (o : Option (List ℕ)). option_and_then (λ rest. made c.flags c.glyph rest) o) d
 
-behind : (c : Component) (others : List ℕ) → length c.rest ≡ rest_size c.flags → drop (4 + rest_size c.flags) (spelled c ++ others) ≡ others
-behind c others len = drop_at (spelled c) others (4 + rest_size c.flags) (omega (arith, length-spelled c, len))
+following : (c : Component) (others : List ℕ) → length c.rest ≡ rest_size c.flags → drop (4 + rest_size c.flags) (spelled c ++ others) ≡ others
+following c others len = drop_at (spelled c) others (4 + rest_size c.flags) (omega (arith, length-spelled c, len))
 
 kept_tail : (b long : Bool) (tail : List ℕ) → (b ≡ false → tail ≡ []) → cond b (padded long tail) [] ≡ padded long tail
 kept_tail true long tail h = refl
@@ -140,7 +140,7 @@ module _ (order : List ℕ) (small : (g : ℕ) → new_index order g < 2 ^ 16) w
       let X = spelled (again c) ++ T in
       let whole : flat_map spelled (map again (c ∷ [])) ++ T ≡ X = ap (λ (l : List ℕ). l ++ T) (append-nil (spelled (again c))) in
       let read = component_back (again c) T fit (small c.glyph) len in
-      let rest : drop (4 + rest_size c.flags) X ≡ T = behind (again c) T len in
+      let rest : drop (4 + rest_size c.flags) X ≡ T = following (again c) T len in
       let kept : last_component (again c) (drop (4 + rest_size c.flags) X) ≡ record { components = again c ∷ []; tail = T } =
       ap (λ (l : List ℕ). last_component (again c) l) rest ∙ ap (λ (l : List ℕ). record { components = again c ∷ []; tail = l }) (kept_tail (has_instructions c.flags) long tail none) in
       ap (chain_at (suc n)) whole ∙ chain_more n X (again c) read
@@ -152,7 +152,7 @@ module _ (order : List ℕ) (small : (g : ℕ) → new_index order g < 2 ^ 16) w
       let X = spelled (again c) ++ R in
       let whole : flat_map spelled (map again (c ∷ cs)) ++ T ≡ X = append_assoc (spelled (again c)) (flat_map spelled (map again cs)) T in
       let read = component_back (again c) R fit (small c.glyph) len in
-      let rest : drop (4 + rest_size c.flags) X ≡ R = behind (again c) R len in
+      let rest : drop (4 + rest_size c.flags) X ≡ R = following (again c) R len in
       let below = chain_back n long tail cs h (omega arith) in
       ap (chain_at (suc n)) whole ∙ chain_more n X (again c) read
       ∙ ap (λ b. cond b (option_and_then (λ chain. just (with_component (again c) chain)) (chain_at n (drop (4 + rest_size c.flags) X))) (Some (last_component (again c) (drop (4 + rest_size c.flags) X)))) go

@@ -11,14 +11,14 @@ use Rattle.subsetter.proofs.GlyfLaws.Chains.{with_front, written, chain_text, is
 -- the last bytes are the components that have their old numbers; what stands before them and what these are to become is the whole
 pub record IsUnderway (hint : Bool) (order out rest : List ℕ) (total : Option (List ℕ)) : Type 0 where
   pub fits : length rest ≤ length out
-  pub behind : drop (length out - length rest) out ≡ rest
+  pub following : drop (length out - length rest) out ≡ rest
   pub whole : with_front (take (length out - length rest) out) (chain_text hint order rest) ≡ total
 
--- a component has its new number, and others stand behind it
+-- a component has its new number, and others stand after it
 pub record IsRenumbered (hint : Bool) (order out : List ℕ) (at : ℕ) (c : Component) (after_out after : List ℕ) : Type 0 where
   pub fits : length after ≤ length after_out
   pub front : take (length after_out - length after) after_out ≡ take at out ++ spelled (written hint order c)
-  pub behind : drop (length after_out - length after) after_out ≡ after
+  pub following : drop (length after_out - length after) after_out ≡ after
 
 abbrev patched : Bool → List ℕ → List ℕ → ℕ → Component → List ℕ
 patched hint order out at c = take at out ++ to_be_bytes w16 (requested_flags hint c.flags) ++ to_be_bytes w16 (new_index order c.glyph) ++ drop (at + 4) out
@@ -32,7 +32,7 @@ is_renumbered hint order out rest at c after_out after total u place h is e =
     let R = c.rest in
     let some : Some (take size (drop 4 rest)) ≡ Some R = sym (range-take_drop rest 4 size k.within) ∙ k.rest_is in
     let part : take size (drop 4 rest) ≡ R = cc in
-    let here : drop at out ≡ rest = ap (λ n. drop n out) place ∙ u.behind in
+    let here : drop at out ≡ rest = ap (λ n. drop n out) place ∙ u.following in
     let left : drop (at + 4) out ≡ R ++ after = sym (drop-drop 4 at out) ∙ ap (drop 4) here ∙ sym (take-append-drop size (drop 4 rest)) ∙ ap (λ (l : List ℕ). l ++ drop size (drop 4 rest)) part ∙ ap (λ (l : List ℕ). R ++ l) (drop-drop size 4 rest ∙ sym e) in
     let front = take at out ++ spelled (written hint order c) in
     let whole : after_out ≡ front ++ after = is ∙ ap (λ (l : List ℕ). take at out ++ F ++ N ++ l) left ∙ sym (simp append_assoc) in
@@ -45,7 +45,7 @@ is_renumbered hint order out rest at c after_out after total u place h is e =
     record {
       fits = omega arith;
       front = ap (take (length after_out - length after)) whole ∙ take_at front after (length after_out - length after) cut;
-      behind = ap (drop (length after_out - length after)) whole ∙ drop_at front after (length after_out - length after) cut;
+      following = ap (drop (length after_out - length after)) whole ∙ drop_at front after (length after_out - length after) cut;
     }
 
 pub underway_next : (hint : Bool) (order out rest : List ℕ) (at : ℕ) (c : Component) (after_out after : List ℕ) (total : Option (List ℕ)) → IsUnderway hint order out rest total → at ≡ length out - length rest → component_at rest ≡ Some c → after_out ≡ patched hint order out at c → after ≡ drop (4 + rest_size c.flags) rest → has_more c.flags ≡ true → IsUnderway hint order after_out after total
@@ -53,7 +53,7 @@ underway_next hint order out rest at c after_out after total u place h is e more
     let r = is_renumbered hint order out rest at c after_out after total u place h is e in
     record {
       fits = r.fits;
-      behind = r.behind;
+      following = r.following;
       whole = text_goes_on hint order (take at out) rest c (take (length after_out - length after) after_out) after total h more r.front e (ap (λ n. with_front (take n out) (chain_text hint order rest)) place ∙ u.whole);
     }
 
@@ -67,7 +67,7 @@ pub underway_ends : (hint : Bool) (order out rest : List ℕ) (at : ℕ) (c : Co
 underway_ends hint order out rest at c after_out after cut total u place h is e last tail =
     let r = is_renumbered hint order out rest at c after_out after total u place h is e in
     let n = length after_out - length after in
-    let split : after_out ≡ take n after_out ++ after = sym (take-append-drop n after_out) ∙ ap (λ (l : List ℕ). take n after_out ++ l) r.behind in
+    let split : after_out ≡ take n after_out ++ after = sym (take-append-drop n after_out) ∙ ap (λ (l : List ℕ). take n after_out ++ l) r.following in
     text_ends hint order (take at out) rest c (take n after_out) cut after total h last r.front e (tail ∙ tail_kept hint (has_instructions c.flags) after_out (take n after_out) after split) (ap (λ k. with_front (take k out) (chain_text hint order rest)) place ∙ u.whole)
 
 pub underway_starts : (hint : Bool) (order before outline out rest : List ℕ) → 10 ≤ length outline → out ≡ before ++ outline → rest ≡ drop 10 outline → IsUnderway hint order out rest (with_front (before ++ take 10 outline) (chain_text hint order (drop 10 outline)))
@@ -79,27 +79,27 @@ underway_starts hint order before outline out rest le is e =
     let cut : length front ≡ length out - length rest = omega arith in
     record {
       fits = omega arith;
-      behind = ap (drop (length out - length rest)) whole ∙ drop_at front rest (length out - length rest) cut;
+      following = ap (drop (length out - length rest)) whole ∙ drop_at front rest (length out - length rest) cut;
       whole = ap (λ (l : List ℕ). with_front l (chain_text hint order rest)) (ap (take (length out - length rest)) whole ∙ take_at front rest (length out - length rest) cut) ∙ ap (λ (l : List ℕ). with_front front (chain_text hint order l)) e;
     }
 
 -- what stood there before stays
-pub record IsBehind (before out rest : List ℕ) : Type 0 where
+pub record IsAfter (before out rest : List ℕ) : Type 0 where
   pub room : length before + length rest ≤ length out
   pub front : take (length before) out ≡ before
 
-pub behind_starts : (before outline out rest : List ℕ) → out ≡ before ++ outline → rest ≡ drop 10 outline → IsBehind before out rest
-behind_starts before outline out rest is e = record {
+pub after_starts : (before outline out rest : List ℕ) → out ≡ before ++ outline → rest ≡ drop 10 outline → IsAfter before out rest
+after_starts before outline out rest is e = record {
   room = omega (arith, ap length is, length-append before outline, ap length e, length-drop 10 outline);
   front = ap (take (length before)) is ∙ take_at before outline (length before) refl;
 }
 
-pub behind_next : (hint : Bool) (before order out rest : List ℕ) (at : ℕ) (c : Component) (after_out after : List ℕ) → IsBehind before out rest → at ≡ length out - length rest → component_at rest ≡ Some c → after_out ≡ patched hint order out at c → after ≡ drop (4 + rest_size c.flags) rest → IsBehind before after_out after
-behind_next hint before order out rest at c after_out after b place h is e =
+pub after_next : (hint : Bool) (before order out rest : List ℕ) (at : ℕ) (c : Component) (after_out after : List ℕ) → IsAfter before out rest → at ≡ length out - length rest → component_at rest ≡ Some c → after_out ≡ patched hint order out at c → after ≡ drop (4 + rest_size c.flags) rest → IsAfter before after_out after
+after_next hint before order out rest at c after_out after b place h is e =
     let k = is_component rest c h in
     let F = to_be_bytes w16 (requested_flags hint c.flags) in
     let N = to_be_bytes w16 (new_index order c.glyph) in
-    let behind = drop (at + 4) out in
+    let following = drop (at + 4) out in
     let room = b.room in
     let within = k.within in
     let at_most : at ≤ length out = omega (arith, place) in
@@ -107,9 +107,9 @@ behind_next hint before order out rest at c after_out after b place h is e =
     let cut : length (take at out) ≡ at = length-take-le at out at_most in
     let two_f : length F ≡ 2 = refl in
     let two_n : length N ≡ 2 = refl in
-    let whole : after_out ≡ take at out ++ (F ++ (N ++ behind)) = is ∙ simp append_assoc in
-    let long : length after_out ≡ length out = omega (arith, ap length whole, length-append (take at out) (F ++ (N ++ behind)), length-append F (N ++ behind), length-append N behind, cut, two_f, two_n, length-drop (at + 4) out, place, room, within) in
+    let whole : after_out ≡ take at out ++ (F ++ (N ++ following)) = is ∙ simp append_assoc in
+    let long : length after_out ≡ length out = omega (arith, ap length whole, length-append (take at out) (F ++ (N ++ following)), length-append F (N ++ following), length-append N following, cut, two_f, two_n, length-drop (at + 4) out, place, room, within) in
     record {
       room = omega (arith, long, room, ap length e, length-drop (4 + rest_size c.flags) rest);
-      front = ap (take (length before)) whole ∙ take-append-le (length before) (take at out) (F ++ (N ++ behind)) (omega (arith, cut, below)) ∙ take-take (length before) at out below ∙ b.front;
+      front = ap (take (length before)) whole ∙ take-append-le (length before) (take at out) (F ++ (N ++ following)) (omega (arith, cut, below)) ∙ take-take (length before) at out below ∙ b.front;
     }

@@ -31,7 +31,7 @@ goes_on : (before size : ℕ) (front : List ℕ) (o : Option (List ℕ)) → len
 goes_on before size front None e = refl
 goes_on before size front (Some text) e = ap Some (omega (arith, e, length-append front text))
 
--- a component, and others behind it
+-- a component, and others after it
 pub size_goes_on : (hint : Bool) (order : List ℕ) (before : ℕ) (rest : List ℕ) (c : Component) (next : ℕ) (after : List ℕ) (total : Option ℕ) → component_at rest ≡ Some c → has_more c.flags ≡ true → after ≡ drop (4 + rest_size c.flags) rest
     → next ≡ before + (4 + rest_size c.flags) → text_size hint order before rest ≡ total → text_size hint order next after ≡ total
 size_goes_on hint order before rest c next after total h more is index_of so_far =
@@ -127,7 +127,7 @@ empty_or : (b : Bool) (after : List ℕ) → numbers_at (length (cond b after []
 empty_or true after = refl
 empty_or false after = none_here
 
--- a component at the front, and those behind it
+-- a component at the front, and those after it
 numbers_of : (bytes : List ℕ) (c : Component) (after : List ℕ) → component_at bytes ≡ Some c → after ≡ drop (4 + rest_size c.flags) bytes → numbers_at (length bytes) bytes ≡ c.glyph ∷ cond (has_more c.flags) (numbers_at (length after) after) []
 numbers_of bytes c after h is =
     let k = is_component bytes c h in

@@ -16,4 +16,4 @@ component_seen c = record { flags = c.flags; glyph = c.glyph; rest = c.rest.now 
 -- the bytes of an outline that is written: one piece, or two with a length of 0 between them
 abbrev pub outline_bytes : Outline → List ℕ
 outline_bytes (Whole bytes) = bytes.now
-outline_bytes (InPieces bare) = bare.front.now ++ 0 ∷ 0 ∷ bare.behind.now
+outline_bytes (InPieces bare) = bare.front.now ++ 0 ∷ 0 ∷ bare.following.now

@@ -1,7 +1,7 @@
 //! `name`, the names of a font (OpenType, "name").
 //!
 //! Version 0 has records, each of which has for a platform, an encoding, a language and a name the offset of its string in the
-//! storage behind the records. The new table keeps the Unicode records of the names 0 to 14 but the description, and
+//! storage after the records. The new table keeps the Unicode records of the names 0 to 14 but the description, and
 //! stores each string once. A table of another version is copied.
 //!
 //! The source's table is read without copying (`Table`). What a subset keeps of it is `NewNames`, which is written into
@@ -16,7 +16,7 @@ ghost use Rattle.subsetter_base.specs.Gives.{Gives, Fails};
 ghost use Rattle.subsetter_base.specs.declared.error.Error.TheVariants.{OutOfMemory};
 ghost use Rattle.subsetter.specs.Common.Name.Read.{name_parts, is_kept_record, among, with_string, string_offset, joined};
 ghost use Rattle.subsetter_sfnt.specs.Fields.Name.{name_record_bytes};
-ghost use Rattle.subsetter.specs.Common.Name.Plain.{placed, placed_string, name_of_table, new_name, header_bytes, laid_behind, few_laid, laid_bytes, kept_bytes};
+ghost use Rattle.subsetter.specs.Common.Name.Plain.{placed, placed_string, name_of_table, new_name, header_bytes, laid_after, few_laid, laid_bytes, kept_bytes};
 ghost use Rattle.subsetter.specs.Common.Name.View.{nows, seen_parts, seen_table, name_seen};
 
 mod text;
@@ -31,7 +31,7 @@ use subsetter_base::write::{Writeable, Writer};
 use subsetter_sfnt::fields::name::{COUNT, HEADER_SIZE, NAME_RECORD_SIZE, NameRecord};
 use subsetter_sfnt::laying::room::put;
 
-/// The names below this one are kept: 15 is reserved, and those behind it are of families.
+/// The names below this one are kept: 15 is reserved, and those after it are of families.
 const KEPT_NAMES: u16 = 15;
 /// The name that describes the typeface.
 const DESCRIPTION: u16 = 10;
@@ -90,7 +90,7 @@ fn linear_offset(strings: &[&[u8]], string: &[u8]) -> Option<usize>
     None
 }
 
-/// Keeps where a string begins that stands behind so many, if these are 32 or more.
+/// Keeps where a string begins that stands after so many, if these are 32 or more.
 fn remember_hashed<'a>(
     hashed: &mut HashMap<Text<'a>, u16>,
     count: usize,
@@ -238,7 +238,7 @@ fn write_records(w: &mut Writer, table: &Table<'_>) -> Result<(), Error>
     Ok(())
 }
 
-/// A table as it stands, its storage right behind its records.
+/// A table as it stands, its storage right after its records.
 impl Writeable for Table<'_> {
     ghost use Rattle.subsetter.specs.Common.Name.Read.{name_bytes};
     ghost use Rattle.subsetter.specs.Common.Name.View.{seen_table};
@@ -256,7 +256,7 @@ impl Writeable for Table<'_> {
     }
 }
 
-/// The names that a subset keeps: at most 5460 records as they are written, and the strings that are behind them.
+/// The names that a subset keeps: at most 5460 records as they are written, and the strings that are after them.
 #[derive(Drop)]
 pub struct NewNames<'a> {
     records: Vec<u8>,
@@ -319,8 +319,8 @@ fn collect_names<'a>(
 ) -> Result<(), Error>
     requires front { front.old ≡ [] }
     requires strings { strings.old ≡ [] }
-    ensures ok { OnOk result (laid_behind [] (placed table.now.storage.now [] (filter is_kept_record (seen_table table.now).records)) ≡ Ok (record { bytes = front.new; strings = strings.new })) }
-    ensures err { IfErr result (λ e. Fails e (laid_behind [] (placed table.now.storage.now [] (filter is_kept_record (seen_table table.now).records)))) }
+    ensures ok { OnOk result (laid_after [] (placed table.now.storage.now [] (filter is_kept_record (seen_table table.now).records)) ≡ Ok (record { bytes = front.new; strings = strings.new })) }
+    ensures err { IfErr result (λ e. Fails e (laid_after [] (placed table.now.storage.now [] (filter is_kept_record (seen_table table.now).records)))) }
 {
     for record in table.records.iter() {
         if is_kept(&record) {

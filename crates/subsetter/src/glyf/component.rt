@@ -7,7 +7,7 @@
 ghost use Rattle.std.specs.Prelude.{◌≡◌, ◌⊎◌, ◌+◌, ◌-◌, ◌≤◌, true, false, [], ◌∷◌, ◌++◌, length, take, drop, if◌then◌else◌, ◌&&◌, nat_le, is_some, Some, None, Ok, OnOk, OnErr, IfOk, IfErr};
 ghost use Rattle.std.specs.Int.{w16, to_be_bytes};
 ghost use Rattle.std.specs.Option.{option_map};
-ghost use Rattle.subsetter_base.specs.Gives.{Fails, behind};
+ghost use Rattle.subsetter_base.specs.Gives.{Fails, following};
 ghost use Rattle.subsetter_base.specs.Indexes.{index_of, new_index};
 ghost use Rattle.subsetter_base.specs.declared.error.Error.TheVariants.{OutOfMemory, MalformedFont};
 ghost use Rattle.subsetter.specs.Glyf.View.{component_seen};
@@ -91,7 +91,7 @@ pub fn is_composite(first: u8) -> bool
     first >= 128
 }
 
-/// What stands behind a component at the front.
+/// What stands after a component at the front.
 fn rest_after<'a>(bytes: &'a [u8], component: Component<'_>) -> &'a [u8]
     requires { component_at bytes.now ≡ Some (component_seen component) }
     ensures { result.now ≡ drop (4 + rest_size component.entry.flags) bytes.now }
@@ -99,18 +99,18 @@ fn rest_after<'a>(bytes: &'a [u8], component: Component<'_>) -> &'a [u8]
     &bytes[ARGUMENTS + component.rest.len()..]
 }
 
-/// How many of the bytes behind the last component, which has these flags, are its instructions, if they are asked for.
-fn kept_len(flags: u16, behind: &[u8], hinting: bool) -> usize
-    ensures { result ≡ length (requested_tail hinting (if has_instructions flags then behind.now else [])) }
+/// How many of the bytes after the last component, which has these flags, are its instructions, if they are asked for.
+fn kept_len(flags: u16, following: &[u8], hinting: bool) -> usize
+    ensures { result ≡ length (requested_tail hinting (if has_instructions flags then following.now else [])) }
 {
     if hinting && has_instructions(flags) {
-        behind.len()
+        following.len()
     } else {
         0
     }
 }
 
-/// Puts a glyph that is not in the order behind those that wait.
+/// Puts a glyph that is not in the order after those that wait.
 fn push_new(order: &GlyphRemapper, waiting: &mut Vec<u16>, glyph: u16) -> Result<(), Error>
     ensures ok { OnOk result (waiting.new.items ≡ (if is_some (index_of order.now glyph) then waiting.old.items else waiting.old.items ++ glyph ∷ [])) }
     ensures err { IfErr result (λ e. e ≡ OutOfMemory) }
@@ -121,7 +121,7 @@ fn push_new(order: &GlyphRemapper, waiting: &mut Vec<u16>, glyph: u16) -> Result
     Ok(())
 }
 
-/// Puts the component at the front, which is cut, behind those that wait, if its flags and its number are there and it is
+/// Puts the component at the front, which is cut, after those that wait, if its flags and its number are there and it is
 /// not in the order.
 fn push_cut(bytes: &[u8], order: &GlyphRemapper, waiting: &mut Vec<u16>) -> Result<(), Error>
     requires { component_at bytes.now ≡ None }
@@ -143,7 +143,7 @@ pub struct Count {
     pub cut: bool,
 }
 
-/// Puts the components of a composite that are not in the order behind those that wait, and counts its bytes.
+/// Puts the components of a composite that are not in the order after those that wait, and counts its bytes.
 /// `MalformedFont` where it has fewer than ten. Another cut composite is refused later, as it is written.
 pub fn push_components(
     outline: &[u8],
@@ -226,7 +226,7 @@ fn cut_tail(out: &mut Vec<u8>, flags: u16, size: usize, hinting: bool)
     }
 }
 
-/// Writes a composite with its components under their new numbers behind other bytes, and its instructions if they are requested. `MalformedFont` where it is cut.
+/// Writes a composite with its components under their new numbers after other bytes, and its instructions if they are requested. `MalformedFont` where it is cut.
 /// It is copied as it is, and then each component gets its new number in its place. Where that fails, nothing is written.
 pub fn rewrite_composite(
     out: &mut Vec<u8>,
@@ -234,8 +234,8 @@ pub fn rewrite_composite(
     order: &GlyphRemapper,
     hinting: bool,
 ) -> Result<(), Error>
-    ensures ok { OnOk result (behind out.old.items (rewritten_composite hinting order.now outline.now) ≡ Ok out.new.items) }
-    ensures err { IfErr result (λ e. Fails e (behind out.old.items (rewritten_composite hinting order.now outline.now))) }
+    ensures ok { OnOk result (following out.old.items (rewritten_composite hinting order.now outline.now) ≡ Ok out.new.items) }
+    ensures err { IfErr result (λ e. Fails e (following out.old.items (rewritten_composite hinting order.now outline.now))) }
     ensures unchanged { OnErr result (out.new.items ≡ out.old.items) }
 {
     if outline.len() < HEADER_SIZE {

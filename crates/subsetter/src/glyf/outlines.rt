@@ -234,12 +234,12 @@ fn write_pieces(out: &mut Vec<u8>, outline: Outline<'_>)
         Outline::InPieces(bare) => {
             put(out, bare.front);
             put(out, &[0, 0]);
-            put(out, bare.behind);
+            put(out, bare.following);
         }
     }
 }
 
-/// Writes an outline, in the short format of `loca` with a zero byte behind an odd one.
+/// Writes an outline, in the short format of `loca` with a zero byte after an odd one.
 fn write_outline(out: &mut Vec<u8>, outline: Outline<'_>, long: bool)
     requires { length out.old.items + length (padded long (outline_bytes outline)) ≤ vec_capacity out.old }
     ensures items { out.new.items ≡ out.old.items ++ padded long (outline_bytes outline.entry) }

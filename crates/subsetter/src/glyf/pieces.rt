@@ -9,13 +9,13 @@ ghost use Rattle.subsetter.specs.Glyf.Reaching.Unfold.{padded};
 use subsetter_base::read::u16_at;
 use subsetter_points::header::HEADER_SIZE;
 
-/// A simple outline without its instructions: what is before their length, and what is behind them. A length of
+/// A simple outline without its instructions: what is before their length, and what is after them. A length of
 /// 0 is between the two.
 #[derive(Clone, Copy)]
 pub struct Bare<'a> {
     pub front: &'a [u8],
-    pub behind: &'a [u8],
-    ghost fits: { length front.now + 2 + length behind.now < 2 ^ 63 },
+    pub following: &'a [u8],
+    ghost fits: { length front.now + 2 + length following.now < 2 ^ 63 },
 }
 
 /// An outline as it is written.
@@ -30,7 +30,7 @@ pub enum Outline<'a> {
 /// The pieces of a simple outline that has instructions, all of which are there.
 #[tactic(auto, using(crate::proofs::GlyfLaws::BareOutlinesLaws::Bare::stays_bare), unfolding(crate::specs::Glyf::BareOutlines::Bare::bare_simple))]
 fn bare_pieces(outline: &[u8]) -> Option<Bare<'_>>
-    ensures { unwrap_or (option_map (λ b. b.front.now ++ 0 ∷ 0 ∷ b.behind.now) result) outline.now ≡ bare_simple outline.now }
+    ensures { unwrap_or (option_map (λ b. b.front.now ++ 0 ∷ 0 ∷ b.following.now) result) outline.now ≡ bare_simple outline.now }
 {
     if outline.len() < 2 {
         return None;
@@ -49,7 +49,7 @@ fn bare_pieces(outline: &[u8]) -> Option<Bare<'_>>
     }
     Some(Bare {
         front: &outline[..at],
-        behind: &outline[end..],
+        following: &outline[end..],
     })
 }
 
@@ -76,7 +76,7 @@ impl<'a> Outline<'a> {
     {
         match self {
             Outline::Whole(bytes) => bytes.len(),
-            Outline::InPieces(bare) => bare.front.len() + 2 + bare.behind.len(),
+            Outline::InPieces(bare) => bare.front.len() + 2 + bare.following.len(),
         }
     }
 

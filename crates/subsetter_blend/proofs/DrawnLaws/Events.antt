@@ -19,7 +19,7 @@ use Rattle.subsetter_blend.specs.declared.axes.Along.TheVariants.{X}
 use Rattle.subsetter_blend.specs.declared.writing.placing.Position.{Position}
 use Rattle.subsetter_blend.specs.Axes.{along}
 use Rattle.subsetter_blend.specs.Drawing.{path_of, path_drawn, type_drawn, event_drawn, IsAccepted}
-use Rattle.subsetter_blend.specs.Drawn.{Segment, Move, Line, Curve, Path, Rmoveto, Hmoveto, Vmoveto, Rlineto, Hlineto, Vlineto, Rrcurveto, Rcurveline, Rlinecurve, Vvcurveto, Hhcurveto, Vhcurveto, Hvcurveto, Flex, code, drawn, rounded, rounded_segment, all_rounded, point_behind}
+use Rattle.subsetter_blend.specs.Drawn.{Segment, Move, Line, Curve, Path, Rmoveto, Hmoveto, Vmoveto, Rlineto, Hlineto, Vlineto, Rrcurveto, Rcurveline, Rlinecurve, Vvcurveto, Hhcurveto, Vhcurveto, Hvcurveto, Flex, code, drawn, rounded, rounded_segment, all_rounded, point_after}
 use Rattle.subsetter_blend.specs.Writing.Flex.{opened_operator}
 use Rattle.subsetter_blend.specs.Hint.{is_hint}
 use Rattle.subsetter_blend.specs.Runs.Kind.{type_accepts, one_byte_accepts, accepts}
@@ -36,21 +36,21 @@ use Rattle.subsetter_blend.proofs.WritingLaws.FittingLaws.Inked.{ink_piece}
 use Rattle.subsetter_blend.proofs.WritingLaws.FittingLaws.Opening.{IsOpen}
 
 -- ---- rounded segments
-pub behind_rounded : (at : Position) (s : List Segment) → point_behind (rounded at) (all_rounded s) ≡ rounded (point_behind at s)
-behind_rounded at [] = refl
-behind_rounded at (Move to ∷ s) = behind_rounded to s
-behind_rounded at (Line to ∷ s) = behind_rounded to s
-behind_rounded at (Curve first second to ∷ s) = behind_rounded to s
+pub after_rounded : (at : Position) (s : List Segment) → point_after (rounded at) (all_rounded s) ≡ rounded (point_after at s)
+after_rounded at [] = refl
+after_rounded at (Move to ∷ s) = after_rounded to s
+after_rounded at (Line to ∷ s) = after_rounded to s
+after_rounded at (Curve first second to ∷ s) = after_rounded to s
 
 pub rounded_append : (s t : List Segment) → all_rounded (s ++ t) ≡ all_rounded s ++ all_rounded t
 rounded_append [] t = refl
 rounded_append (x ∷ s) t = ap (λ (l : List Segment). rounded_segment x ∷ l) (rounded_append s t)
 
-pub behind_append : (at : Position) (s t : List Segment) → point_behind at (s ++ t) ≡ point_behind (point_behind at s) t
-behind_append at [] t = refl
-behind_append at (Move to ∷ s) t = behind_append to s t
-behind_append at (Line to ∷ s) t = behind_append to s t
-behind_append at (Curve first second to ∷ s) t = behind_append to s t
+pub after_append : (at : Position) (s t : List Segment) → point_after at (s ++ t) ≡ point_after (point_after at s) t
+after_append at [] t = refl
+after_append at (Move to ∷ s) t = after_append to s t
+after_append at (Line to ∷ s) t = after_append to s t
+after_append at (Curve first second to ∷ s) t = after_append to s t
 
 -- ---- the operators that draw
 code_if : (b : Bool) (op : Operator) (own path : Path) (rest : Option Path) → (b ≡ true → op ≡ code own) → (rest ≡ Some path → op ≡ code path) → (if b then Some own else rest) ≡ Some path → op ≡ code path
@@ -147,7 +147,7 @@ pub record IsSaid (x : Event) (pen : Pen) (i : Inked) : Type 0 where
   pub plain : Event
   pub event : i.event ≡ record { operator = plain.operator; operands = width pen.advance ++ map (λ v. Integer v) plain.operands; mask = plain.mask }
   pub draws : event_drawn plain (rounded pen.at) ≡ all_rounded (event_drawn x pen.at)
-  pub ends : i.pen.at ≡ point_behind pen.at (event_drawn x pen.at)
+  pub ends : i.pen.at ≡ point_after pen.at (event_drawn x pen.at)
   pub advance : i.pen.advance ≡ None
   pub stems : (vertical : Bool) → stems_of vertical plain ≡ map whole (stems_of vertical x)
   pub masks : type_masks plain.operator.0 plain.mask ≡ type_masks x.operator.0 x.mask
@@ -170,7 +170,7 @@ path_said path x pen i is count same h =
       plain = record { operator = x.operator; operands = d.numbers; mask = x.mask };
       event = event_same i.event x.operator (width pen.advance ++ map (λ v. Integer v) d.numbers) x.mask k.operator d.are k.mask;
       draws = same (rounded pen.at) d.numbers ∙ d.draws ∙ ap all_rounded (sym (same pen.at x.operands));
-      ends = d.ends ∙ ap (point_behind pen.at) (sym (same pen.at x.operands));
+      ends = d.ends ∙ ap (point_after pen.at) (sym (same pen.at x.operands));
       advance = k.advance;
       stems = λ vertical.
           let none : (vs : List ℤ) → type_stems vertical x.operator.0 vs ≡ [] = λ vs. ap (λ (op : Operator). type_stems vertical op.0 vs) is ∙ no_stems vertical path vs in
@@ -197,7 +197,7 @@ module _ (x : Event) (pen : Pen) (i : Inked) (hint : is_hint x.operator.0 ≡ tr
         plain = record { operator = x.operator; operands = numbers; mask = x.mask };
         event = event_same i.event x.operator (width pen.advance ++ map (λ v. Integer v) numbers) x.mask k.operator are k.mask;
         draws = still (rounded pen.at) numbers ∙ ap all_rounded (sym (still pen.at x.operands));
-        ends = ap (λ (y : Inked). y.pen.at) (sym same) ∙ ap (λ (b : Bool). end_point b pen.at q.at) hint ∙ ap (point_behind pen.at) (sym (still pen.at x.operands));
+        ends = ap (λ (y : Inked). y.pen.at) (sym same) ∙ ap (λ (b : Bool). end_point b pen.at q.at) hint ∙ ap (point_after pen.at) (sym (still pen.at x.operands));
         advance = k.advance;
         stems = edges;
         masks = refl;

@@ -68,9 +68,9 @@ room_for n i count m lt le =
     let sum : (i + 1) * count ≡ i * count + count = grind arith in
     omega arith
 
--- behind the deltas of the default numbered i are those of the next one
-pub rest_more : (rest behind ds : List ℤ) (i count : ℕ) → rest ≡ drop (i * count) ds → behind ≡ drop count rest → behind ≡ drop ((i + 1) * count) ds
-rest_more rest behind ds i count r b =
+-- after the deltas of the default numbered i are those of the next one
+pub rest_more : (rest following ds : List ℤ) (i count : ℕ) → rest ≡ drop (i * count) ds → following ≡ drop count rest → following ≡ drop ((i + 1) * count) ds
+rest_more rest following ds i count r b =
     let sum : i * count + count ≡ (i + 1) * count = grind arith in
     b ∙ ap (drop count) r ∙ drop-drop count (i * count) ds ∙ ap (λ (n : ℕ). drop n ds) sum
 

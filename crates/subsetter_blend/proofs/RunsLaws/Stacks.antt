@@ -45,7 +45,7 @@ module _ (ss items old all : List ℤ) (len n base : ℕ) (view : take len items
       length-map-range_with_len (result_at ss (take n part) (drop n part)) 0 (length (take n part))
       ∙ length-take-le n part (omega (arith, length-take {A = ℤ}, length-drop {A = ℤ}))
 
-  -- the operands behind a blend
+  -- the operands after a blend
   pub stacked_view : all ≡ results ss (take n part) (drop n part) ++ drop n part → take (base + n) (put_mid base (len - base) items all) ≡ blended_from base ss n old
   stacked_view e =
       let long : n ≤ length all = omega (arith, ap length e, length-append (results ss (take n part) (drop n part)) (drop n part), count_is) in

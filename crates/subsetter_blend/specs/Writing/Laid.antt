@@ -1,4 +1,4 @@
--- The whole operands of an operator as they are written behind bytes.
+-- The whole operands of an operator as they are written after bytes.
 use Rattle.std.specs.Prelude.{ℕ, List, ◌++◌, Option, Some, None}
 use Rattle.subsetter_type2.specs.Flat.{flat_operands}
 use Rattle.subsetter_blend.specs.declared.writing.placing.Position.{Position}

@@ -4,7 +4,7 @@ use Rattle.subsetter_cffdata.specs.declared.dicts.operator.OperatorType.{Operato
 use Rattle.subsetter_cffdata.specs.declared.dicts.operator.OperatorType.TheVariants.{OneByteOperator, TwoByteOperator}
 use Rattle.subsetter_blend.specs.declared.writing.placing.Position.{Position}
 use Rattle.subsetter_blend.specs.Drawing.{event_drawn}
-use Rattle.subsetter_blend.specs.Drawn.{Segment, rounded_segment, point_behind}
+use Rattle.subsetter_blend.specs.Drawn.{Segment, rounded_segment, point_after}
 use Rattle.subsetter_blend.specs.Runs.Number.{whole}
 use Rattle.subsetter_blend.specs.Writing.Stems.{stems_of}
 use Rattle.subsetter_blend.specs.Writing.Taking.{Event}
@@ -29,7 +29,7 @@ event_marks e at = marks (stems_of false e) (stems_of true e) (type_masks e.oper
 
 abbrev pub all_marks : Position → List Event → List Mark
 all_marks at [] = []
-all_marks at (e ∷ es) = event_marks e at ++ all_marks (point_behind at (event_drawn e at)) es
+all_marks at (e ∷ es) = event_marks e at ++ all_marks (point_after at (event_drawn e at)) es
 
 abbrev pub rounded_mark : Mark → Mark
 rounded_mark (Edge vertical at) = Edge vertical (whole at)

@@ -53,7 +53,7 @@ rest_of k e = record { operator = e.operator; operands = moved_by (sum_before (i
 abbrev pub next_cut : Event → ℕ
 next_cut e = cut e.operator.0 (length e.operands)
 
--- at most 48 operands each, of which so many are in front of the first piece's; so many further pieces at most
+-- at most 48 operands each, of which so many are before the first piece's; so many further pieces at most
 unfoldable pub pieces : ℕ → ℕ → Event → List Event
 pieces zero width e = e ∷ []
 pieces (suc more) width e =

@@ -33,7 +33,7 @@ abbrev pub may_begin : Option ℤ → OperatorType → Bool
 may_begin None operator = true
 may_begin (Some advance) operator = begins operator
 
--- a whole event, and the pen behind it
+-- a whole event, and the pen after it
 pub record Inked : Type 0 where
   pub event : type2.Event
   pub pen : Pen

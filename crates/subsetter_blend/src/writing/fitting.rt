@@ -100,7 +100,7 @@ fn may_begin(advance: Option<i16>, operator: OperatorType) -> bool
     }
 }
 
-/// Writes the advance behind these bytes, where it isn't written yet.
+/// Writes the advance after these bytes, where it isn't written yet.
 #[inline(always)]
 fn append_width(bytes: &mut Vec<u8>, advance: Option<i16>) -> Result<(), Error>
     ensures ok { OnOk result (bytes.new.items ≡ bytes.old.items ++ flat_operands (width advance)) }
@@ -112,7 +112,7 @@ fn append_width(bytes: &mut Vec<u8>, advance: Option<i16>) -> Result<(), Error>
     Ok(())
 }
 
-/// Writes an operator behind these bytes.
+/// Writes an operator after these bytes.
 #[inline(always)]
 fn append_code(bytes: &mut Vec<u8>, operator: Operator) -> Result<(), AllocError>
     ensures { OnOk result (bytes.new.items ≡ bytes.old.items ++ operator_of operator) }
@@ -128,7 +128,7 @@ fn append_code(bytes: &mut Vec<u8>, operator: Operator) -> Result<(), AllocError
     }
 }
 
-/// Writes a mask behind these bytes: most operators have none.
+/// Writes a mask after these bytes: most operators have none.
 #[inline(always)]
 fn append_mask(bytes: &mut Vec<u8>, mask: &[u8]) -> Result<(), AllocError>
     ensures { OnOk result (bytes.new.items ≡ bytes.old.items ++ mask.now) }
@@ -139,7 +139,7 @@ fn append_mask(bytes: &mut Vec<u8>, mask: &[u8]) -> Result<(), AllocError>
     bytes.extend_from_slice(mask)
 }
 
-/// Writes an operator and its mask behind these bytes.
+/// Writes an operator and its mask after these bytes.
 #[inline(always)]
 fn append_operator(bytes: &mut Vec<u8>, operator: Operator, mask: &[u8]) -> Result<(), Error>
     ensures ok { OnOk result (bytes.new.items ≡ bytes.old.items ++ (operator_of operator ++ mask.now)) }
@@ -160,7 +160,7 @@ fn start_point(hint: bool, at: Position) -> Position
     if hint { Position { x: 0, y: 0 } } else { at }
 }
 
-/// The position behind an operator.
+/// The position after an operator.
 #[inline(always)]
 fn end_point(hint: bool, old: Position, new: Position) -> Position
     requires old { IsPosition old }
@@ -184,7 +184,7 @@ impl Fitting {
         })
     }
 
-    /// How many numbers are in front of the next operands.
+    /// How many numbers are before the next operands.
     #[inline(always)]
     fn front(&self) -> usize
         ensures value { result ≡ length (width self.now.pen.advance) }

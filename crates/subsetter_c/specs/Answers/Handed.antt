@@ -11,7 +11,7 @@ use Rattle.subsetter_sfnt.specs.Fault.{HasOpeningFault}
 use Rattle.cid_embed.specs.Embed.{numbering}
 use Rattle.subsetter_c.specs.Answers.Status.{status_of, too_small}
 
--- a buffer that begins with these items, and is unchanged behind them
+-- a buffer that begins with these items, and is unchanged after them
 abbrev pub begun_with : {A : Type 0} → List A → List A → List A
 begun_with items buffer = items ++ drop (length items) buffer
 

@@ -1,4 +1,4 @@
--- What the words of `struct subsetter_pdf_options` choose (bindings/c/subsetter.h): those of `subsetter_options`, and behind them the choices of a font for a PDF.
+-- What the words of `struct subsetter_pdf_options` choose (bindings/c/subsetter.h): those of `subsetter_options`, and after them the choices of a font for a PDF.
 use Rattle.std.specs.Prelude.{◌≡◌, ◌≤◌, ◌<◌, ◌*◌, ◌++◌, ◌⊎◌, ℕ, List, length, drop, Option, Some, None, ◌==◌, if◌then◌else◌}
 use Rattle.std.specs.Int.{w32, to_be_bytes}
 use Rattle.pdf_text.specs.SubsetName.{IsTag}
@@ -65,7 +65,7 @@ bounds_chosen n = if n == 0 then Font else Kept
 abbrev pub rights_chosen : ℕ → Rights
 rights_chosen n = if n == 0 then AsSaid else Held
 
--- the library knows the words behind those of `subsetter_options`
+-- the library knows the words after those of `subsetter_options`
 pub record AreFurtherKnown (words : List ℕ) : Type 0 where
   pub program : word words 5 < 2
   pub codes : word words 6 < 3

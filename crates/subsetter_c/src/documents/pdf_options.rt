@@ -97,7 +97,7 @@ fn tag_of(front: u32, back: u32) -> Option<Option<SubsetTag>>
     Some(Some(letters_of(front, back)?))
 }
 
-/// The options that the words behind those of `subsetter_options` choose beside these.
+/// The options that the words after those of `subsetter_options` choose beside these.
 fn with_words(options: Options, words: &[u32]) -> Option<FontOptions>
     ensures { MatchOption result (¬ (AreFurtherKnown words.now)) (λ chosen. AreFurtherKnown words.now × IsFurtherChosen options words.now chosen) }
 {

@@ -9,7 +9,7 @@ use Rattle.subsetter_base.specs.declared.error.Error.{Error}
 use Rattle.subsetter_base.specs.declared.error.Error.TheVariants.{MalformedFont, CFFError}
 use Rattle.subsetter_cffdata.specs.Dicts.Dict.{Entry}
 use Rattle.subsetter_cffdata.specs.Indexes.Index.{index_at}
-use Rattle.subsetter_cff.specs.Read.Cff.{Cff, behind_header, name_index, string_index, subroutine_index, top_dict, before, name_bytes, cff_parts, char_strings, is_cid_keyed}
+use Rattle.subsetter_cff.specs.Read.Cff.{Cff, past_header, name_index, string_index, subroutine_index, top_dict, before, name_bytes, cff_parts, char_strings, is_cid_keyed}
 use Rattle.subsetter_cff.specs.Read.FdArray.FontDicts.{font_dicts, font_dict_select}
 use Rattle.subsetter_cff.specs.Read.Entries.OperandDemands.{top_demands, font_dict_demands}
 use Rattle.subsetter_cff.specs.Read.Opened.{check, all_meet, all_lead, sound_font_dicts, opened_cid, opened_parts, opened}
@@ -31,7 +31,7 @@ no_names (Some s) (Some n) h e = absurd (none-some _ (sym e))
 
 name_bytes_none : (bytes : List ℕ) → name_bytes bytes ≡ None → name_index bytes ≡ None
 unfolding name_bytes name_index
-name_bytes_none bytes e = no_names (behind_header bytes) (option_and_then index_at (behind_header bytes)) (λ h. rw h refl) e
+name_bytes_none bytes e = no_names (past_header bytes) (option_and_then index_at (past_header bytes)) (λ h. rw h refl) e
 
 pub parts_none : (bytes : List ℕ) (b : ℕ) → first_number bytes ≡ Some b → eqb b 1 ≡ true → cff_parts bytes ≡ None → HasFrontFault bytes MalformedFont
 unfolding cff_parts

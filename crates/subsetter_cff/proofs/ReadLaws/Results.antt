@@ -39,15 +39,15 @@ in_tail y ys x h =
       | inr other ↦ record { at = h.at + 1; is = rw (other, h.is) refl }
     ]
 
-behind : (o : Option ℕ) (i : ℕ) → option_map (λ j. j + 1) o ≡ Some i → (j : ℕ) × ((o ≡ Some j) × (i ≡ suc j))
-behind None i e = absurd (none-some i e)
-behind (Some j) i e = (j, (refl, omega (arith, same_Some _ _ e)))
+following : (o : Option ℕ) (i : ℕ) → option_map (λ j. j + 1) o ≡ Some i → (j : ℕ) × ((o ≡ Some j) × (i ≡ suc j))
+following None i e = absurd (none-some i e)
+following (Some j) i e = (j, (refl, omega (arith, same_Some _ _ e)))
 
 pub in_either : (y : ℕ) (ys : List ℕ) (x : ℕ) → In (y ∷ ys) x → (y ≡ x) ⊎ In ys x
 in_either y ys x h =
     elim (cases_Bool (eqb y x)) [
       | inl same ↦ inl (eqb-true y x same)
-      | inr other ↦ (let more = behind (index_of ys x) h.at (rw other at h.is) in inr (record { at = more.0; is = more.1.0 }))
+      | inr other ↦ (let more = following (index_of ys x) h.at (rw other at h.is) in inr (record { at = more.0; is = more.1.0 }))
     ]
 
 pub number_there : (xs : List ℕ) (x i : ℕ) → index_of xs x ≡ Some i → slice_get xs i ≡ Some x
@@ -55,5 +55,5 @@ number_there [] x i e = absurd (none-some i e)
 number_there (y ∷ ys) x i e =
     elim (cases_Bool (eqb y x)) [
       | inl same ↦ (let zero : 0 ≡ i = same_Some _ _ (rw same at e) in rw (← zero) (ap Some (eqb-true y x same)))
-      | inr other ↦ (let more = behind (index_of ys x) i (rw other at e) in rw more.1.1 (number_there ys x more.0 more.1.0))
+      | inr other ↦ (let more = following (index_of ys x) i (rw other at e) in rw more.1.1 (number_there ys x more.0 more.1.0))
     ]

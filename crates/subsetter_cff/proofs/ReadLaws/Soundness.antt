@@ -7,7 +7,7 @@ use Rattle.std.proofs.lemmas.Option.{none-some, same_Some}
 use Rattle.subsetter_base.specs.declared.error.Error.{Error}
 use Rattle.subsetter_base.specs.declared.error.Error.TheVariants.{MalformedFont, CFFError}
 use Rattle.subsetter_cffdata.specs.Dicts.Dict.{Entry}
-use Rattle.subsetter_cff.specs.Read.Cff.{Cff, behind_header, name_index, top_index, string_index, subroutine_index, top_dict, name_bytes, cff_parts, char_strings, is_cid_keyed}
+use Rattle.subsetter_cff.specs.Read.Cff.{Cff, past_header, name_index, top_index, string_index, subroutine_index, top_dict, name_bytes, cff_parts, char_strings, is_cid_keyed}
 use Rattle.subsetter_base.specs.Bytes.{first_number}
 use Rattle.subsetter_cff.specs.Read.FdArray.FontDicts.{font_dicts, font_dict_select}
 use Rattle.subsetter_cff.specs.Read.Entries.OperandDemands.{top_demands, font_dict_demands}
@@ -18,8 +18,8 @@ use Rattle.subsetter_cff.proofs.ReadLaws.Results.{bind_ok, some_of, passed}
 use Rattle.subsetter_cffdata.proofs.Options.{step, when}
 use Rattle.subsetter_cff.proofs.ReadLaws.EntriesLaws.EntrySound.{clash, contradiction, no_wrong, no_private_fault}
 
-long_enough : (bytes start : List ℕ) → behind_header bytes ≡ Some start → length bytes < 3 → ⊥
-unfolding behind_header
+long_enough : (bytes start : List ℕ) → past_header bytes ≡ Some start → length bytes < 3 → ⊥
+unfolding past_header
 long_enough [] start e lt = none-some start e
 long_enough (a ∷ []) start e lt = none-some start e
 long_enough (a ∷ b ∷ []) start e lt = none-some start e
@@ -29,7 +29,7 @@ long_enough (a ∷ b ∷ c ∷ bytes) start e lt = absurd (omega arith)
 record FrontIsRead (bytes : List ℕ) : Type 0 where
   version : first_number bytes ≡ Some 1
   start : List ℕ
-  start_is : behind_header bytes ≡ Some start
+  start_is : past_header bytes ≡ Some start
   tops : List (Option (List ℕ)) × List ℕ
   tops_are : top_index bytes ≡ Some tops
   names : List (Option (List ℕ)) × List ℕ
@@ -45,8 +45,8 @@ front_is_read : (bytes : List ℕ) (cff : Cff) → cff_parts bytes ≡ Some cff 
 unfolding cff_parts name_bytes top_dict
 front_is_read bytes cff e =
     let a = step (first_number bytes) _ cff e in
-    let b = step (option_and_then _ (behind_header bytes)) _ cff a.1.1 in
-    let h = step (behind_header bytes) _ b.0 b.1.0 in
+    let b = step (option_and_then _ (past_header bytes)) _ cff a.1.1 in
+    let h = step (past_header bytes) _ b.0 b.1.0 in
     let n = step (name_index bytes) _ b.0 h.1.1 in
     let c = step (option_and_then _ (top_index bytes)) _ cff b.1.1 in
     let t = step (top_index bytes) _ c.0 c.1.0 in

@@ -129,7 +129,7 @@ parts_fit bytes cff tokens depth glyphs kept copyright notice font_name dicts so
     let names = names_again bytes cff.names source.names in
     let count = length-kept cff tokens depth glyphs kept are in
     let chars = length-map kept (λ (k : KeptGlyph). k.bytes) in
-    let behind = short_back p.matrix _ limits.short in
+    let following = short_back p.matrix _ limits.short in
     record {
       name_entries = names.0;
       names = names.1;
@@ -137,8 +137,8 @@ parts_fit bytes cff tokens depth glyphs kept copyright notice font_name dicts so
       notice = string_fits cff.strings (last_of notice_operator cff.top) notice b;
       font_name = string_fits cff.strings (last_of font_name_operator cff.top) font_name c;
       matrix = numbers_fit p.matrix (or_else_read (last_of font_matrix_operator cff.top) thousandth_matrix (λ xs h. last_of_read font_matrix_operator cff.top xs top h) thousandth_read) (short_front p.matrix _ limits.short);
-      box = numbers_fit p.box (or_else_read (last_of font_box_operator cff.top) zero_box (λ xs h. last_of_read font_box_operator cff.top xs top h) box_read) (short_front p.box _ behind);
-      font_dicts = new_dicts_fit cff (used_numbers kept) dicts d (short_back p.box _ behind);
+      box = numbers_fit p.box (or_else_read (last_of font_box_operator cff.top) zero_box (λ xs h. last_of_read font_box_operator cff.top xs top h) box_read) (short_front p.box _ following);
+      font_dicts = new_dicts_fit cff (used_numbers kept) dicts d (short_back p.box _ following);
       select = select_fits cff kept (length dicts) (omega (arith, some, count)) (length-dicts cff (used_numbers kept) dicts d);
       string_count = limits.string_count;
       font_dict_count = limits.font_dict_count;

@@ -10,7 +10,7 @@ use Rattle.subsetter_cffdata.specs.Dicts.Dict.{entry_in, entry_at, entries_in, e
 use Rattle.subsetter_cffdata.specs.Dicts.Operands.{offset_operand, range_operands, string_operand}
 use Rattle.subsetter_cff.specs.Read.Entries.Lookup.{last_of}
 use Rattle.subsetter_cff.specs.Read.Strings.{Standard, string_of, string_at}
-use Rattle.subsetter_cff.specs.Read.Cff.{Cff, behind_header, name_index, top_index, string_index, subroutine_index, top_dict, name_bytes, cff_parts, at_offset, char_strings}
+use Rattle.subsetter_cff.specs.Read.Cff.{Cff, past_header, name_index, top_index, string_index, subroutine_index, top_dict, name_bytes, cff_parts, at_offset, char_strings}
 use Rattle.subsetter_cff.specs.Read.Charset.{in_ranges as in_charset_ranges, in_format, in_charset}
 use Rattle.subsetter_cff.specs.Read.FdArray.FontDicts.{Ranges, Each, in_ranges, selected, select_at}
 use Rattle.subsetter_cff.specs.Read.FdArray.Private.{local_subroutines, private_in, private_at, private_of}
@@ -45,7 +45,7 @@ abbrev pub source : List ℕ
 source = 1 ∷ 0 ∷ 4 ∷ 1 ∷ 0 ∷ 1 ∷ 1 ∷ 1 ∷ 2 ∷ 0x41 ∷ 0 ∷ 1 ∷ 1 ∷ 1 ∷ 3 ∷ 0xA0 ∷ 0x11 ∷ 0 ∷ 0 ∷ 0 ∷ 0 ∷ 0 ∷ 1 ∷ 1 ∷ 1 ∷ 2 ∷ 0x0E ∷ []
 
 source_read : cff_parts source ≡ Some (record { bytes = source; names = 0 ∷ 1 ∷ 1 ∷ 1 ∷ 2 ∷ 0x41 ∷ []; top = record { operator = 17 ∷ []; operands = Integer (pos 21) ∷ [] } ∷ []; strings = []; subroutines = [] })
-unfolding cff_parts behind_header name_bytes name_index top_index top_dict string_index subroutine_index index_of index_body index_data byte card part entries entries_in entry_at entry_in dict_number_from integer_from short_integer
+unfolding cff_parts past_header name_bytes name_index top_index top_dict string_index subroutine_index index_of index_body index_data byte card part entries entries_in entry_at entry_in dict_number_from integer_from short_integer
 source_read = refl
 
 -- with Notice, standard string 100

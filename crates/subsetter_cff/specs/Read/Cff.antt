@@ -1,5 +1,5 @@
 -- The parts of a CFF table (Technical Note 5176, section 2 "Data Layout"): header, Name INDEX, Top DICT INDEX, String INDEX,
--- Global Subr INDEX, one behind the other; the rest is found by offsets from the table's start.
+-- Global Subr INDEX, one after the other; the rest is found by offsets from the table's start.
 use Rattle.std.specs.Prelude.{ℕ, ◌-◌, ◌==◌, if◌then◌else◌, Bool, List, ◌∷◌, take, drop, length, is_some, Option, Some, None}
 use Rattle.std.specs.Option.{option_map}
 use Rattle.subsetter_base.specs.Options.{◌>>=◌}
@@ -12,14 +12,14 @@ use Rattle.subsetter_cff.specs.Read.Entries.Operators.{registry_operator, char_s
 use Rattle.subsetter_base.specs.Bytes.{first_number}
 
 -- ---- in the order of the bytes
--- what stands behind the header, whose third byte says how long it is (section 6 "Header")
-unfoldable pub behind_header : List ℕ → Option (List ℕ)
-behind_header (major ∷ minor ∷ size ∷ bytes) = Some (drop size (major ∷ minor ∷ size ∷ bytes))
-behind_header _ = None
+-- what stands after the header, whose third byte says how long it is (section 6 "Header")
+unfoldable pub past_header : List ℕ → Option (List ℕ)
+past_header (major ∷ minor ∷ size ∷ bytes) = Some (drop size (major ∷ minor ∷ size ∷ bytes))
+past_header _ = None
 
 -- section 7 "Name INDEX"
 unfoldable pub name_index : List ℕ → Option (List (Option (List ℕ)) × List ℕ)
-name_index bytes = behind_header bytes >>= index_at
+name_index bytes = past_header bytes >>= index_at
 
 -- section 8 "Top DICT INDEX"
 unfoldable pub top_index : List ℕ → Option (List (Option (List ℕ)) × List ℕ)
@@ -43,7 +43,7 @@ before bytes left = take (length bytes - length left) bytes
 
 -- the bytes of the Name INDEX, as they stand
 unfoldable pub name_bytes : List ℕ → Option (List ℕ)
-name_bytes bytes = behind_header bytes >>= λ start. name_index bytes >>= λ names. Some (before start names.1)
+name_bytes bytes = past_header bytes >>= λ start. name_index bytes >>= λ names. Some (before start names.1)
 
 -- ---- a table of major version 1
 pub record Cff : Type 0 where

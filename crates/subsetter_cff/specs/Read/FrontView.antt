@@ -8,13 +8,13 @@ use Rattle.subsetter_cffdata.specs.Dicts.Dict.{entries}
 use Rattle.subsetter_cffdata.specs.Indexes.Index.{index_at}
 use Rattle.subsetter_cffdata.specs.Indexes.IndexView.{items}
 use Rattle.subsetter_type2.specs.Subroutines.{entry_at}
-use Rattle.subsetter_cff.specs.Read.Cff.{Cff, behind_header, before}
+use Rattle.subsetter_cff.specs.Read.Cff.{Cff, past_header, before}
 use Rattle.subsetter_cff.specs.declared.read.front.Front.{Front}
 
 abbrev pub front_of : Front → Cff
 front_of f = record { bytes = f.bytes.now; names = f.names.now; top = entries f.top.now; strings = items f.strings; subroutines = items f.subroutines }
 
--- the parts that stand one behind the other from behind the header on
+-- the parts that stand one after the other from after the header on
 unfoldable pub front_at : List ℕ → List ℕ → Option Cff
 front_at bytes start =
     option_and_then (λ names. option_and_then (λ tops. option_and_then (λ top. option_and_then (λ strings. option_and_then (λ subroutines.
@@ -24,4 +24,4 @@ front_at bytes start =
 -- the front of a table of major version 1, or the error that is answered
 unfoldable pub front_read : List ℕ → Result Cff Error
 front_read bytes = ok_or (first_number bytes) MalformedFont >>= λ version.
-    if version == 1 then ok_or (option_and_then (front_at bytes) (behind_header bytes)) MalformedFont else Err CFFError
+    if version == 1 then ok_or (option_and_then (front_at bytes) (past_header bytes)) MalformedFont else Err CFFError

@@ -32,7 +32,7 @@ entries_at bytes (Some offset) = option_map (λ index. index.0) (index_at (drop 
 abbrev pub opened_keyed : Cff → Result Cff Error
 opened_keyed cff = if is_cid_keyed cff then opened_cid cff else Ok cff
 
--- what is opened behind the front
+-- what is opened after the front
 unfoldable pub opened_top : Cff → Result Cff Error
 opened_top cff = do
   charstrings ← ok_or (char_strings cff) MalformedFont

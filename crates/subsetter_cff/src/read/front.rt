@@ -3,7 +3,7 @@
 ghost use Rattle.std.specs.Prelude.{◌≡◌, ◌-◌, take, drop, length};
 ghost use Rattle.std.specs.Option.{option_map};
 ghost use Rattle.subsetter_base.specs.Gives.{Gives};
-ghost use Rattle.subsetter_cff.specs.Read.Cff.{behind_header};
+ghost use Rattle.subsetter_cff.specs.Read.Cff.{past_header};
 ghost use Rattle.subsetter_cffdata.specs.Reading.{rest};
 ghost use Rattle.subsetter_cff.specs.Read.Cff.{before};
 ghost use Rattle.subsetter_cff.specs.Read.FrontView.{front_of, front_at, front_read};
@@ -12,7 +12,7 @@ use subsetter_base::error::Error;
 use subsetter_base::read::Reader;
 use subsetter_cffdata::indexes::index::{Index, parse_index};
 
-/// The parts that are one behind the other.
+/// The parts that are one after the other.
 #[derive(Clone, Copy, Debug)]
 pub struct Front<'a> {
     /// The whole table.
@@ -35,7 +35,7 @@ fn read_before<'a>(start: &'a [u8], offset: usize) -> &'a [u8]
     &start[..start.len() - left]
 }
 
-/// Reads the parts from behind the header on; None where one of them can't be read.
+/// Reads the parts from after the header on; None where one of them can't be read.
 #[tactic(auto, unfolding(crate::specs::Read::FrontView::front_at))]
 pub fn parse_parts<'a>(bytes: &'a [u8], start: &'a [u8]) -> Option<Front<'a>>
     ensures { option_map front_of result ≡ front_at bytes.now start.now }
@@ -56,10 +56,10 @@ pub fn parse_parts<'a>(bytes: &'a [u8], start: &'a [u8]) -> Option<Front<'a>>
     })
 }
 
-/// What stands behind the header, as far as the third byte says.
-#[tactic(auto, unfolding(crate::specs::Read::Cff::behind_header))]
-fn behind_header(bytes: &[u8]) -> Option<&[u8]>
-    ensures { option_map (λ x. x.now) result ≡ behind_header bytes.now }
+/// What stands after the header, as far as the third byte says.
+#[tactic(auto, unfolding(crate::specs::Read::Cff::past_header))]
+fn past_header(bytes: &[u8]) -> Option<&[u8]>
+    ensures { option_map (λ x. x.now) result ≡ past_header bytes.now }
 {
     let [_, _, size, ..] = bytes else {
         return None;
@@ -78,7 +78,7 @@ pub fn parse_front<'a>(bytes: &'a [u8]) -> Result<Front<'a>, Error>
     if *version != 1 {
         return Err(Error::CFFError);
     }
-    let Some(start) = behind_header(bytes) else {
+    let Some(start) = past_header(bytes) else {
         return Err(Error::MalformedFont);
     };
     parse_parts(bytes, start).ok_or(Error::MalformedFont)

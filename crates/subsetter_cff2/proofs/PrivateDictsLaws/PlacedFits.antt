@@ -243,16 +243,16 @@ with_said_fits : (said : Option Entry) (p : Placed) → SaidFits said → AllByR
 with_said_fits None p fits all = all
 with_said_fits (Some e) p fits all = (fits, all)
 
-behind_said : (said : Option Entry) (o : Option Placed) (p : Placed) → SaidFits said → ((q : Placed) → o ≡ Some q → AllByRecursion FitsPlaced q.entries) → option_map (with_entry said) o ≡ Some p → AllByRecursion FitsPlaced p.entries
-behind_said said None p fits more h = absurd (none-some p h)
-behind_said said (Some q) p fits more h = subst (λ (x : Placed). AllByRecursion FitsPlaced x.entries) (same_Some _ _ h) (with_said_fits said q fits (more q refl))
+after_said : (said : Option Entry) (o : Option Placed) (p : Placed) → SaidFits said → ((q : Placed) → o ≡ Some q → AllByRecursion FitsPlaced q.entries) → option_map (with_entry said) o ≡ Some p → AllByRecursion FitsPlaced p.entries
+after_said said None p fits more h = absurd (none-some p h)
+after_said said (Some q) p fits more h = subst (λ (x : Placed). AllByRecursion FitsPlaced x.entries) (same_Some _ _ h) (with_said_fits said q fits (more q refl))
 
 placed_fit : (v : Option Variation) (r : Registers) (es : List Entry) (p : Placed) → Good r → AllByRecursion Whole es → placed v r es ≡ Some p → AllByRecursion FitsPlaced p.entries
 placed_fit v r [] p good read h = subst (λ (x : Placed). AllByRecursion FitsPlaced x.entries) (same_Some _ _ h) tt
 placed_fit v r (e ∷ es) p good read h =
     let a = options.step (step v r e.operator e.operands) (λ s. option_map (with_entry s.said) (placed v s.next es)) p h in
     let g = step_good v r e a.0 good read.0 a.1.0 in
-    behind_said a.0.said (placed v a.0.next es) p g.said (λ q k. placed_fit v a.0.next es q g.next read.1 k) a.1.1
+    after_said a.0.said (placed v a.0.next es) p g.said (λ q k. placed_fit v a.0.next es q g.next read.1 k) a.1.1
 
 pub private_fits : (v : Option Variation) (bytes : List ℕ) (p : Placed) → private_at_location v bytes ≡ Some p → AllByRecursion FitsPlaced p.entries
 unfolding private_at_location

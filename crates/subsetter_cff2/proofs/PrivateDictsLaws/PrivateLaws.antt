@@ -17,7 +17,7 @@ use Rattle.subsetter_cff2.specs.PrivateDicts.Blend.{edges_from}
 use Rattle.subsetter_cff2.specs.PrivateDicts.EntryLists.{entry_lists}
 use Rattle.subsetter_cff2.specs.PrivateDicts.PrivateAt.{Registers, Step, Placed, pushed, step_by, step, placed, at_start, with_entry, private_at_location}
 use Rattle.subsetter_cff2.specs.PrivateDicts.PrivateKinds.{kind_by}
-use Rattle.subsetter_cff2.specs.PrivateDicts.PrivateText.{TextStep, PlacedText, entry_text, step_text_of, operator_text, step_text, behind, placed_text, private_text, placed_as, TextIsPlaced, EdgesAreRounded}
+use Rattle.subsetter_cff2.specs.PrivateDicts.PrivateText.{TextStep, PlacedText, entry_text, step_text_of, operator_text, step_text, following, placed_text, private_text, placed_as, TextIsPlaced, EdgesAreRounded}
 use Rattle.subsetter_blend.specs.Writing.Split.{sum_of}
 use Rattle.subsetter_cff2.specs.Variation.{Variation}
 
@@ -124,7 +124,7 @@ both_same said p front t rest h same e =
 text_found : (v : Option Variation) (r : Registers) (es : List Entry) (t : PlacedText) → placed_text v r es ≡ Ok t → TextFound v r es t
 text_found v r [] t h = record { made = record { entries = []; data_index = r.data_index }; is = refl; text = sym (same_Ok _ _ h); short = tt }
 text_found v r (e ∷ es) t h =
-    let here = bind_ok (step_text v r e.operator e.operands) (λ s. behind s.text (placed_text v s.next es)) t h in
+    let here = bind_ok (step_text v r e.operator e.operands) (λ s. following s.text (placed_text v s.next es)) t h in
     let s = step_found v r e.operator e.operands here.0 here.1.0 in
     let rest = bind_ok (placed_text v here.0.next es) (λ p. Ok (record { text = here.0.text ++ p.text; data_index = p.data_index })) t here.1.1 in
     let more = text_found v here.0.next es rest.0 rest.1.0 in

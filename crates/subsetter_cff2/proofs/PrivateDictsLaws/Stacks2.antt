@@ -53,7 +53,7 @@ module _ (ss : List ℤ) (items all : List (Option ℤ)) (len n base : ℕ) (ins
       length-map-range_with_len (result_at ss (take n part) (drop n part)) 0 (length (take n part))
       ∙ length-take-le n part (omega (arith, length-take {A = Option ℤ}, length-drop {A = Option ℤ}))
 
-  -- the operands behind a blend
+  -- the operands after a blend
   pub stacked_view : all ≡ results ss (take n part) (drop n part) ++ drop n part → take (base + n) (put_mid base (len - base) items all) ≡ blended_from base ss n old
   stacked_view e =
       let long : n ≤ length all = omega (arith, ap length e, length-append (results ss (take n part) (drop n part)) (drop n part), count_is) in
@@ -67,8 +67,8 @@ module _ (ss : List ℤ) (items all : List (Option ℤ)) (len n base : ℕ) (ins
   pub blended_length : length (blended_from base ss n old) ≡ base + n
   blended_length =
       let front : length (take base old) ≡ base = length-take-le base old (omega (arith, length-take {A = Option ℤ})) in
-      let behind : length (results ss (take n (drop base old)) (drop n (drop base old))) ≡ n = ap (λ (p : List (Option ℤ)). length (results ss (take n p) (drop n p))) (sym part_is) ∙ count_is in
-      omega (arith, length-append (take base old) (results ss (take n (drop base old)) (drop n (drop base old))), front, behind)
+      let following : length (results ss (take n (drop base old)) (drop n (drop base old))) ≡ n = ap (λ (p : List (Option ℤ)). length (results ss (take n p) (drop n p))) (sym part_is) ∙ count_is in
+      omega (arith, length-append (take base old) (results ss (take n (drop base old)) (drop n (drop base old))), front, following)
 
 -- what is written back is within bounds
 pub held_in : (base k : ℕ) (items all : List (Option ℤ)) → All IsHeld items → All IsHeld all → All IsHeld (put_mid base k items all)

@@ -4,7 +4,7 @@ use Rattle.std.specs.Prelude.{◌&&◌, nat_le, IfSome}
 use Rattle.std.proofs.lemmas.Bool.{le-ltb, lt-leb}
 use Rattle.subsetter_cff2.specs.Selection.Select.{Range, has}
 use Rattle.subsetter_cff2.specs.Selection.SelectSearch.{range_numbered, AreThere, IsWithin, AreWithin}
-use Rattle.subsetter_cff2.proofs.SelectionLaws.RangeSteps.{ranges_from, behind, none_from, same_from}
+use Rattle.subsetter_cff2.proofs.SelectionLaws.RangeSteps.{ranges_from, following, none_from, same_from}
 
 -- ---- bounds
 wider : (o : Option Range) (l g m h : ℕ) → m ≤ l → g ≤ h → IfSome o (IsWithin l g) → IfSome o (IsWithin m h)
@@ -39,8 +39,8 @@ and_none : (b : Bool) → (b && false) ≡ false
 and_none true = refl
 and_none false = refl
 
-begins_behind : (glyph l g : ℕ) (r : Range) → IsWithin l g r → glyph < l → has r glyph ≡ false
-begins_behind glyph l g r k lt = let far : glyph < r.first = omega (arith, k.0) in rw (lt-leb r.first glyph far) refl
+begins_after : (glyph l g : ℕ) (r : Range) → IsWithin l g r → glyph < l → has r glyph ≡ false
+begins_after glyph l g r k lt = let far : glyph < r.first = omega (arith, k.0) in rw (lt-leb r.first glyph far) refl
 
 ends_before : (glyph l g : ℕ) (r : Range) → IsWithin l g r → g ≤ glyph → has r glyph ≡ false
 ends_before glyph l g r k le = let near : r.next ≤ glyph = omega (arith, k.1) in rw (le-ltb glyph r.next near) (and_none (nat_le r.first glyph))
@@ -49,8 +49,8 @@ module _ (bytes : List ℕ) (w : Bool) (at from to glyph l g : ℕ) (order : fro
   is_within : (k : ℕ) → from ≤ k → k < to → (r : Range) → range_numbered bytes w at k ≡ Some r → IsWithin l g r
   is_within k up less r is = subst (λ (o : Option Range). IfSome o (IsWithin l g)) is (within k up less)
 
-  pub all_behind : glyph < l → None ≡ ranges_from bytes w at glyph (to - from) from
-  all_behind lt = sym (none_from bytes w at to glyph all (to - from) from (omega arith) (λ k up less r is. begins_behind glyph l g r (is_within k up (omega arith) r is) lt))
+  pub all_after : glyph < l → None ≡ ranges_from bytes w at glyph (to - from) from
+  all_after lt = sym (none_from bytes w at to glyph all (to - from) from (omega arith) (λ k up less r is. begins_after glyph l g r (is_within k up (omega arith) r is) lt))
 
   pub all_before : g ≤ glyph → None ≡ ranges_from bytes w at glyph (to - from) from
   all_before le = sym (none_from bytes w at to glyph all (to - from) from (omega arith) (λ k up less r is. ends_before glyph l g r (is_within k up (omega arith) r is) le))
@@ -60,11 +60,11 @@ module _ (bytes : List ℕ) (w : Bool) (at count glyph : ℕ) (all : AreThere by
   -- what is found in a block is found
   pub found_in_block : (i j : ℕ) (found answer : Option ℕ) → i ≤ j → j ≤ count → is_some found ≡ true → found ≡ ranges_from bytes w at glyph (j - i) i → ranges_from bytes w at glyph (count - i) i ≡ answer → found ≡ answer
   found_in_block i j None answer le within some is total = absurd cc
-  found_in_block i j (Some x) answer le within some is total = sym (behind bytes w at count glyph all i j le within (Some x) is) ∙ total
+  found_in_block i j (Some x) answer le within some is total = sym (following bytes w at count glyph all i j le within (Some x) is) ∙ total
 
   pub next_block : (i j : ℕ) (found answer : Option ℕ) → i ≤ j → j ≤ count → is_some found ≡ false → found ≡ ranges_from bytes w at glyph (j - i) i → ranges_from bytes w at glyph (count - i) i ≡ answer → ranges_from bytes w at glyph (count - j) j ≡ answer
   next_block i j (Some x) answer le within none is total = absurd cc
-  next_block i j None answer le within none is total = sym (behind bytes w at count glyph all i j le within None is) ∙ total
+  next_block i j None answer le within none is total = sym (following bytes w at count glyph all i j le within None is) ∙ total
 
   pub all_passed : (i : ℕ) (answer : Option ℕ) → count ≤ i → ranges_from bytes w at glyph (count - i) i ≡ answer → None ≡ answer
   all_passed i answer past total = same_from bytes w at glyph 0 (count - i) i i (omega arith) refl ∙ total

@@ -70,8 +70,8 @@ module _ (bytes : List ℕ) (w : Bool) (at count glyph : ℕ) (order : AreInOrde
   ends_before : (r : Range) → r.next ≤ glyph → has r glyph ≡ false
   ends_before r le = rw (le-ltb glyph r.next le) (and_none (nat_le r.first glyph))
 
-  begins_behind : (r : Range) → glyph < r.first → has r glyph ≡ false
-  begins_behind r lt = rw (lt-leb r.first glyph lt) refl
+  begins_after : (r : Range) → glyph < r.first → has r glyph ≡ false
+  begins_after r lt = rw (lt-leb r.first glyph lt) refl
 
   same_range : (k m : ℕ) (r s : Range) → k ≡ m → f k ≡ Some s → f m ≡ Some r → s ≡ r
   same_range k m r s e h g = same_Some s r (sym h ∙ ap f e ∙ g)
@@ -88,10 +88,10 @@ module _ (bytes : List ℕ) (w : Bool) (at count glyph : ℕ) (order : AreInOrde
   pub all_begin : (middle : ℕ) (r : Range) → f middle ≡ Some r → glyph < r.first → (k : ℕ) → middle ≤ k → k < count → Misses bytes w at glyph k
   all_begin middle r is lt k low within s h =
       elim (cases_eq k middle) [
-        | inl same ↦ begins_behind s (omega (arith, ap (λ (x : Range). x.first) (same_range k middle r s same h is), lt))
+        | inl same ↦ begins_after s (omega (arith, ap (λ (x : Range). x.first) (same_range k middle r s same h is), lt))
         | inr other ↦ (let q = there (f middle) (order middle (omega arith)) in
             let e = same_range middle middle r q.range refl q.is is in
-            begins_behind s (omega (arith, ordered middle k r s (omega arith) within is h, q.order, ap (λ (x : Range). x.first) e, ap (λ (x : Range). x.next) e, lt)))
+            begins_after s (omega (arith, ordered middle k r s (omega arith) within is h, q.order, ap (λ (x : Range). x.first) e, ap (λ (x : Range). x.next) e, lt)))
       ]
 
   all_before : (middle : ℕ) (r : Range) → middle < count → f middle ≡ Some r → r.first ≤ glyph → (k : ℕ) → k < middle → Misses bytes w at glyph k

@@ -43,7 +43,7 @@ module _ (bytes : List ℕ) (w : Bool) (at glyph : ℕ) where
   pub found : (n i : ℕ) (r : Range) → range_numbered bytes w at i ≡ Some r → has r glyph ≡ true → from (suc n) i ≡ Some r.dict
   found n i r is here = one_step n i r is ∙ ap (λ (b : Bool). cond b (Some r.dict) (from n (i + 1))) here
 
-  -- ---- ranges behind the last one that is there say nothing
+  -- ---- ranges after the last one that is there say nothing
   cut_from : (n m i : ℕ) → m ≤ n → ((k : ℕ) → i ≤ k → k < i + m → IsThere (range_numbered bytes w at k)) → (m < n → range_numbered bytes w at (i + m) ≡ None) → from n i ≡ from m i
   cut_from zero m i le all end = same_from 0 m i i (omega arith) refl
   cut_from (suc n) zero i le all end = cut_step n i (ap (range_numbered bytes w at) (let e : i ≡ i + 0 = omega arith in e) ∙ end (omega arith))
@@ -58,7 +58,7 @@ module _ (bytes : List ℕ) (w : Bool) (at glyph : ℕ) where
       ∙ cut_from n m 0 le (λ k a b. all k (omega arith)) (λ less. ap (range_numbered bytes w at) (let e : 0 + m ≡ m = omega arith in e) ∙ end less)
       ∙ at_start bytes w at glyph m
 
--- ---- ranges, and those behind them
+-- ---- ranges, and those after them
 abbrev pub else_next : Option ℕ → Option ℕ → Option ℕ
 else_next (Some x) next = Some x
 else_next None next = next
@@ -91,8 +91,8 @@ module _ (bytes : List ℕ) (w : Bool) (at count glyph : ℕ) (all : AreThere by
       ∙ by_test (has q.range glyph) q.range.dict (go n (i + 1)) (go j (i + 1)) next rest
       ∙ ap (λ (o : Option ℕ). else_next o next) (sym (one_step bytes w at glyph j i q.range q.is))
 
-  pub behind : (i j : ℕ) → i ≤ j → j ≤ count → (found : Option ℕ) → found ≡ go (j - i) i → go (count - i) i ≡ else_next found (go (count - j) j)
-  behind i j le within found is =
+  pub following : (i j : ℕ) → i ≤ j → j ≤ count → (found : Option ℕ) → found ≡ go (j - i) i → go (count - i) i ≡ else_next found (go (count - j) j)
+  following i j le within found is =
       split (j - i) (count - i) i (omega arith) (omega arith)
       ∙ ap (λ (o : Option ℕ). else_next o (go (count - i - (j - i)) (i + (j - i)))) (sym is)
       ∙ ap (else_next found) (same_from bytes w at glyph (count - i - (j - i)) (count - j) (i + (j - i)) j (omega arith) (omega arith))

@@ -34,14 +34,14 @@ abbrev pub held : Option ℤ → Option ℤ
 held None = None
 held (Some z) = if is_within z then Some z else None
 
--- the result numbered i: behind all defaults stand the deltas of the first one, then those of the second one, and so on
+-- the result numbered i: after all defaults stand the deltas of the first one, then those of the second one, and so on
 unfoldable pub result_at : List ℤ → List (Option ℤ) → List (Option ℤ) → ℕ → Option ℤ
 result_at scalars defaults deltas i = held (varied (slice_index_or defaults i None) scalars (drop (i * length scalars) deltas))
 
 abbrev pub results : List ℤ → List (Option ℤ) → List (Option ℤ) → List (Option ℤ)
 results scalars defaults deltas = map (result_at scalars defaults deltas) (range_with_len 0 (length defaults))
 
--- the operands behind a place, of which the first n are defaults, give way to the results
+-- the operands after a place, of which the first n are defaults, give way to the results
 abbrev pub blended_from : ℕ → List ℤ → ℕ → List (Option ℤ) → List (Option ℤ)
 blended_from base scalars n operands = take base operands ++ results scalars (take n (drop base operands)) (drop n (drop base operands))
 

@@ -34,21 +34,21 @@ operator_text v r operator = ok_or (step_by (kind_by operator) v operator r) Mal
 unfoldable pub step_text : Option Variation → Registers → List ℕ → List Number → Result TextStep Error
 step_text v r operator xs = ok_or (pushed r xs) MalformedFont >>= λ here. operator_text v here operator
 
--- a text behind another
-abbrev pub behind_step : List ℕ → Result TextStep Error → Result TextStep Error
-behind_step front o = o >>= λ s. Ok (record { text = front ++ s.text; next = s.next })
+-- a text after another
+abbrev pub after_step : List ℕ → Result TextStep Error → Result TextStep Error
+after_step front o = o >>= λ s. Ok (record { text = front ++ s.text; next = s.next })
 
 pub record PlacedText : Type 0 where
   pub text : List ℕ
   pub data_index : ℕ
 
 -- text in front
-abbrev pub behind : List ℕ → Result PlacedText Error → Result PlacedText Error
-behind front o = o >>= λ p. Ok (record { text = front ++ p.text; data_index = p.data_index })
+abbrev pub following : List ℕ → Result PlacedText Error → Result PlacedText Error
+following front o = o >>= λ p. Ok (record { text = front ++ p.text; data_index = p.data_index })
 
 abbrev pub placed_text : Option Variation → Registers → List Entry → Result PlacedText Error
 placed_text v r [] = Ok (record { text = []; data_index = r.data_index })
-placed_text v r (e ∷ es) = step_text v r e.operator e.operands >>= λ s. behind s.text (placed_text v s.next es)
+placed_text v r (e ∷ es) = step_text v r e.operator e.operands >>= λ s. following s.text (placed_text v s.next es)
 
 unfoldable pub private_text : Option Variation → List ℕ → Result PlacedText Error
 private_text v dict = placed_text v at_start (entry_lists dict)

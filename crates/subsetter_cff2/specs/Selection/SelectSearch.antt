@@ -26,7 +26,7 @@ IsInOrder (Some r) = r.first ≤ r.next
 abbrev pub AreInOrder : List ℕ → Bool → ℕ → ℕ → Type 0
 AreInOrder bytes is_wide at count = (i : ℕ) → i < count → IsInOrder (range_numbered bytes is_wide at i)
 
--- it doesn't begin before the least glyph, nor end behind the greatest
+-- it doesn't begin before the least glyph, nor end after the greatest
 abbrev pub IsWithin : ℕ → ℕ → Range → Type 0
 IsWithin least greatest r = (least ≤ r.first) × (r.next ≤ greatest)
 

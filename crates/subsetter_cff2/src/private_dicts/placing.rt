@@ -4,7 +4,7 @@ ghost use Rattle.std.specs.Prelude.{◌≡◌, ◌≤◌, ◌+ℤ◌, ◌-ℤ◌
 ghost use Rattle.std.specs.List.{list_all};
 ghost use Rattle.subsetter_cffdata.specs.Numerals.Numbers.{Integer};
 ghost use Rattle.subsetter_cffdata.specs.Views.{number_of, operator_of};
-ghost use Rattle.subsetter_base.specs.Gives.{Fails, behind};
+ghost use Rattle.subsetter_base.specs.Gives.{Fails, following};
 ghost use Rattle.subsetter_cff.specs.Write.NewDicts.Rewritten.{written_entry};
 ghost use Rattle.subsetter_blend.specs.Runs.Number.{whole};
 ghost use Rattle.subsetter_cff2.specs.PrivateDicts.Blend.{edges};
@@ -125,8 +125,8 @@ pub fn write_front(
     requires same_parts { len ≤ length parts.now }
     requires few { len ≤ 48 }
     requires held { All IsHeld parts.now }
-    ensures ok { OnOk result (behind w.old (written_entry (operator_of operator) (placed_numbers is_array (map number_of (take len numbers.old)) (take len parts.now))) ≡ Ok w.new) }
-    ensures err { IfErr result (λ e. Fails e (behind w.old (written_entry (operator_of operator) (placed_numbers is_array (map number_of (take len numbers.old)) (take len parts.now))))) }
+    ensures ok { OnOk result (following w.old (written_entry (operator_of operator) (placed_numbers is_array (map number_of (take len numbers.old)) (take len parts.now))) ≡ Ok w.new) }
+    ensures err { IfErr result (λ e. Fails e (following w.old (written_entry (operator_of operator) (placed_numbers is_array (map number_of (take len numbers.old)) (take len parts.now))))) }
 {
     place_front(is_array, numbers, parts, len);
     write_numbers(&numbers[..len], operator, w)

@@ -3,7 +3,7 @@
 ghost use Rattle.std.specs.Prelude.{◌≡◌, map, OnOk, IfErr, IfOk};
 ghost use Rattle.subsetter_base.specs.Gives.{Fails};
 ghost use Rattle.subsetter_cffdata.specs.Views.{number_of, operator_of};
-ghost use Rattle.subsetter_cff2.specs.PrivateDicts.PrivateText.{behind, behind_step, operator_text, step_text, private_text};
+ghost use Rattle.subsetter_cff2.specs.PrivateDicts.PrivateText.{following, after_step, operator_text, step_text, private_text};
 
 use crate::private_dicts::kinds::{PrivateOperator, kind_of};
 use crate::private_dicts::stack::PrivateStack;
@@ -25,8 +25,8 @@ fn take_operator(
     variation: &Option<Variation<'_>>,
     w: &mut Writer,
 ) -> Result<(), Error>
-    ensures ok { OnOk result (behind_step w.old (operator_text variation.now stack.old (operator_of operator)) ≡ Ok (record { text = w.new; next = stack.new })) }
-    ensures err { IfErr result (λ e. Fails e (behind_step w.old (operator_text variation.now stack.old (operator_of operator)))) }
+    ensures ok { OnOk result (after_step w.old (operator_text variation.now stack.old (operator_of operator)) ≡ Ok (record { text = w.new; next = stack.new })) }
+    ensures err { IfErr result (λ e. Fails e (after_step w.old (operator_text variation.now stack.old (operator_of operator)))) }
 {
     match kind_of(&operator) {
         PrivateOperator::Blends => stack.blend(variation).ok_or(Error::MalformedFont),
@@ -49,8 +49,8 @@ fn take_entry(
     variation: &Option<Variation<'_>>,
     w: &mut Writer,
 ) -> Result<(), Error>
-    ensures ok { OnOk result (behind_step w.old (step_text variation.now stack.old (operator_of operator) (map number_of operands.now)) ≡ Ok (record { text = w.new; next = stack.new })) }
-    ensures err { IfErr result (λ e. Fails e (behind_step w.old (step_text variation.now stack.old (operator_of operator) (map number_of operands.now)))) }
+    ensures ok { OnOk result (after_step w.old (step_text variation.now stack.old (operator_of operator) (map number_of operands.now)) ≡ Ok (record { text = w.new; next = stack.new })) }
+    ensures err { IfErr result (λ e. Fails e (after_step w.old (step_text variation.now stack.old (operator_of operator) (map number_of operands.now)))) }
 {
     if stack.push(operands).is_none() {
         return Err(Error::MalformedFont);
@@ -67,8 +67,8 @@ pub fn write_private_at(
     variation: &Option<Variation<'_>>,
     w: &mut Writer,
 ) -> Result<u16, Error>
-    ensures ok { IfOk result (λ n. behind w.old (private_text variation.now dict.now) ≡ Ok (record { text = w.new; data_index = n })) }
-    ensures err { IfErr result (λ e. Fails e (behind w.old (private_text variation.now dict.now))) }
+    ensures ok { IfOk result (λ n. following w.old (private_text variation.now dict.now) ≡ Ok (record { text = w.new; data_index = n })) }
+    ensures err { IfErr result (λ e. Fails e (following w.old (private_text variation.now dict.now))) }
 {
     let mut buffer = vec![in alloc; Number::zero(); READ_OPERANDS]?;
     let mut stack = PrivateStack::new(alloc)?;

@@ -3,7 +3,7 @@
 ghost use Rattle.std.specs.Prelude.{◌≡◌, ◌≤◌, ◌<◌, ◌^◌, ◌*◌, ◌+◌, ◌++◌, All, IfSome, length, map, take, OnOk, IfErr, IfOk};
 ghost use Rattle.std.specs.Option.{option_map};
 ghost use Rattle.subsetter_base.specs.declared.error.Error.TheVariants.{OutOfMemory};
-ghost use Rattle.subsetter_base.specs.Gives.{Fails, behind};
+ghost use Rattle.subsetter_base.specs.Gives.{Fails, following};
 ghost use Rattle.subsetter_cffdata.specs.Views.{number_of, operator_of};
 ghost use Rattle.subsetter_cff.specs.Write.NewDicts.Rewritten.{written_entry};
 ghost use Rattle.subsetter_cff2.specs.PrivateDicts.Blend.{in_parts};
@@ -130,7 +130,7 @@ impl PrivateStack {
         self.data_index
     }
 
-    /// Puts operands behind the others; None where there are more than 513.
+    /// Puts operands after the others; None where there are more than 513.
     #[tactic(auto, unfolding(crate::specs::PrivateDicts::PrivateAt::pushed))]
     pub fn push(&mut self, operands: &[Number]) -> Option<()>
         ensures { pushed self.old (map number_of operands.now) ≡ option_map (λ _. self.new) result }
@@ -196,8 +196,8 @@ impl PrivateStack {
     /// Writes an entry of the first 48 operands, placed, and takes all operands away. A real that is too long is `OverflowError`.
     pub fn write(&mut self, is_array: bool, operator: Operator, w: &mut Writer) -> Result<(), Error>
         ensures registers { OnOk result (self.new ≡ cleared self.old) }
-        ensures ok { OnOk result (behind w.old (written_entry (operator_of operator) (placed_entry is_array (operator_of operator) self.old).operands) ≡ Ok w.new) }
-        ensures err { IfErr result (λ e. Fails e (behind w.old (written_entry (operator_of operator) (placed_entry is_array (operator_of operator) self.old).operands))) }
+        ensures ok { OnOk result (following w.old (written_entry (operator_of operator) (placed_entry is_array (operator_of operator) self.old).operands) ≡ Ok w.new) }
+        ensures err { IfErr result (λ e. Fails e (following w.old (written_entry (operator_of operator) (placed_entry is_array (operator_of operator) self.old).operands))) }
     {
         let len = self.len.min(48);
         write_front(is_array, &mut self.defaults, &self.parts, len, operator, w)?;

@@ -1,5 +1,5 @@
 //! FDSelect, looked through once (OpenType, "CFF2": "FDSelect"). Where none of its ranges ends before it begins, a glyph is looked up
-//! by halves, else blocks of ranges that all lie before the glyph or behind it are passed: either way it is the first range that
+//! by halves, else blocks of ranges that all lie before the glyph or after it are passed: either way it is the first range that
 //! has the glyph.
 
 ghost use Rattle.std.specs.Prelude.{◌≡◌, ◌≤◌, ◌<◌, ◌^◌, ◌+◌, ◌-◌, ◌*◌, IsTrue, IfSome, None, Some};
@@ -30,7 +30,7 @@ pub struct RangeList {
 /// How many blocks the ranges are in.
 const BLOCKS: usize = 256;
 
-/// Of each block of ranges, a glyph that none begins before, and one that none ends behind.
+/// Of each block of ranges, a glyph that none begins before, and one that none ends after.
 #[derive(Clone, Copy, Debug)]
 pub struct Blocks {
     /// How many ranges a block has; the last ones may have fewer.
@@ -39,7 +39,7 @@ pub struct Blocks {
     pub greatest: [u32; BLOCKS],
 }
 
-/// A glyph that no range of some begins before, and one that none ends behind.
+/// A glyph that no range of some begins before, and one that none ends after.
 #[derive(Clone, Copy)]
 struct Bounds {
     least: u32,

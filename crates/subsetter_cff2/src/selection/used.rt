@@ -32,7 +32,7 @@ fn mark_used(alloc: Global, numbers: &[u16], bound: usize) -> Result<Vec<bool>, 
     Ok(used)
 }
 
-/// Puts a place behind others, where it is marked.
+/// Puts a place after others, where it is marked.
 fn put_marked(places: &mut Vec<u16>, is_marked: bool, place: u16) -> Result<(), AllocError>
     ensures { OnOk result (places.new.items ≡ (if is_marked then places.old.items ++ place ∷ [] else places.old.items)) }
 {

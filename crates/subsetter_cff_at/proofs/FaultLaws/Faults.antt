@@ -37,21 +37,21 @@ use Rattle.subsetter_cff_at.proofs.DrawnGlyphs.{drawn_steps, number_place}
 use Rattle.subsetter_cff_at.proofs.FaultLaws.GlyphFaults.{number_refused, dict_refused, RefusedAt, numbers_refused, dicts_refused, UserOf, user_of, TextRefused, texts_refused, in_dicts, text_refused}
 
 -- ---- the table as a whole
-parts_refused : (bytes : List ℕ) (r : Request) (top : List ℕ) (behind : ℕ) → front_at bytes ≡ Some (top, behind) → parts_by bytes (length r.at) (entries top) behind ≡ None → HasOpeningFault bytes r MalformedFont
+parts_refused : (bytes : List ℕ) (r : Request) (top : List ℕ) (following : ℕ) → front_at bytes ≡ Some (top, following) → parts_by bytes (length r.at) (entries top) following ≡ None → HasOpeningFault bytes r MalformedFont
 unfolding parts_by
-parts_refused bytes r top behind front e =
-    elim (none_or (wide_index bytes behind) _ e) [
-      | inl none ↦ bad_subroutines top behind front none
+parts_refused bytes r top following front e =
+    elim (none_or (wide_index bytes following) _ e) [
+      | inl none ↦ bad_subroutines top following front none
       | inr a ↦ elim (none_or (named_index bytes (last_of char_strings_operator (entries top))) _ a.1.1) [
-        | inl none ↦ bad_char_strings top behind front none
+        | inl none ↦ bad_char_strings top following front none
         | inr b ↦ elim (none_or (named_index bytes (last_of font_dicts_operator (entries top))) _ b.1.1) [
-          | inl none ↦ bad_font_dicts top behind front none
+          | inl none ↦ bad_font_dicts top following front none
           | inr c ↦ elim (none_or (optional_offset (last_of store_operator (entries top))) _ c.1.1) [
-            | inl none ↦ bad_store_offset top behind front none
+            | inl none ↦ bad_store_offset top following front none
             | inr d ↦ elim (none_or (store_by bytes (length r.at) d.0) _ d.1.1) [
-              | inl none ↦ bad_store top behind d.0 front d.1.0 none
+              | inl none ↦ bad_store top following d.0 front d.1.0 none
               | inr f ↦ elim (none_or (optional_offset (last_of font_dict_select_operator (entries top))) _ f.1.1) [
-                | inl none ↦ bad_select top behind front none
+                | inl none ↦ bad_select top following front none
                 | inr g ↦ absurd (none-some _ (sym g.1.1))
               ]
             ]

@@ -18,7 +18,7 @@ use Rattle.subsetter_cff2.specs.PrivateDicts.Blend.{blended}
 use Rattle.subsetter_cff2.specs.PrivateDicts.EntryLists.{entry_lists}
 use Rattle.subsetter_cff2.specs.PrivateDicts.PrivateAt.{Registers, Step, at_start, blended_by, chosen, last_natural, pushed, silent, step_by}
 use Rattle.subsetter_cff2.specs.PrivateDicts.PrivateKinds.{kind_by}
-use Rattle.subsetter_cff2.specs.PrivateDicts.PrivateText.{PlacedText, TextStep, behind, placed_text, private_text, entry_text, step_text}
+use Rattle.subsetter_cff2.specs.PrivateDicts.PrivateText.{PlacedText, TextStep, following, placed_text, private_text, entry_text, step_text}
 use Rattle.subsetter_cff2.specs.Variation.{Variation, data_scalars}
 use Rattle.subsetter_cff2.specs.declared.private_dicts.kinds.PrivateOperator.{PrivateOperator}
 use Rattle.subsetter_cff2.specs.declared.private_dicts.kinds.PrivateOperator.TheVariants.{Blends, ChoosesData, Edges, Numbers, Dropped}
@@ -226,7 +226,7 @@ module _ (v : Option Variation) where
   long_step r here entry kept s pushes steps said long = rw (pushes, steps, said, long) refl
 
   first_fails : (r : Registers) (entry : Entry) (more : List Entry) (e : Error) → step_text v r entry.operator entry.operands ≡ Err e → placed_text v r (entry ∷ more) ≡ Err e
-  first_fails r entry more e h = ap (λ a. a >>= λ t. behind t.text (placed_text v t.next more)) h
+  first_fails r entry more e h = ap (λ a. a >>= λ t. following t.text (placed_text v t.next more)) h
 
   entries_stand : (es : List Entry) (r : Registers) (e : Error) → HasEntryFault v r es e → placed_text v r es ≡ Err e
   entries_stand _ _ _ (full_stack r entry more full) = first_fails r entry more MalformedFont (full_step r entry (is_full r entry.operands full))
@@ -235,7 +235,7 @@ module _ (v : Option Variation) where
   entries_stand _ _ _ (long_real r here entry kept more s pushes steps said long) =
       first_fails r entry more OverflowError (long_step r here entry kept s pushes steps said (is_long kept.operator kept.operands long))
   entries_stand _ _ e (later r entry more s is f) =
-      ap (λ a. a >>= λ t. behind t.text (placed_text v t.next more)) is ∙ ap (behind s.text) (entries_stand more s.next e f)
+      ap (λ a. a >>= λ t. following t.text (placed_text v t.next more)) is ∙ ap (following s.text) (entries_stand more s.next e f)
 
 pub private_refused : (v : Option Variation) (dict : List ℕ) (e : Error) → private_text v dict ≡ Err e → HasPrivateFault v dict e
 unfolding private_text

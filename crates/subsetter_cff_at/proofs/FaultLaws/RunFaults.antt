@@ -24,7 +24,7 @@ use Rattle.subsetter_blend.specs.Writing.Split.{split}
 use Rattle.subsetter_blend.specs.Writing.Taking.{Event, all_taken, and_then}
 use Rattle.subsetter_blend.specs.Writing.Written.{Fitted, fitted, fitted_piece, fitted_start, start_point, inked, may_begin, width, with_ink}
 use Rattle.subsetter_blend.proofs.RunsLaws.Runs.{run_over, run_out, run_more, run_fault, run_deep, run_on, ended_some}
-use Rattle.subsetter_cff_at.specs.RunFault.{HasOperatorFault, HasTokenFault, HasEventFault, HasRunFault, HasCharstringFault, IsFar, unknown, wrong_draw, wrong_stems, wrong_mask, many_stems, many_masked, cut_mask, cut_later_mask, late_stems, no_local, no_global, blend_without_data, blend_without_count, few_blended, far_blended, late_data, wrong_data, unnamed_data, no_data, cut_token, full_stack, in_operator, far_here, far_behind, no_move, far, left_operand, no_token, in_token, in_event, too_deep, later}
+use Rattle.subsetter_cff_at.specs.RunFault.{HasOperatorFault, HasTokenFault, HasEventFault, HasRunFault, HasCharstringFault, IsFar, unknown, wrong_draw, wrong_stems, wrong_mask, many_stems, many_masked, cut_mask, cut_later_mask, late_stems, no_local, no_global, blend_without_data, blend_without_count, few_blended, far_blended, late_data, wrong_data, unnamed_data, no_data, cut_token, full_stack, in_operator, far_here, far_after, no_move, far, left_operand, no_token, in_token, in_event, too_deep, later}
 
 -- ---- acts
 fails_same : (d e : Error) → Fails d ≡ Fails e → d ≡ e
@@ -237,12 +237,12 @@ pieces_refused (event ∷ es) f e h =
     elim (and_err (fitted_piece event f) (all_taken fitted_piece es) e h) [
       | inl a ↦ (let b = ink_refused (placed event.operator (length event.operands) 0 event.operands (record { at = start_point (is_hint event.operator.0) f.pen.at; numbers = width f.pen.advance })) event f e a in
           (far_here event es f b.0, b.1))
-      | inr a ↦ (let b = pieces_refused es a.0 e a.1.1 in (far_behind event es f a.0 a.1.0 b.0, b.1))
+      | inr a ↦ (let b = pieces_refused es a.0 e a.1.1 in (far_after event es f a.0 a.1.0 b.0, b.1))
     ]
 
 far_stands : (es : List Event) (f : Fitted) → IsFar es f → all_taken fitted_piece es f ≡ Err OverflowError
 far_stands _ _ (far_here event es f none) = ap (λ o. and_then (with_ink f.bytes (inked event f.pen o)) (all_taken fitted_piece es)) none
-far_stands _ _ (far_behind event es f g is more) = ap (λ a. and_then a (all_taken fitted_piece es)) is ∙ far_stands es g more
+far_stands _ _ (far_after event es f g is more) = ap (λ a. and_then a (all_taken fitted_piece es)) is ∙ far_stands es g more
 
 event_by : (b : Bool) (event : Event) (f : Fitted) (e : Error) → may_begin f.pen.advance event.operator.0 ≡ b
     → (if b then all_taken fitted_piece (split (length (width f.pen.advance)) (opened event)) f else Err CFFError) ≡ Err e → HasEventFault event f e

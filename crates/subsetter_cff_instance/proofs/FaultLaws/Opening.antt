@@ -29,23 +29,23 @@ named : {A : Type 0} (o : Option A) (e : Error) → result_ok (ok_or o e) ≡ o
 named None e = refl
 named (Some x) e = refl
 
-behind : {A B : Type 0} (r : Result A Error) (f : A → Result B Error) (g : A → Option B) (o : Option A) → result_ok r ≡ o → ((x : A) → result_ok (f x) ≡ g x) → result_ok (r >>= f) ≡ option_and_then g o
-behind (Ok x) f g o h k = k x ∙ ap (option_and_then g) h
-behind (Err e) f g o h k = ap (option_and_then g) h
+following : {A B : Type 0} (r : Result A Error) (f : A → Result B Error) (g : A → Option B) (o : Option A) → result_ok r ≡ o → ((x : A) → result_ok (f x) ≡ g x) → result_ok (r >>= f) ≡ option_and_then g o
+following (Ok x) f g o h k = k x ∙ ap (option_and_then g) h
+following (Err e) f g o h k = ap (option_and_then g) h
 
 by_kind : (font : Font) (kind : FontKind) → result_ok (opened_by_kind kind font) ≡ header_by_kind kind font
 by_kind font Single = refl
 by_kind font Collection =
-    behind (ok_or (collection_entry font) MalformedFont) _ (λ at. option_and_then (λ kind. if_single kind at) (kind_at font.bytes at)) (collection_entry font) (named (collection_entry font) MalformedFont)
-    (λ at. behind (ok_or (kind_at font.bytes at) MalformedFont) (λ kind. ok_or (if_single kind at) MalformedFont) (λ kind. if_single kind at) (kind_at font.bytes at) (named (kind_at font.bytes at) MalformedFont) (λ kind. named (if_single kind at) MalformedFont))
+    following (ok_or (collection_entry font) MalformedFont) _ (λ at. option_and_then (λ kind. if_single kind at) (kind_at font.bytes at)) (collection_entry font) (named (collection_entry font) MalformedFont)
+    (λ at. following (ok_or (kind_at font.bytes at) MalformedFont) (λ kind. ok_or (if_single kind at) MalformedFont) (λ kind. if_single kind at) (kind_at font.bytes at) (named (kind_at font.bytes at) MalformedFont) (λ kind. named (if_single kind at) MalformedFont))
 
 header : (font : Font) → result_ok (opened_header font) ≡ header_offset font
 unfolding opened_header header_offset
-header font = behind (ok_or (kind_at font.bytes 0) UnknownKind) (λ kind. opened_by_kind kind font) (λ kind. header_by_kind kind font) (kind_at font.bytes 0) (named (kind_at font.bytes 0) UnknownKind) (by_kind font)
+header font = following (ok_or (kind_at font.bytes 0) UnknownKind) (λ kind. opened_by_kind kind font) (λ kind. header_by_kind kind font) (kind_at font.bytes 0) (named (kind_at font.bytes 0) UnknownKind) (by_kind font)
 
 directory : (font : Font) → result_ok (opened font) ≡ records font
 unfolding opened
-directory font = behind (opened_header font) (λ at. ok_or (records_at font.bytes at) MalformedFont) (λ at. records_at font.bytes at) (header_offset font) (header font) (λ at. named (records_at font.bytes at) MalformedFont)
+directory font = following (opened_header font) (λ at. ok_or (records_at font.bytes at) MalformedFont) (λ at. records_at font.bytes at) (header_offset font) (header font) (λ at. named (records_at font.bytes at) MalformedFont)
 
 -- so a font that isn't opened has no table
 not_stored : (font : Font) (e : Error) (tag : List ℕ) → opened font ≡ Err e → stored font tag ≡ None

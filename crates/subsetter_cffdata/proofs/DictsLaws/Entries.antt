@@ -7,7 +7,7 @@ use Rattle.subsetter_cffdata.specs.Dicts.Tokens.{with_operands}
 use Rattle.subsetter_cffdata.specs.Numerals.Numbers.{Number}
 use Rattle.subsetter_cffdata.proofs.DictsLaws.Shorter.{at_no_token, at_operator, at_operand, token_shorter}
 
--- what is left behind an entry with more operands in front
+-- what is left after an entry with more operands in front
 same_rest : (xs : List Number) (o : Option (Entry × List ℕ)) (e : Entry × List ℕ) → with_operands xs o ≡ Some e → (d : Entry × List ℕ) × ((o ≡ Some d) × (d.1 ≡ e.1))
 same_rest xs None e h = absurd (none-some e h)
 same_rest xs (Some d) e h = (d, (refl, ap (λ (x : Entry × List ℕ). x.1) (same_Some _ _ h)))
@@ -21,9 +21,9 @@ by_token steps bytes e le h (Some (Operator p, rest)) token =
 by_token zero bytes e le h (Some (Operand x, rest)) token = absurd (let less = token_shorter bytes rest (Operand x) token in omega (arith, less))
 by_token (suc steps) bytes e le h (Some (Operand x, rest)) token =
     let less = token_shorter bytes rest (Operand x) token in
-    let behind = same_rest (x ∷ []) (entry_at rest) e (sym (at_operand bytes rest x token) ∙ h) in
-    let more = by_token steps rest behind.0 (omega (arith, less)) behind.1.0 (token_at rest) refl in
-    omega (arith, less, more, ap length behind.1.1)
+    let following = same_rest (x ∷ []) (entry_at rest) e (sym (at_operand bytes rest x token) ∙ h) in
+    let more = by_token steps rest following.0 (omega (arith, less)) following.1.0 (token_at rest) refl in
+    omega (arith, less, more, ap length following.1.1)
 
 -- an entry takes at least a byte
 pub entry_shorter : (bytes : List ℕ) (e : Entry × List ℕ) → entry_at bytes ≡ Some e → length e.1 < length bytes

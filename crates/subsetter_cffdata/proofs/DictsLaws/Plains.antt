@@ -235,8 +235,8 @@ unfolding operands_at
 plain_operands operator bytes rest e = rw (entry_is operator bytes rest e, take_all operand_limit e.numbers e.few) refl
 
 -- ---- where it ends
-behind_front : (bytes front rest : List ℕ) → bytes ≡ front ++ rest → drop (length bytes - length rest) bytes ≡ rest
-behind_front bytes front rest e = rw e (drop_at front rest (length (front ++ rest) - length rest) (omega (arith, length-append front rest)))
+past_front : (bytes front rest : List ℕ) → bytes ≡ front ++ rest → drop (length bytes - length rest) bytes ≡ rest
+past_front bytes front rest e = rw e (drop_at front rest (length (front ++ rest) - length rest) (omega (arith, length-append front rest)))
 
 pub front_of : (bytes front rest : List ℕ) → bytes ≡ front ++ rest → take (length bytes - length rest) bytes ≡ front
 front_of bytes front rest e = rw e (take_at front rest (length (front ++ rest) - length rest) (omega (arith, length-append front rest)))
@@ -257,5 +257,5 @@ plain_end_at bytes operator rest at e =
     let is = entry_stands operand_limit left operator rest e in
     record {
       within = omega arith;
-      there = ap (λ (n : ℕ). drop n bytes) place ∙ sym (drop-drop (length left - length rest) at bytes) ∙ behind_front left (entry_bytes (plain_entry operator is.numbers)) rest is.is;
+      there = ap (λ (n : ℕ). drop n bytes) place ∙ sym (drop-drop (length left - length rest) at bytes) ∙ past_front left (entry_bytes (plain_entry operator is.numbers)) rest is.is;
     }

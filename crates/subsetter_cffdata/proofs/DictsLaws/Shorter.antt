@@ -1,4 +1,4 @@
--- What is left behind a number is no longer than what stood there, so an entry doesn't depend on the steps that were given.
+-- What is left after a number is no longer than what stood there, so an entry doesn't depend on the steps that were given.
 use Rattle.std.proofs.Common.{◌≡◌, ℕ, zero, suc, ◌+◌, ◌-◌, ◌*◌, ◌/◌, ◌%◌, ◌<◌, ◌≤◌, Bool, true, false, cond, eqb, ltb, List, [], ◌∷◌, ◌++◌, length, take, drop, Option, Some, None, refl, ap, arith, ◌∙◌, sym, inl, inr, append_assoc}
 use Rattle.std.specs.Prelude.{pos, neg_ℤ}
 use Rattle.subsetter_cffdata.specs.Dicts.Tokens.{operator_part, with_operands}
@@ -63,9 +63,9 @@ integer_left : (b : ℕ) (bytes : List ℕ) → Left bytes (integer_from b bytes
 unfolding integer_from
 integer_left b bytes = choice bytes (eqb b 28) (signed16 bytes) (cond (eqb b 29) (signed32 bytes) (short_integer b bytes)) (signed16_left bytes) (choice bytes (eqb b 29) (signed32 bytes) (short_integer b bytes) (signed32_left bytes) (short_left b bytes))
 
-behind : {A Y : Type 0} (bytes : List ℕ) (o : Option A) (f : A → Option (Y × List ℕ)) → ((x : A) → Left bytes (f x)) → Left bytes (o >>= f)
-behind bytes None f m = nothing bytes
-behind bytes (Some x) f m = m x
+following : {A Y : Type 0} (bytes : List ℕ) (o : Option A) (f : A → Option (Y × List ℕ)) → ((x : A) → Left bytes (f x)) → Left bytes (o >>= f)
+following bytes None f m = nothing bytes
+following bytes (Some x) f m = m x
 
 more : {X : Type 0} (b : ℕ) (bytes : List ℕ) (o : Option (X × List ℕ)) → Left bytes o → Left (b ∷ bytes) o
 more b bytes o l = record { le = λ x e. omega (arith, l.le x e) }
@@ -80,14 +80,14 @@ text_left (b ∷ bytes) =
     let all = b ∷ bytes in
     let ended : Left all (Some ([], bytes)) = found all bytes [] (omega arith) in
     let second : Option (List ℕ × List ℕ) = characters (b % 16) >>= λ low. with_text low (text_at bytes) in
-    let second-left : Left all second = behind all (characters (b % 16)) (λ low. with_text low (text_at bytes)) (λ low. with_text_left all low (text_at bytes) (more b bytes (text_at bytes) (text_left bytes))) in
+    let second-left : Left all second = following all (characters (b % 16)) (λ low. with_text low (text_at bytes)) (λ low. with_text_left all low (text_at bytes) (more b bytes (text_at bytes) (text_left bytes))) in
     let rest : Option (List ℕ × List ℕ) = cond (eqb (b % 16) 15) (Some ([], bytes)) second in
     choice all (eqb (b / 16) 15) (Some ([], bytes)) (characters (b / 16) >>= λ high. with_text high rest) ended
-    (behind all (characters (b / 16)) (λ high. with_text high rest) (λ high. with_text_left all high rest (choice all (eqb (b % 16) 15) (Some ([], bytes)) second ended second-left)))
+    (following all (characters (b / 16)) (λ high. with_text high rest) (λ high. with_text_left all high rest (choice all (eqb (b % 16) 15) (Some ([], bytes)) second ended second-left)))
 
 real_left : (bytes : List ℕ) → Left bytes (real_at bytes)
 unfolding real_at
-real_left bytes = then bytes (text_at bytes) _ (text_left bytes) (λ t le. choice bytes _ _ _ (behind bytes (real_of t.0) _ (λ d. found bytes t.1 _ le)) (nothing bytes))
+real_left bytes = then bytes (text_at bytes) _ (text_left bytes) (λ t le. choice bytes _ _ _ (following bytes (real_of t.0) _ (λ d. found bytes t.1 _ le)) (nothing bytes))
 
 pub number_left : (b : ℕ) (bytes : List ℕ) → Left bytes (dict_number_from b bytes)
 unfolding dict_number_from

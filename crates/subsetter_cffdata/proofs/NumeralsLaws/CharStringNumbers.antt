@@ -75,37 +75,37 @@ number_fits (first ∷ rest) =
     (λ _. fixed_fits rest))))
 
 -- ---- what follows a number is the end of the bytes
-abbrev Behind : List ℕ → Option (CharStringNumber × List ℕ) → Type 0
-Behind bytes None = Unit {0}
-Behind bytes (Some x) = (front : List ℕ) × (bytes ≡ front ++ x.1)
+abbrev Following : List ℕ → Option (CharStringNumber × List ℕ) → Type 0
+Following bytes None = Unit {0}
+Following bytes (Some x) = (front : List ℕ) × (bytes ≡ front ++ x.1)
 
-either : (bytes : List ℕ) (b : Bool) (x y : Option (CharStringNumber × List ℕ)) → Behind bytes x → Behind bytes y → Behind bytes (if b then x else y)
+either : (bytes : List ℕ) (b : Bool) (x y : Option (CharStringNumber × List ℕ)) → Following bytes x → Following bytes y → Following bytes (if b then x else y)
 either bytes true x y h k = h
 either bytes false x y h k = k
 
-short_behind : (first : ℕ) (bytes : List ℕ) → Behind (first ∷ bytes) (short_number bytes)
-short_behind first [] = tt
-short_behind first (a ∷ []) = tt
-short_behind first (a ∷ b ∷ rest) = (first ∷ a ∷ b ∷ [], refl)
+short_after : (first : ℕ) (bytes : List ℕ) → Following (first ∷ bytes) (short_number bytes)
+short_after first [] = tt
+short_after first (a ∷ []) = tt
+short_after first (a ∷ b ∷ rest) = (first ∷ a ∷ b ∷ [], refl)
 
-fixed_behind : (first : ℕ) (bytes : List ℕ) → Behind (first ∷ bytes) (fixed_number bytes)
-fixed_behind first [] = tt
-fixed_behind first (a ∷ []) = tt
-fixed_behind first (a ∷ b ∷ []) = tt
-fixed_behind first (a ∷ b ∷ c ∷ []) = tt
-fixed_behind first (a ∷ b ∷ c ∷ d ∷ rest) = (first ∷ a ∷ b ∷ c ∷ d ∷ [], refl)
+fixed_after : (first : ℕ) (bytes : List ℕ) → Following (first ∷ bytes) (fixed_number bytes)
+fixed_after first [] = tt
+fixed_after first (a ∷ []) = tt
+fixed_after first (a ∷ b ∷ []) = tt
+fixed_after first (a ∷ b ∷ c ∷ []) = tt
+fixed_after first (a ∷ b ∷ c ∷ d ∷ rest) = (first ∷ a ∷ b ∷ c ∷ d ∷ [], refl)
 
-middle_behind : (first : ℕ) (bytes : List ℕ) → Behind (first ∷ bytes) (middle_number first bytes)
-middle_behind first [] = tt
-middle_behind first (second ∷ rest) =
+middle_after : (first : ℕ) (bytes : List ℕ) → Following (first ∷ bytes) (middle_number first bytes)
+middle_after first [] = tt
+middle_after first (second ∷ rest) =
     either _ (nat_le 256 second) _ _ tt (either _ (nat_lt first 251) _ _ (first ∷ second ∷ [], refl) (first ∷ second ∷ [], refl))
 
-number_behind : (bytes : List ℕ) → Behind bytes (number_at bytes)
+number_after : (bytes : List ℕ) → Following bytes (number_at bytes)
 unfolding number_at
-number_behind [] = tt
-number_behind (first ∷ rest) =
-    either _ (first == 28) _ _ (short_behind first rest) (either _ (nat_lt first 32) _ _ tt (either _ (nat_lt first 247) _ _ (first ∷ [], refl)
-    (either _ (nat_lt first 255) _ _ (middle_behind first rest) (fixed_behind first rest))))
+number_after [] = tt
+number_after (first ∷ rest) =
+    either _ (first == 28) _ _ (short_after first rest) (either _ (nat_lt first 32) _ _ tt (either _ (nat_lt first 247) _ _ (first ∷ [], refl)
+    (either _ (nat_lt first 255) _ _ (middle_after first rest) (fixed_after first rest))))
 
 end_of : (bytes front rest : List ℕ) → bytes ≡ front ++ rest → (length rest ≤ length bytes) × (drop (length bytes - length rest) bytes ≡ rest)
 end_of bytes front rest e =
@@ -113,7 +113,7 @@ end_of bytes front rest e =
     rw e (omega (arith, len), drop_at front rest (length (front ++ rest) - length rest) (omega (arith, len)))
 
 follows : (bytes rest : List ℕ) (x : CharStringNumber) → number_at bytes ≡ Some (x, rest) → (length rest ≤ length bytes) × (drop (length bytes - length rest) bytes ≡ rest)
-follows bytes rest x e = let behind : Behind bytes (Some (x, rest)) = subst (Behind bytes) e (number_behind bytes) in end_of bytes behind.0 rest behind.1
+follows bytes rest x e = let following : Following bytes (Some (x, rest)) = subst (Following bytes) e (number_after bytes) in end_of bytes following.0 rest following.1
 
 pub no_longer : (bytes rest : List ℕ) (x : CharStringNumber) → number_at bytes ≡ Some (x, rest) → length rest ≤ length bytes
 no_longer bytes rest x e = (follows bytes rest x e).0

@@ -16,10 +16,10 @@ step_is n d some small =
     let low : (n * 10 + d) % 10 ≡ d = omega arith in
     digits_of_step 10 (n * 10 + d) (omega arith) some ∙ rw (high, low) refl
 
-digits_behind : (n : ℕ) (ds : List ℕ) → 0 < n → AreDigits ds → digits_of 10 (number_from_digits_after 10 n ds) ≡ digits_of 10 n ++ ds
-digits_behind n [] some all = sym (append-nil (digits_of 10 n))
-digits_behind n (d ∷ ds) some all =
-    digits_behind (n * 10 + d) ds (omega arith) all.1 ∙ ap (λ (x : List ℕ). x ++ ds) (step_is n d (omega arith) all.0) ∙ append_assoc (digits_of 10 n) (d ∷ []) ds
+digits_after : (n : ℕ) (ds : List ℕ) → 0 < n → AreDigits ds → digits_of 10 (number_from_digits_after 10 n ds) ≡ digits_of 10 n ++ ds
+digits_after n [] some all = sym (append-nil (digits_of 10 n))
+digits_after n (d ∷ ds) some all =
+    digits_after (n * 10 + d) ds (omega arith) all.1 ∙ ap (λ (x : List ℕ). x ++ ds) (step_is n d (omega arith) all.0) ∙ append_assoc (digits_of 10 n) (d ∷ []) ds
 
 -- ---- zeros in front
 length-stripped : (ds : List ℕ) → length (stripped ds) ≤ length ds
@@ -90,7 +90,7 @@ digits_again [] all front = refl
 digits_again (d ∷ ds) all front =
     elim (cases_eq d 0) [
       | inl z ↦ absurd (zero_is_stripped d ds z front)
-      | inr nz ↦ digits_behind (0 * 10 + d) ds (omega arith) all.1 ∙ ap (λ (x : List ℕ). x ++ ds) (step_is 0 d (omega arith) all.0)
+      | inr nz ↦ digits_after (0 * 10 + d) ds (omega arith) all.1 ∙ ap (λ (x : List ℕ). x ++ ds) (step_is 0 d (omega arith) all.0)
     ]
 
 -- ---- the digits that are kept of a list
@@ -125,8 +125,8 @@ size_of_signed false n = refl
 pub digits_twice : (text : List ℕ) → digits (digits text) ≡ digits text
 digits_twice text = digits_are_all (digits text) (all_digits text)
 
-pub digits_both : (front behind : List ℕ) → digits front ≡ front → digits behind ≡ behind → digits (front ++ behind) ≡ front ++ behind
-digits_both front behind f b = digits_front front behind (only_digits front f) ∙ ap (λ (x : List ℕ). front ++ x) b
+pub digits_both : (front following : List ℕ) → digits front ≡ front → digits following ≡ following → digits (front ++ following) ≡ front ++ following
+digits_both front following f b = digits_front front following (only_digits front f) ∙ ap (λ (x : List ℕ). front ++ x) b
 
 -- what isn't a digit ends the digits
 pub no_digits : (text : List ℕ) (i : ℕ) → i < length text → 10 ≤ get_or text i 0 → digits (drop i text) ≡ []

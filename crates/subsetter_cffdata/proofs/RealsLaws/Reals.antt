@@ -81,7 +81,7 @@ ends (x ∷ xs) d some =
     let long : eqb (length (xs ++ d ∷ [])) 0 ≡ false = ne_eqb _ 0 (λ e. omega (arith, length-append xs (d ∷ []))) in
     rw (ends xs d some, and_right (eqb x 0) _ long) refl
 
--- a list that ends so stays whole behind other digits
+-- a list that ends so stays whole after other digits
 stays : (xs ds : List ℕ) → 0 < length ds → trimmed ds ≡ ds → trimmed (xs ++ ds) ≡ xs ++ ds
 stays [] ds some h = h
 stays (x ∷ xs) ds some h =
@@ -107,19 +107,19 @@ plain_body : (negative : Bool) (w : List ℕ) → AreDigits w → 0 < length w �
 unfolding unsigned_real
 plain_body negative w all some =
     let front : digits w ≡ w = ap digits (sym (append-nil w)) ∙ digits_front w [] all ∙ append-nil w in
-    let behind : after_digits w ≡ [] = ap after_digits (sym (append-nil w)) ∙ after_front w [] all in
+    let following : after_digits w ≡ [] = ap after_digits (sym (append-nil w)) ∙ after_front w [] all in
     let some' : eqb (length w + 0) 0 ≡ false = ne_eqb _ 0 (λ e. omega arith) in
-    rw (behind, front, append-nil w, some') refl
+    rw (following, front, append-nil w, some') refl
 
 pointed_body : (negative : Bool) (w f : List ℕ) → AreDigits w → AreDigits f → 0 < length w → unsigned_real negative (w ++ point ∷ f) ≡ Some (decimal negative (w ++ f) (pos 0 -ℤ pos (length f)))
 unfolding unsigned_real
 pointed_body negative w f all all' some =
     let front : digits (w ++ point ∷ f) ≡ w = digits_front w (point ∷ f) all ∙ append-nil w in
-    let behind : after_digits (w ++ point ∷ f) ≡ point ∷ f = after_front w (point ∷ f) all in
+    let following : after_digits (w ++ point ∷ f) ≡ point ∷ f = after_front w (point ∷ f) all in
     let front' : digits f ≡ f = ap digits (sym (append-nil f)) ∙ digits_front f [] all' ∙ append-nil f in
-    let behind' : after_digits f ≡ [] = ap after_digits (sym (append-nil f)) ∙ after_front f [] all' in
+    let following' : after_digits f ≡ [] = ap after_digits (sym (append-nil f)) ∙ after_front f [] all' in
     let some' : eqb (length w + length f) 0 ≡ false = ne_eqb _ 0 (λ e. omega arith) in
-    rw (behind, front, front', behind', some') refl
+    rw (following, front, front', following', some') refl
 
 decimal_is : (negative : Bool) (ds kept : List ℕ) (power result : ℤ) (n : ℕ) → trimmed ds ≡ kept → number kept ≡ n → 0 < n → power +ℤ pos (length ds - length kept) ≡ result
     → decimal negative ds power ≡ record { mantissa = signed negative n; power = result }

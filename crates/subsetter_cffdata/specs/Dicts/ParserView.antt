@@ -6,7 +6,7 @@ use Rattle.subsetter_cffdata.specs.Numerals.Numbers.{Number}
 use Rattle.subsetter_cffdata.specs.Dicts.Operands.{operands_at, string_at, offset_at, range_at, numbers_at}
 use Rattle.subsetter_cffdata.specs.Views.{number_of}
 
--- the bytes behind the entry
+-- the bytes after the entry
 abbrev pub left : DictionaryParser → List ℕ
 left p = drop p.offset p.data.now
 
@@ -26,7 +26,7 @@ operands_in p = option_map_or (λ xs. xs) (operands_at (length p.operands.now) (
 pub record ShowsEntry (old now : DictionaryParser) : Type 0 where
   pub shows : shown now ≡ operands_in old
   pub entry : entry_of now ≡ entry_of old
-  pub behind : left now ≡ left old
+  pub following : left now ≡ left old
   pub same : now.data.now ≡ old.data.now
   pub room : length now.operands.now ≡ length old.operands.now
 

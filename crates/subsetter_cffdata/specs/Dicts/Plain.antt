@@ -8,7 +8,7 @@ use Rattle.subsetter_cffdata.specs.Numerals.Numbers.{Number, integer, is_too_lon
 use Rattle.subsetter_cffdata.specs.Dicts.Dict.{Plain, NewEntry, entry_bytes, is_operator, operand_limit, IsOperator, FitsOperand}
 
 -- ---- reading: each answers what follows
--- two bytes behind byte 28, whose number has no form of one or two bytes, and no byte is 256 or more
+-- two bytes after byte 28, whose number has no form of one or two bytes, and no byte is 256 or more
 abbrev pub after_word : List ℕ → Option (List ℕ)
 after_word (high ∷ low ∷ rest) =
     if nat_le 256 low then None
@@ -17,7 +17,7 @@ after_word (high ∷ low ∷ rest) =
     else Some rest
 after_word _ = None
 
--- the second byte behind 247 to 254
+-- the second byte after 247 to 254
 abbrev pub after_second : List ℕ → Option (List ℕ)
 after_second (second ∷ rest) = if nat_le 256 second then None else Some rest
 after_second [] = None
@@ -32,7 +32,7 @@ after_number (first ∷ rest) =
     else None
 after_number [] = None
 
--- the byte behind the mark 12
+-- the byte after the mark 12
 abbrev pub marked_operator : List ℕ → Option (List ℕ × List ℕ)
 marked_operator (second ∷ rest) = Some (12 ∷ second ∷ [], rest)
 marked_operator [] = None
@@ -42,7 +42,7 @@ unfoldable pub operator_at : List ℕ → Option (List ℕ × List ℕ)
 operator_at (b ∷ rest) = if is_operator b then (if b == 12 then marked_operator rest else Some (b ∷ [], rest)) else None
 operator_at [] = None
 
--- the operator behind so many such numbers at most, and what follows it
+-- the operator after so many such numbers at most, and what follows it
 unfoldable pub plain_in : ℕ → List ℕ → Option (List ℕ × List ℕ)
 plain_in zero bytes = operator_at bytes
 plain_in (suc n) bytes = option_map_or (plain_in n) (after_number bytes) (operator_at bytes)

@@ -65,7 +65,7 @@ readable (Some entry ∷ entries) = entry ∷ readable entries
 abbrev pub offset_size : ℕ → ℕ
 offset_size n = if nat_lt n 256 then 1 else (if nat_lt n 65536 then 2 else (if nat_lt n 16777216 then 3 else 4))
 
--- the offset behind each item
+-- the offset after each item
 abbrev pub offsets : ℕ → List (List ℕ) → List ℕ
 offsets from [] = []
 offsets from (item ∷ items) = (from + length item) ∷ offsets (from + length item) items

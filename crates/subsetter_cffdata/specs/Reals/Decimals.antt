@@ -124,12 +124,12 @@ text_at (b ∷ bytes) =
 abbrev pub text_limit : ℕ
 text_limit = 64
 
--- the real behind a byte 30
+-- the real after a byte 30
 unfoldable pub real_at : List ℕ → Option (Decimal × List ℕ)
 real_at bytes = text_at bytes >>= λ t. if nat_le (length t.0) text_limit then (real_of t.0 >>= λ d. Some (d, t.1)) else None
 
 -- ---- the text that is written
--- the digits with k of them behind the point
+-- the digits with k of them after the point
 abbrev pub pointed : List ℕ → ℕ → List ℕ
 pointed ds k = if nat_lt k (length ds) then take (length ds - k) ds ++ point ∷ drop (length ds - k) ds else 0 ∷ point ∷ (replicate (k - length ds) 0 ++ ds)
 

@@ -1,4 +1,4 @@
--- The text of a real, read nibble by nibble behind a front.
+-- The text of a real, read nibble by nibble after a front.
 use Rattle.std.specs.Prelude.{ℕ, ◌/◌, ◌%◌, Bool, true, false, ◌==◌, nat_le, if◌then◌else◌, List, [], ◌∷◌, ◌++◌, take, length, Option, Some, None}
 use Rattle.subsetter_base.specs.Options.{◌>>=◌}
 use Rattle.subsetter_cffdata.specs.Reals.Decimals.{characters, text_limit}
@@ -22,7 +22,7 @@ byte_step text b =
     (extended text (b / 16) >>= λ high. if b % 16 == 15 then Some (true, high) else
     (extended high (b % 16) >>= λ low. Some (false, low)))
 
--- the text behind a front
+-- the text after a front
 unfoldable pub text_from : List ℕ → List ℕ → Option (List ℕ × List ℕ)
 text_from front [] = None
 text_from front (b ∷ bytes) = byte_step front b >>= λ s. if s.0 then Some (s.1, bytes) else text_from s.1 bytes

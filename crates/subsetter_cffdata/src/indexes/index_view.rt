@@ -21,7 +21,7 @@ impl<'a> VarOffsets<'a> {
     ghost use Rattle.subsetter_cffdata.specs.Indexes.Index.{offset_at};
     ghost use Rattle.subsetter_cffdata.specs.Indexes.IndexView.{shifted, shifted_last};
 
-    /// The offsets that the bytes spell; bytes behind the last whole one are left out.
+    /// The offsets that the bytes spell; bytes after the last whole one are left out.
     pub fn new(data: &'a [u8], offset_size: OffsetSize) -> Self
         requires few { length «data».now ≤ 4294967295 }
         ensures bytes { result.data.now ≡ «data».now }

@@ -15,7 +15,7 @@ use crate::reals::text::Text;
 /// What a 65536th is in units of 10 to the power -16: 5 to the power 16.
 const UNITS_OF_65536TH: u128 = 152587890625;
 
-/// The digits of a whole number behind a text, none for 0.
+/// The digits of a whole number after a text, none for 0.
 fn put_digits(text: &mut Text, n: u128)
     requires { text.old.len + length (digits_of 10 n) ≤ 64 }
     ensures after { shown text.new ≡ shown text.old ++ digits_of 10 n }

@@ -35,7 +35,7 @@ impl RealNumber {
     ghost use Rattle.subsetter_cffdata.specs.Views.{decimal_of};
     ghost use Rattle.subsetter_cffdata.specs.Numerals.Numbers.{real_number_at, real_as_i32};
 
-    /// Reads a real; None where no byte 30 is there, or the text behind it can't be read.
+    /// Reads a real; None where no byte 30 is there, or the text after it can't be read.
     #[tactic(auto, unfolding(crate::specs::Numerals::Numbers::real_from))]
     pub fn parse(r: &mut Reader<'_>) -> Option<RealNumber>
         ensures value { Takes decimal_of result r.old r.new real_number_at }
@@ -55,7 +55,7 @@ impl RealNumber {
         plain_decimal(false, &[1], power)
     }
 
-    /// Reads the text behind a byte 30.
+    /// Reads the text after a byte 30.
     #[inline(never)]
     #[tactic(auto, using(crate::proofs::RealsLaws::Texts::real_by_text))]
     pub fn parse_text(r: &mut Reader<'_>) -> Option<RealNumber>

@@ -57,7 +57,7 @@ fn split_sign(text: &[u8]) -> SignRead<'_>
 fn split_digits(text: &[u8]) -> DigitsRead<'_>
     ensures front { result.digits.now ≡ digits text.now }
     ensures digits { digits result.digits.now ≡ result.digits.now }
-    ensures behind { result.rest.now ≡ after_digits text.now }
+    ensures following { result.rest.now ≡ after_digits text.now }
     ensures len { length result.digits.now + length result.rest.now ≡ length text.now }
 {
     for (i, c) in text.iter().enumerate() {
@@ -72,7 +72,7 @@ fn split_digits(text: &[u8]) -> DigitsRead<'_>
     }
 }
 
-/// The digits behind a point, and what follows.
+/// The digits after a point, and what follows.
 fn split_fraction(text: &[u8]) -> DigitsRead<'_>
     ensures value { (result.digits.now, result.rest.now) ≡ fraction text.now }
     ensures digits { digits result.digits.now ≡ result.digits.now }
@@ -102,8 +102,8 @@ fn number_up_to_999(ds: &[u8]) -> Option<u16>
     Some(n)
 }
 
-/// The exponent behind its mark and sign.
-fn exponent_behind(negative: bool, text: &[u8]) -> Option<i32>
+/// The exponent after its mark and sign.
+fn exponent_after(negative: bool, text: &[u8]) -> Option<i32>
     ensures value { result ≡ exponent_value negative text.now }
     ensures low { IfSome result (λ z. negsuc 999 ≤ℤ z) }
     ensures high { IfSome result (λ z. z ≤ℤ pos 1000) }
@@ -119,7 +119,7 @@ fn exponent_behind(negative: bool, text: &[u8]) -> Option<i32>
     if negative { Some(-n) } else { Some(n) }
 }
 
-/// The exponent behind the digits: 0 where there is none.
+/// The exponent after the digits: 0 where there is none.
 fn exponent_of(text: &[u8]) -> Option<i32>
     ensures value { result ≡ exponent text.now }
     ensures low { IfSome result (λ z. negsuc 999 ≤ℤ z) }
@@ -129,13 +129,13 @@ fn exponent_of(text: &[u8]) -> Option<i32>
         [] => Some(0),
         [EXPONENT, rest @ ..] => {
             let read = split_sign(rest);
-            exponent_behind(read.negative, read.rest)
+            exponent_after(read.negative, read.rest)
         }
         _ => None,
     }
 }
 
-/// Digits behind a text.
+/// Digits after a text.
 pub fn put_all(text: &mut Text, ds: &[u8])
     requires { text.old.len + length ds.now ≤ 64 }
     ensures after { shown text.new ≡ shown text.old ++ ds.now }
@@ -215,7 +215,7 @@ pub fn decimal_from(negative: bool, ds: &[u8], power: i32) -> RealNumber
     plain_decimal(negative, kept.digits, power + kept.zeros as i32)
 }
 
-/// The power of ten of the last of so many digits behind the point.
+/// The power of ten of the last of so many digits after the point.
 fn last_power(exponent: i32, count: usize) -> i32
     requires low { negsuc 999 ≤ℤ exponent }
     requires high { exponent ≤ℤ pos 1000 }

@@ -10,7 +10,7 @@ use crate::numerals::first_byte;
 use crate::reals::real_text::put_all;
 use crate::reals::text::{END, MINUS, POINT, TWO_ENDS, Text};
 
-/// Zeros behind a text.
+/// Zeros after a text.
 fn put_zeros(text: &mut Text, count: usize)
     requires { text.old.len + count ≤ 64 }
     ensures after { shown text.new ≡ shown text.old ++ replicate count 0 }

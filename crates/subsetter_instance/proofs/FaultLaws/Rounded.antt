@@ -11,7 +11,7 @@ use Rattle.subsetter_points.specs.Simple.{has_16_bits}
 use Rattle.subsetter_variation.specs.Nearest.{nearest}
 use Rattle.subsetter_variation.specs.Items.ItemVariations.{in_whole_units, whole_or_fault}
 use Rattle.subsetter_variation.specs.Items.Advances.{advance_delta}
-use Rattle.subsetter_variation.proofs.GlyphsLaws.GvarFaults.{behind, behind_error}
+use Rattle.subsetter_variation.proofs.GlyphsLaws.GvarFaults.{following, after_error}
 use Rattle.subsetter_instance.specs.Glyphs.Drawn.{advance, advance_or_fault, point_or_fault, points_or_fault, whole}
 use Rattle.subsetter_instance.proofs.FaultLaws.ItemLaws.Hvar.{hvar_refused, hvar_clean}
 use Rattle.subsetter_instance.specs.Faults.RoundedFault.{HasAdvanceFault, HasPointOutOfRange, IsWide, in_hvar, large_item, wide_by_item, wide, far_first, far_later}
@@ -66,9 +66,9 @@ advance_stops hvar at g before width _ (in_hvar bytes is f) =
     missing (Some d) is = absurd (hvar_clean bytes at g d is f)
 advance_stops hvar at g before width _ (large_item bytes d is there large) =
     ap (λ h. advance h at g before width) is ∙ ap (λ o. whole_or_fault o >>= λ d. advance_or_fault (pos before +ℤ d)) there
-    ∙ behind_error (in_whole_units d) (λ d. advance_or_fault (pos before +ℤ d)) OverflowError (large_stops d large)
+    ∙ after_error (in_whole_units d) (λ d. advance_or_fault (pos before +ℤ d)) OverflowError (large_stops d large)
 advance_stops hvar at g before width _ (wide_by_item bytes d is there h) =
-    ap (λ h. advance h at g before width) is ∙ behind (whole_or_fault (advance_delta bytes at g)) (λ d. advance_or_fault (pos before +ℤ d)) d there ∙ wide_stops (pos before +ℤ d) h
+    ap (λ h. advance h at g before width) is ∙ following (whole_or_fault (advance_delta bytes at g)) (λ d. advance_or_fault (pos before +ℤ d)) d there ∙ wide_stops (pos before +ℤ d) h
 advance_stops hvar at g before width _ (wide is h) = ap (λ h. advance h at g before width) is ∙ wide_stops (whole width) h
 
 -- ---- points
@@ -111,9 +111,9 @@ points_refused left (on ∷ more) (x ∷ xs) (y ∷ ys) e h =
 pub points_stop : (left : ℤ) (on : List Bool) (xs ys : List ℤ) → HasPointOutOfRange left on xs ys → points_or_fault left on xs ys ≡ Err OverflowError
 unfolding points_or_fault
 points_stop left _ _ _ (far_first on more x y xs ys h) =
-    behind_error (point_or_fault left on x y) (λ p. points_or_fault left more xs ys >>= λ rest. Ok (p ∷ rest)) OverflowError (both_stop (has_16_bits (whole (x -ℤ left))) (has_16_bits (whole y)) (whole (x -ℤ left)) (whole y) on h)
+    after_error (point_or_fault left on x y) (λ p. points_or_fault left more xs ys >>= λ rest. Ok (p ∷ rest)) OverflowError (both_stop (has_16_bits (whole (x -ℤ left))) (has_16_bits (whole y)) (whole (x -ℤ left)) (whole y) on h)
 points_stop left _ _ _ (far_later on more x y xs ys f) =
     elim (both_or (has_16_bits (whole (x -ℤ left))) (has_16_bits (whole y)) (whole (x -ℤ left)) (whole y) on) [
-      | inl k ↦ behind (point_or_fault left on x y) (λ p. points_or_fault left more xs ys >>= λ rest. Ok (p ∷ rest)) k.0 k.1 ∙ behind_error (points_or_fault left more xs ys) (λ rest. Ok (k.0 ∷ rest)) OverflowError (points_stop left more xs ys f)
-      | inr k ↦ behind_error (point_or_fault left on x y) (λ p. points_or_fault left more xs ys >>= λ rest. Ok (p ∷ rest)) OverflowError k
+      | inl k ↦ following (point_or_fault left on x y) (λ p. points_or_fault left more xs ys >>= λ rest. Ok (p ∷ rest)) k.0 k.1 ∙ after_error (points_or_fault left more xs ys) (λ rest. Ok (k.0 ∷ rest)) OverflowError (points_stop left more xs ys f)
+      | inr k ↦ after_error (point_or_fault left on x y) (λ p. points_or_fault left more xs ys >>= λ rest. Ok (p ∷ rest)) OverflowError k
     ]

@@ -36,7 +36,7 @@ no_ends (end ∷ es) e = absurd (past es (end + 1) (omega arith) (and_parts (nat
     past [] from lt k = omega (arith, eqb-true from 0 k)
     past (end ∷ es) from lt k = past es (end + 1) (omega arith) (and_parts (nat_le from end) (are_ends (end + 1) es 0) k).1
 
--- a description is read from its bytes, padding behind it
+-- a description is read from its bytes, padding after it
 pub reads : (es : List ℕ) (ps : List Point) → parts_fit es ps ≡ true → parts (aligned 2 (parts_bytes es ps)) ≡ Some (es, ps)
 unfolding parts parts_bytes
 reads es [] fits =

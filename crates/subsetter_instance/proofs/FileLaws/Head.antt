@@ -20,7 +20,7 @@ pub eight_bytes : (e : Option Extents) → length (box_bytes e) ≡ 8
 eight_bytes None = refl
 eight_bytes (Some e) = refl
 
--- a part behind so many bytes
+-- a part after so many bytes
 pub slice_at : (l pre part post : List ℕ) (from n : ℕ) → l ≡ pre ++ (part ++ post) → length pre ≡ from → length part ≡ n → take n (drop from l) ≡ part
 slice_at l pre part post from n is a b = ap (λ (x : List ℕ). take n (drop from x)) is ∙ ap (take n) (drop_at pre (part ++ post) from a) ∙ take_at part post n b
 
@@ -118,7 +118,7 @@ pub format_back : (long : Bool) → not (eqb (be (format_bytes long)) 0) ≡ lon
 format_back true = refl
 format_back false = refl
 
--- four parts behind one, grouped
+-- four parts after one, grouped
 regroup : (A Z M F E : List ℕ) → A ++ Z ++ (M ++ (F ++ E)) ≡ A ++ Z ++ M ++ F ++ E
 regroup A Z M F E = simp append_assoc
 

@@ -20,7 +20,7 @@ use Rattle.subsetter_instance.proofs.FileLaws.Head.{slice_at}
 
 -- ---- hmtx
 
--- the table of the metrics, one behind another
+-- the table of the metrics, one after another
 pub flat_is : (all : List (Option Drawn)) → flat_map metric_bytes (map drawn_metric all) ≡ hmtx_of all
 flat_is all = all_pairs (map drawn_metric all) (length all) (omega (arith, length-map all drawn_metric))
 
@@ -70,8 +70,8 @@ module _ (n : ℕ) (extremes hhea : List ℕ) (eight : length extremes ≡ 8) (l
   abbrev middle : List ℕ
   middle = slice_range hhea 18 34
 
-  abbrev behind : List ℕ
-  behind = to_be_bytes w16 n ++ drop 36 hhea
+  abbrev following : List ℕ
+  following = to_be_bytes w16 n ++ drop 36 hhea
 
   length-front : length front ≡ 10
   length-front = length-take-le 10 hhea (omega arith)
@@ -82,11 +82,11 @@ module _ (n : ℕ) (extremes hhea : List ℕ) (eight : length extremes ≡ 8) (l
   length-before : length (front_bytes extremes hhea) ≡ 34
   length-before = omega (arith, length-append (front ++ extremes) middle, length-append front extremes, length-front, eight, length-middle)
 
-  whole : hhea_with extremes n hhea ≡ front_bytes extremes hhea ++ behind
+  whole : hhea_with extremes n hhea ≡ front_bytes extremes hhea ++ following
   whole = append_assoc (front_bytes extremes hhea) (to_be_bytes w16 n) (drop 36 hhea)
 
-  pub hhea_parts : hhea_with extremes n hhea ≡ front ++ (extremes ++ (middle ++ behind))
-  hhea_parts = whole ∙ append_assoc (front ++ extremes) middle behind ∙ append_assoc front extremes (middle ++ behind)
+  pub hhea_parts : hhea_with extremes n hhea ≡ front ++ (extremes ++ (middle ++ following))
+  hhea_parts = whole ∙ append_assoc (front ++ extremes) middle following ∙ append_assoc front extremes (middle ++ following)
 
   pub pairs_back : n < 2 ^ 16 → number (hhea_with extremes n hhea) 34 2 ≡ Some n
   pairs_back small = number_at (hhea_with extremes n hhea) (front_bytes extremes hhea) (to_be_bytes w16 n) (drop 36 hhea) 34 2 n whole (sym length-before) refl (be-u16 n small)
@@ -95,14 +95,14 @@ module _ (n : ℕ) (extremes hhea : List ℕ) (eight : length extremes ≡ 8) (l
   hhea_length = omega (arith, length-append (front_bytes extremes hhea ++ to_be_bytes w16 n) (drop 36 hhea), length-append (front_bytes extremes hhea) (to_be_bytes w16 n), length-before, length-drop 36 hhea)
 
   pub hhea_front : take 10 (hhea_with extremes n hhea) ≡ take 10 hhea
-  hhea_front = ap (take 10) hhea_parts ∙ take_at front (extremes ++ (middle ++ behind)) 10 length-front
+  hhea_front = ap (take 10) hhea_parts ∙ take_at front (extremes ++ (middle ++ following)) 10 length-front
 
   pub hhea_extremes : slice_range (hhea_with extremes n hhea) 10 18 ≡ extremes
-  hhea_extremes = slice_at _ front extremes (middle ++ behind) 10 8 hhea_parts length-front eight
+  hhea_extremes = slice_at _ front extremes (middle ++ following) 10 8 hhea_parts length-front eight
 
   pub hhea_middle : slice_range (hhea_with extremes n hhea) 18 34 ≡ slice_range hhea 18 34
   hhea_middle =
-      slice_at _ (front ++ extremes) middle behind 18 16 (hhea_parts ∙ sym (append_assoc front extremes (middle ++ behind))) (omega (arith, length-append front extremes, length-front, eight)) length-middle
+      slice_at _ (front ++ extremes) middle following 18 16 (hhea_parts ∙ sym (append_assoc front extremes (middle ++ following))) (omega (arith, length-append front extremes, length-front, eight)) length-middle
 
   pub hhea_end : drop 36 (hhea_with extremes n hhea) ≡ drop 36 hhea
   hhea_end = drop_at (front_bytes extremes hhea ++ to_be_bytes w16 n) (drop 36 hhea) 36 (omega (arith, length-append (front_bytes extremes hhea) (to_be_bytes w16 n), length-before))

@@ -27,7 +27,7 @@ ends_below from (end ∷ es) n e =
     let less : end < n = omega arith in
     All-cons (λ e. e < n) end es less (ends_below (end + 1) es n a.1)
 
--- four phantom points behind n points, each a contour of its own
+-- four phantom points after n points, each a contour of its own
 pub phantom_ends : (from : ℕ) (es : List ℕ) (n : ℕ) → are_ends from es n ≡ true → AreEnds from (es ++ n ∷ (n + 1) ∷ (n + 2) ∷ (n + 3) ∷ []) (n + 4)
 unfolding are_ends
 phantom_ends from [] n e =

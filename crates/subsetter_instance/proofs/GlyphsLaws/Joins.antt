@@ -1,4 +1,4 @@
--- The components of a composite glyph, one behind the other.
+-- The components of a composite glyph, one after the other.
 use Rattle.std.proofs.Common.{◌≡◌, ℕ, zero, suc, ◌+◌, ◌-◌, ◌^◌, ◌<◌, ◌≤◌, List, [], ◌∷◌, ◌++◌, length, drop, get_or, ℤ, pos, Result, Ok, Err, Some, true, refl, ap, sym, ◌∙◌, arith}
 use Rattle.std.specs.Prelude.{nat_le, Bool, false, if◌then◌else◌, slice_index_or}
 use Rattle.std.specs.List.{range_with_len}
@@ -38,7 +38,7 @@ left_by true n steps left b e =
     omega arith
 left_by false n steps left b e = absurd cc
 
--- the steps that are left behind so many
+-- the steps that are left after so many
 pub steps_left : (n steps left : ℕ) → Ok left ≡ spent n steps → left + n ≡ steps
 steps_left n steps left e = left_by (nat_le n steps) n steps left refl e
 

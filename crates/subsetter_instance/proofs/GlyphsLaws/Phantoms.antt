@@ -1,5 +1,5 @@
 -- Phantom points of a simple glyph that nothing moves, and its advance there.
---   left_phantom, right_phantom  behind the points, both are moved by 0
+--   left_phantom, right_phantom  after the points, both are moved by 0
 use Rattle.std.proofs.Common.{◌≡◌, ℕ, suc, ◌+◌, ◌^◌, Bool, true, false, cond, List, [], ◌∷◌, ◌++◌, length, get_or, Option, Some, Result, Ok, Err, ℤ, pos, sym, ap, ◌∙◌, append_assoc, arith}
 use Rattle.std.specs.Prelude.{◌+ℤ◌, ◌-ℤ◌, ◌*ℤ◌, slice_index_or}
 use Rattle.std.specs.Option.{ok_or}

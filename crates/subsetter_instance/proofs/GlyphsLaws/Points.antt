@@ -37,7 +37,7 @@ first_of_all : (left : ℤ) (o : Bool) (x y : ℤ) (on : List Bool) (xs ys : Lis
 unfolding points_or_fault
 first_of_all left o x y on xs ys r h = ap (λ (f : Result Point Error). f >>= λ p. onto p (points_or_fault left on xs ys)) h
 
--- the point numbered i and those behind it
+-- the point numbered i and those after it
 apart : (left : ℤ) (on : List Bool) (xs ys : List ℤ) (i : ℕ) (o : Bool) (x y : ℤ) (r : Result Point Error) → i < length on → length xs ≡ length on → length ys ≡ length on → o ≡ get_or on i false → x ≡ get_or xs i (pos 0) → y ≡ get_or ys i (pos 0) → point_or_fault left o x y ≡ r
     → points_or_fault left (drop i on) (drop i xs) (drop i ys) ≡ (r >>= λ p. onto p (points_or_fault left (drop (i + 1) on) (drop (i + 1) xs) (drop (i + 1) ys)))
 apart left on xs ys i o x y r less many_xs many_ys ho hx hy h =

@@ -18,8 +18,8 @@ wider_47 xs h = All-weaker (λ x. unsigned_abs x ≤ 2 ^ 45) (λ x. unsigned_abs
 more : (m n : ℕ) (es : List ℕ) → All (λ e. e < m) es → All (λ e. e < m + n) es
 more m n es h = All-weaker (λ e. e < m) (λ e. e < m + n) (λ e l. omega arith) es h
 
-behind : (m n : ℕ) (es : List ℕ) → All (λ e. e < n) es → All (λ e. e < m + n) (map (λ e. e + m) es)
-behind m n es h = All-map (λ e. e < m + n) (λ e. e + m) es (All-weaker (λ e. e < n) (λ e. e + m < m + n) (λ e l. omega arith) es h)
+following : (m n : ℕ) (es : List ℕ) → All (λ e. e < n) es → All (λ e. e < m + n) (map (λ e. e + m) es)
+following m n es h = All-map (λ e. e < m + n) (λ e. e + m) es (All-weaker (λ e. e < n) (λ e. e + m < m + n) (λ e l. omega arith) es h)
 
 pub joined_reach : (a b : Unfolded) → IsInReach a → IsInReach b → IsInReach (joined_parts a b)
 joined_reach a b h g =
@@ -30,7 +30,7 @@ joined_reach a b h g =
       shape = record {
         xs = xs;
         ys = ys;
-        ends = subst (λ (k : ℕ). All (λ e. e < k) (a.ends ++ map (λ e. e + length a.on) b.ends)) (sym n) (All-append (λ e. e < length a.on + length b.on) a.ends (map (λ e. e + length a.on) b.ends) (more (length a.on) (length b.on) a.ends h.shape.ends) (behind (length a.on) (length b.on) b.ends g.shape.ends));
+        ends = subst (λ (k : ℕ). All (λ e. e < k) (a.ends ++ map (λ e. e + length a.on) b.ends)) (sym n) (All-append (λ e. e < length a.on + length b.on) a.ends (map (λ e. e + length a.on) b.ends) (more (length a.on) (length b.on) a.ends h.shape.ends) (following (length a.on) (length b.on) b.ends g.shape.ends));
         left = h.shape.left;
         right = h.shape.right;
       };
@@ -103,7 +103,7 @@ same_unfolded es fs on un xs zs ys ws l m r q a b c d e f = rw (a, b, c, d, e, f
 pub on_count : (fs : List ℕ) → length (on_curve fs) ≡ length fs
 on_count fs = length-map fs (λ f. has_flag f 1)
 
--- flags behind others
+-- flags after others
 pub on_joined : (fs gs hs : List ℕ) (on un : List Bool) → hs ≡ fs ++ gs → on_curve fs ≡ on → on_curve gs ≡ un → on_curve hs ≡ on ++ un
 on_joined fs gs hs on un h a b = ap on_curve h ∙ map-append (λ f. has_flag f 1) fs gs ∙ ap (λ (l : List Bool). l ++ on_curve gs) a ∙ ap (λ (l : List Bool). on ++ l) b
 

@@ -85,7 +85,7 @@ offsets_alike s z at alike m n g bytes k a b e f =
       sym (ap (λ (c : Composite). no_points c.left c.right) x) ∙ ap (λ (c : List Component). base bytes k c p4.0.0) cs ∙ ap (λ (xs : List ℤ). base bytes k q3.0.0 xs) to.0 ∙ ap (λ (c : Composite). no_points c.left c.right) y,
     )
 
--- ---- one component behind the other
+-- ---- one component after the other
 
 joined_is : (before part : Unfolded) (steps : ℕ) (r : Unfolded × ℕ) → joined_or_fault before part steps ≡ Ok r → r.0 ≡ joined_parts before part
 joined_is before part steps r h = by (nat_lt (length before.on + length part.on) 65536) h

@@ -10,7 +10,7 @@ use Rattle.subsetter_points.specs.Simple.{parts, xs_of, ys_of}
 use Rattle.subsetter_variation.specs.Glyphs.Tuples.{Gvar}
 use Rattle.subsetter_variation.specs.Glyphs.Movement.{Outline, spent}
 use Rattle.subsetter_variation.specs.Glyphs.Varied.{in_units}
-use Rattle.subsetter_variation.proofs.GlyphsLaws.StepCosts.{Costs, bind_with, costs_behind, costs_then, moved_points_cost, no_cost, spent_costs}
+use Rattle.subsetter_variation.proofs.GlyphsLaws.StepCosts.{Costs, bind_with, costs_after, costs_then, moved_points_cost, no_cost, spent_costs}
 use Rattle.subsetter_sfnt.specs.declared.fields.hmtx.LongHorMetric.{LongHorMetric}
 use Rattle.subsetter_instance.specs.Source.{Source, metric}
 use Rattle.subsetter_instance.specs.Glyphs.Unfolded.{Unfolded, moved, with_phantoms, are_near, in_range_or_fault, simple_outline, unfolded_simple, unfolded_composite, is_composite, counted_description, unfolded}
@@ -47,7 +47,7 @@ simple_cost s at m g bytes metric u r e =
     let o = p.0 in
     let left = bind_ok (spent (length o.1 + 5) m) (move o) (come_to u r) p.2 in
     let to = bind_ok (moved s.gvar g (with_phantoms o.0 (xs_of o.1) (ys_of o.1)) at left.0) (near o) (come_to u r) left.2 in
-    costs_behind (ok_or (parts bytes) MalformedFont) o (λ n o. spent (length o.1 + 5) n >>= move o) (come_to u) m r p.1
+    costs_after (ok_or (parts bytes) MalformedFont) o (λ n o. spent (length o.1 + 5) n >>= move o) (come_to u) m r p.1
     (costs_then (spent (length o.1 + 5)) (λ n. n) (move o) (come_to u) m left.0 r (spent_costs (length o.1 + 5) m left.0 left.1)
     (costs_then (λ n. moved s.gvar g (with_phantoms o.0 (xs_of o.1) (ys_of o.1)) at n) (moved_to to.0) (near o) (come_to u) left.0 to.0.2 r
     (moved_costs s.gvar g (with_phantoms o.0 (xs_of o.1) (ys_of o.1)) at left.0 to.0 to.1)

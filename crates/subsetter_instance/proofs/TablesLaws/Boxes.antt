@@ -22,20 +22,20 @@ min_assoc a b c = omega (arith, ints, clamps)
 max_assoc : (a b c : ℤ) → int_max (int_max a b) c ≡ int_max a (int_max b c)
 max_assoc a b c = omega (arith, ints, clamps)
 
-min_behind : (a b : ℤ) (xs : List ℤ) → fold int_min (int_min a b) xs ≡ int_min a (fold int_min b xs)
-min_behind a b [] = refl
-min_behind a b (x ∷ xs) = ap (λ (z : ℤ). fold int_min z xs) (min_assoc a b x) ∙ min_behind a (int_min b x) xs
+min_after : (a b : ℤ) (xs : List ℤ) → fold int_min (int_min a b) xs ≡ int_min a (fold int_min b xs)
+min_after a b [] = refl
+min_after a b (x ∷ xs) = ap (λ (z : ℤ). fold int_min z xs) (min_assoc a b x) ∙ min_after a (int_min b x) xs
 
-max_behind : (a b : ℤ) (xs : List ℤ) → fold int_max (int_max a b) xs ≡ int_max a (fold int_max b xs)
-max_behind a b [] = refl
-max_behind a b (x ∷ xs) = ap (λ (z : ℤ). fold int_max z xs) (max_assoc a b x) ∙ max_behind a (int_max b x) xs
+max_after : (a b : ℤ) (xs : List ℤ) → fold int_max (int_max a b) xs ≡ int_max a (fold int_max b xs)
+max_after a b [] = refl
+max_after a b (x ∷ xs) = ap (λ (z : ℤ). fold int_max z xs) (max_assoc a b x) ∙ max_after a (int_max b x) xs
 
--- those of two lists, one behind the other
+-- those of two lists, one after the other
 min_both : (a b : ℤ) (xs ys : List ℤ) → fold int_min a (xs ++ b ∷ ys) ≡ int_min (fold int_min a xs) (fold int_min b ys)
-min_both a b xs ys = fold-append int_min a xs (b ∷ ys) ∙ min_behind (fold int_min a xs) b ys
+min_both a b xs ys = fold-append int_min a xs (b ∷ ys) ∙ min_after (fold int_min a xs) b ys
 
 max_both : (a b : ℤ) (xs ys : List ℤ) → fold int_max a (xs ++ b ∷ ys) ≡ int_max (fold int_max a xs) (fold int_max b ys)
-max_both a b xs ys = fold-append int_max a xs (b ∷ ys) ∙ max_behind (fold int_max a xs) b ys
+max_both a b xs ys = fold-append int_max a xs (b ∷ ys) ∙ max_after (fold int_max a xs) b ys
 
 -- ---- boxes
 
@@ -55,7 +55,7 @@ xs_both ps q qs = map-append (λ (r : Point). r.x) ps (q ∷ qs)
 ys_both : (ps : List Point) (q : Point) (qs : List Point) → ys_of (ps ++ q ∷ qs) ≡ ys_of ps ++ q.y ∷ ys_of qs
 ys_both ps q qs = map-append (λ (r : Point). r.y) ps (q ∷ qs)
 
--- the box of points, and of others behind them
+-- the box of points, and of others after them
 two_boxes : (p : Point) (ps : List Point) (q : Point) (qs : List Point) → by_all p (ps ++ q ∷ qs) ≡ record { x_min = int_min (by_all p ps).x_min (by_all q qs).x_min; y_min = int_min (by_all p ps).y_min (by_all q qs).y_min; x_max = int_max (by_all p ps).x_max (by_all q qs).x_max; y_max = int_max (by_all p ps).y_max (by_all q qs).y_max }
 unfolding four
 two_boxes p ps q qs =

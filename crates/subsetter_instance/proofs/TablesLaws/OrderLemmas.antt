@@ -31,7 +31,7 @@ order_push glyphs n g from (x ∷ order) o le gap =
     let below = o.0.below in
     (record { above = o.0.above; below = omega arith; none = o.0.none }, order_push glyphs n g (x + 1) order o.1 le gap)
 
--- behind the last one
+-- after the last one
 pub order_end : (glyphs : List ℕ) (n m from : ℕ) (order : List ℕ) → IsOrder glyphs n from order → n ≤ m → IsGap glyphs n m → IsOrder glyphs m from order
 order_end glyphs n m from [] e le gap = let within = e.within in record { within = omega arith; none = gaps glyphs from n m e.none gap }
 order_end glyphs n m from (x ∷ order) o le gap =

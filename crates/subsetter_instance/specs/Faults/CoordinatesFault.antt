@@ -25,9 +25,9 @@ pub data HasAxesFault (fvar : List ℕ) : Type 0 where
 pub data HasSegmentFault (avar : List ℕ) : ℕ → ℕ → Type 0 where
   -- positionMapCount of the first goes past the end
   cut_count : (n at : ℕ) → length avar < at + 2 → HasSegmentFault avar (suc n) at
-  -- the maps behind it go past the end, four bytes each
+  -- the maps after it go past the end, four bytes each
   cut_map : (n at count : ℕ) → number avar at 2 ≡ Some count → length avar < at + 2 + count * 4 → HasSegmentFault avar (suc n) at
-  -- those of an axis behind it
+  -- those of an axis after it
   later_map : (n at count : ℕ) → number avar at 2 ≡ Some count → HasSegmentFault avar n (at + 2 + count * 4) → HasSegmentFault avar (suc n) at
 
 -- of the segment maps in avar, for so many axes of fvar; axisCount is its bytes 6 and 7

@@ -3,7 +3,7 @@
 use Rattle.std.specs.Prelude.{◌≡◌, ◌≤◌, ◌<◌, ℕ, ◌+◌, ◌-◌, ◌*◌, length, Some, if◌then◌else◌}
 use Rattle.subsetter_instance.specs.Source.{Source, offset}
 
--- of the description of a glyph: the bytes of glyf between its offset in loca and the one behind it
+-- of the description of a glyph: the bytes of glyf between its offset in loca and the one after it
 pub data HasDescriptionFault (s : Source) (g : ℕ) : Type 0 where
   -- numGlyphs of maxp isn't more
   past_count : s.count ≤ g → HasDescriptionFault s g
@@ -14,7 +14,7 @@ pub data HasDescriptionFault (s : Source) (g : ℕ) : Type 0 where
   -- the second one is past the end of glyf
   past_glyf : (to : ℕ) → offset s (g + 1) ≡ Some to → length s.glyf < to → HasDescriptionFault s g
 
--- of its metric: numberOfHMetrics pairs of an advance and a left side bearing, and bearings behind them
+-- of its metric: numberOfHMetrics pairs of an advance and a left side bearing, and bearings after them
 pub data HasHmtxFault (s : Source) (g : ℕ) : Type 0 where
   -- numberOfHMetrics is 0
   no_pairs : s.number_of_h_metrics ≡ 0 → HasHmtxFault s g

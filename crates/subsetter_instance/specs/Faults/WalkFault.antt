@@ -49,7 +49,7 @@ pub data HasComponentFault : ℕ → List ℕ → Error → Type 0 where
   no_step : (rest : List ℕ) → HasComponentFault zero rest OverflowError
   -- it is cut
   cut_component : (steps : ℕ) (rest : List ℕ) → component_at rest ≡ None → HasComponentFault (suc steps) rest MalformedFont
-  -- one behind it, as MORE_COMPONENTS says that there is one
+  -- one after it, as MORE_COMPONENTS says that there is one
   later_component : {e : Error} (steps : ℕ) (rest : List ℕ) (c : Component × List ℕ) → component_at rest ≡ Some c → has_flag c.0.flags 0x0020 ≡ true → HasComponentFault steps c.1 e → HasComponentFault (suc steps) rest e
 
 -- the offsets of components as gvar counts them, phantom points last
@@ -68,7 +68,7 @@ pub data HasCompositeFault (s : Source) (at : List ℤ) (steps g : ℕ) (bytes :
   in_offset_variations : {e : Error} (left : ℕ) (body : List ℕ) (cs : List Component × ℕ) (t : Gvar) → spent 5 steps ≡ Ok left → after 10 bytes ≡ Some body → components_at left body ≡ Ok cs → s.gvar ≡ Some t
       → HasVariationFault t g (default_offsets cs.0) at cs.1 e → HasCompositeFault s at steps g bytes e
 
--- of a component where it is put, at the offset x and y, behind those before it
+-- of a component where it is put, at the offset x and y, after those before it
 pub data HasPlacingFault (c : Component) (x y : ℤ) (before part : Unfolded) : Error → Type 0 where
   -- its offset is to be scaled
   scaled_offset : (a b : ℤ) → c.arguments ≡ Offset a b → is_scaled c.flags c.matrix ≡ true → HasPlacingFault c x y before part Unimplemented

@@ -20,7 +20,7 @@ signed_byte bytes at = option_map (cast_signed w8) (number bytes at 1)
 abbrev pub signed_word : List ℕ → ℕ → Option ℤ
 signed_word bytes at = option_map (cast_signed w16) (number bytes at 2)
 
--- ---- argument1 and argument2, behind the flags and the glyph
+-- ---- argument1 and argument2, after the flags and the glyph
 
 abbrev pub byte_offset : List ℕ → Option Arguments
 byte_offset bytes = do
@@ -95,7 +95,7 @@ matrix_end flags at = at + (if has_flag flags 0x0008 then 2 else if has_flag fla
 
 -- ---- components
 
--- the component at the front, and the bytes behind it
+-- the component at the front, and the bytes after it
 unfoldable pub component_at : List ℕ → Option (Component × List ℕ)
 component_at bytes = do
   flags ← number bytes 0 2

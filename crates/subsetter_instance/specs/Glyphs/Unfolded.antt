@@ -60,7 +60,7 @@ abbrev pub moved : Option Gvar → ℕ → Outline → List ℤ → ℕ → Resu
 moved None g o at steps = Ok (in_units o.xs, in_units o.ys, steps)
 moved (Some t) g o at steps = moved_points t g o at steps
 
--- four phantom points behind n points, each a contour of its own. They are handed over at 0, as what moves them doesn't depend on where
+-- four phantom points after n points, each a contour of its own. They are handed over at 0, as what moves them doesn't depend on where
 -- they lie
 abbrev pub with_phantoms : List ℕ → List ℤ → List ℤ → Outline
 with_phantoms ends xs ys = record {
@@ -80,7 +80,7 @@ x_min bytes = signed_or_zero (number bytes 2 2)
 abbrev pub left_side : List ℕ → LongHorMetric → ℤ
 left_side bytes m = x_min bytes -ℤ cast_signed w16 m.lsb
 
--- the left phantom point, and the right one, which is an advance from it: of the default, and moved as the first two of the points behind n
+-- the left phantom point, and the right one, which is an advance from it: of the default, and moved as the first two of the points after n
 abbrev pub left_point : List ℕ → LongHorMetric → ℕ → List ℤ → ℤ
 left_point bytes m n xs = pos (2 ^ 30) *ℤ left_side bytes m +ℤ slice_index_or xs n (pos 0)
 
@@ -186,7 +186,7 @@ placed c x y before part = do
   by ← shift_by c.arguments (is_scaled c.flags c.matrix) x y before (transformed_xs c.matrix part.xs part.ys) (transformed_ys c.matrix part.xs part.ys)
   Ok (record part { xs = shifted by.0 (transformed_xs c.matrix part.xs part.ys); ys = shifted by.1 (transformed_ys c.matrix part.xs part.ys) })
 
--- behind the components before it: at most 65535 points
+-- after the components before it: at most 65535 points
 abbrev pub joined_parts : Unfolded → Unfolded → Unfolded
 joined_parts before part = record before {
   ends = before.ends ++ map (λ e. e + length before.on) part.ends;
@@ -234,7 +234,7 @@ with_component c x y before part steps = with_part c x y (with_metrics c.flags b
 abbrev pub Child : Type 0
 Child = ℕ → ℕ → Result (Unfolded × ℕ) Error
 
--- one component behind the other; the point k of gvar is the offset of component k
+-- one component after the other; the point k of gvar is the offset of component k
 unfoldable pub joined : Child → List Component → ℕ → List ℤ → List ℤ → Unfolded × ℕ → Result (Unfolded × ℕ) Error
 joined child [] k xs ys before = Ok before
 joined child (c ∷ cs) k xs ys before = do

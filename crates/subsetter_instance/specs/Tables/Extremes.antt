@@ -58,6 +58,6 @@ abbrev pub side_bytes : Option Extents → List ℕ
 side_bytes None = 0 ∷ 0 ∷ 0 ∷ 0 ∷ 0 ∷ 0 ∷ []
 side_bytes (Some e) = signed_word e.bounds.x_min ++ signed_word e.right ++ signed_word e.bounds.x_max
 
--- advanceWidthMax, and what is behind it
+-- advanceWidthMax, and what is after it
 abbrev pub extreme_bytes : List Drawn → List ℕ
 extreme_bytes drawn = to_be_bytes w16 (widest drawn) ++ side_bytes (all_extents drawn)

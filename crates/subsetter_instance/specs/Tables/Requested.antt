@@ -25,7 +25,7 @@ abbrev pub IsOrder : List ℕ → ℕ → ℕ → List ℕ → Type 0
 IsOrder glyphs n from [] = IsEnd glyphs n from
 IsOrder glyphs n from (g ∷ order) = IsNext glyphs n from g × IsOrder glyphs n (g + 1) order
 
--- the descriptions of these glyphs, one behind another
+-- the descriptions of these glyphs, one after another
 abbrev pub outlines_by : (ℕ → Option Drawn) → List ℕ → List ℕ
 outlines_by among order = flat_map (λ g. outline_bytes (among g)) order
 

@@ -201,7 +201,7 @@ fn matrix_end(flags: u16, at: usize) -> usize
     at + size
 }
 
-/// The component at the front, if it is whole, and the bytes behind it.
+/// The component at the front, if it is whole, and the bytes after it.
 #[tactic(auto, unfolding(crate::specs::Glyphs::Components::component_at))]
 fn component_at(bytes: &[u8]) -> Option<(Component, &[u8])>
     ensures { option_map (λ r. (r.0, r.1.now)) result ≡ component_at bytes.now }
@@ -236,14 +236,14 @@ pub fn read_components(
     components.clear();
     let mut rest = bytes;
     for read in 0..steps {
-        let Some((component, behind)) = component_at(rest) else {
+        let Some((component, following)) = component_at(rest) else {
             return Err(Error::MalformedFont);
         };
         components.push(component)?;
         if !has(component.flags, MORE_COMPONENTS) {
             return Ok((components, steps - read - 1));
         }
-        rest = behind;
+        rest = following;
     }
     Err(Error::OverflowError)
 }

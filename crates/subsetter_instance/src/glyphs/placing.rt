@@ -1,4 +1,4 @@
-//! A component of a composite glyph: through its matrix, moved, and behind the components before it.
+//! A component of a composite glyph: through its matrix, moved, and after the components before it.
 
 ghost use Rattle.std.specs.Prelude.{◌≡◌, ◌≤◌, ◌<◌, ◌^◌, ◌+◌, ◌++◌, ◌*ℤ◌, ◌+ℤ◌, ℕ, length, map, zip, slice_get, unsigned_abs, All, IfOk, IfSome};
 ghost use Rattle.subsetter_base.specs.Gives.{Gives};
@@ -186,7 +186,7 @@ fn are_near_moved(by: i64, vs: &[i64]) -> bool
     near
 }
 
-/// Coordinates, and behind them those of a component, moved.
+/// Coordinates, and after them those of a component, moved.
 fn joined_coordinates(before: Vec<i64>, by: i64, vs: &[i64]) -> Result<Vec<i64>, AllocError>
     requires by { unsigned_abs by ≤ 2 ^ 57 }
     requires vs { All (λ v. unsigned_abs v ≤ 2 ^ 47) vs.now }
@@ -200,7 +200,7 @@ fn joined_coordinates(before: Vec<i64>, by: i64, vs: &[i64]) -> Result<Vec<i64>,
     Ok(all)
 }
 
-/// The ends of contours, and those of a component of m points behind n points.
+/// The ends of contours, and those of a component of m points after n points.
 fn joined_ends(ends: Vec<u16>, n: usize, m: usize, part: &[u16]) -> Result<Vec<u16>, AllocError>
     requires few { n + m < 65536 }
     requires below { All (λ e. e < m) part.now }
@@ -214,7 +214,7 @@ fn joined_ends(ends: Vec<u16>, n: usize, m: usize, part: &[u16]) -> Result<Vec<u
     Ok(ends)
 }
 
-/// A component, of which these are the points, moved, behind those before it.
+/// A component, of which these are the points, moved, after those before it.
 #[tactic(auto, using(crate::proofs::GlyphsLaws::Reach::on_count))]
 fn joined_parts(
     before: Unfolded,
@@ -255,7 +255,7 @@ fn joined_parts(
     })
 }
 
-/// A component, of which these are the points, moved, behind those before it, and the steps that are left. `OverflowError` where
+/// A component, of which these are the points, moved, after those before it, and the steps that are left. `OverflowError` where
 /// one of its coordinates is more than 32768 units from 0, or where there are more than 65535 points.
 #[tactic(auto, unfolding(crate::specs::Glyphs::Unfolded::joined_moved), using(crate::proofs::GlyphsLaws::Reach::on_count))]
 fn joined_moved(
@@ -287,7 +287,7 @@ fn joined_moved(
     Ok((joined_parts(before, part, across, up, xs, ys)?, steps))
 }
 
-/// A component, of which these are the points through its matrix, placed behind those before it, and the steps that are left.
+/// A component, of which these are the points through its matrix, placed after those before it, and the steps that are left.
 #[tactic(auto, unfolding(crate::specs::Glyphs::Unfolded::with_points), using(crate::proofs::GlyphsLaws::Reach::wider_47))]
 fn with_points(
     component: Component,

@@ -62,7 +62,7 @@ pub fn coordinate_at(xs: &[i64], number: usize) -> i64
     }
 }
 
-/// x of the left phantom point behind n points.
+/// x of the left phantom point after n points.
 pub fn left_point(bytes: &[u8], metric: LongHorMetric, n: usize, xs: &[i64]) -> i64
     requires { All (λ x. unsigned_abs x ≤ 2 ^ 57) xs.now }
     ensures value { result ≡ left_point bytes.now metric n xs.now }
@@ -79,7 +79,7 @@ fn right_side(bytes: &[u8], metric: LongHorMetric) -> i32
     left_side(bytes, metric) + i32::from(metric.advance_width)
 }
 
-/// x of the right phantom point behind n points.
+/// x of the right phantom point after n points.
 pub fn right_point(bytes: &[u8], metric: LongHorMetric, n: usize, xs: &[i64]) -> i64
     requires bound { All (λ x. unsigned_abs x ≤ 2 ^ 57) xs.now }
     requires count { n < 2 ^ 32 }

@@ -8,13 +8,13 @@ use crate::laying::room::put;
 use subsetter_base::fields::signed_in;
 use subsetter_base::read::Reader;
 
-/// ascender, and behind it descender and lineGap, two bytes each.
+/// ascender, and after it descender and lineGap, two bytes each.
 pub const ASCENDER: usize = 4;
 /// descender.
 const DESCENDER: usize = 6;
-/// advanceWidthMax, and behind it minLeftSideBearing, minRightSideBearing and xMaxExtent, two bytes each.
+/// advanceWidthMax, and after it minLeftSideBearing, minRightSideBearing and xMaxExtent, two bytes each.
 pub const ADVANCE_WIDTH_MAX: usize = 10;
-/// caretSlopeRise, and behind it caretSlopeRun and caretOffset, two bytes each.
+/// caretSlopeRise, and after it caretSlopeRun and caretOffset, two bytes each.
 pub const CARET_SLOPE_RISE: usize = 18;
 /// Four reserved fields, two bytes each.
 pub const RESERVED: usize = 24;

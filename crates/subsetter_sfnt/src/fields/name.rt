@@ -8,7 +8,7 @@ use subsetter_base::Error;
 use subsetter_base::read::{Readable, Reader, u16_at};
 use subsetter_base::write::{Writeable, Writer};
 
-/// count, two bytes, and behind it storageOffset.
+/// count, two bytes, and after it storageOffset.
 pub const COUNT: usize = 2;
 /// storageOffset, two bytes.
 pub const STORAGE_OFFSET: usize = 4;

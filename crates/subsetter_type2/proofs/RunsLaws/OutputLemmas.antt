@@ -169,8 +169,8 @@ last_is numbers count bytes last after number f e n some l r =
       omega (arith, ap length split, ap length at, length-append (flat_operands (take k numbers)) (flat_operands (drop k numbers))),
     )
 
-pub behind_is : (n m : CharStringNumber) (a b : List ℕ) → ◌≡◌ {A = Option (CharStringNumber × List ℕ)} (Some (n, a)) (Some (m, b)) → a ≡ b
-behind_is n m a b e = (some_pair_parts n m a b e).1
+pub past_is : (n m : CharStringNumber) (a b : List ℕ) → ◌≡◌ {A = Option (CharStringNumber × List ℕ)} (Some (n, a)) (Some (m, b)) → a ≡ b
+past_is n m a b e = (some_pair_parts n m a b e).1
 
 -- the code's slice from a place on
 pub rest_from : (place : ℕ) (bytes all : List ℕ) → all ≡ bytes → take (length all - place) (drop place all) ≡ drop place bytes

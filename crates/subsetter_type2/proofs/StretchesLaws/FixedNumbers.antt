@@ -33,7 +33,7 @@ fixed_written a b c d ha hb hc hd =
     ∙ ap (λ (x : ℕ). 255 ∷ a ∷ b ∷ x ∷ bits_of a b c d % 256 ∷ []) third
     ∙ ap (λ (x : ℕ). 255 ∷ a ∷ b ∷ c ∷ x ∷ []) fourth
 
--- a byte, and those behind it
+-- a byte, and those after it
 byte_here : (l : List ℕ) (k i : ℕ) → suc k ≡ i → k < length l → drop k l ≡ get_or l k 0 ∷ drop i l
 byte_here l k i e lt = drop-cons l k 0 lt ∙ ap (λ (n : ℕ). get_or l k 0 ∷ drop n l) e
 

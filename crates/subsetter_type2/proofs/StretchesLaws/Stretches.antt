@@ -14,7 +14,7 @@ use Rattle.subsetter_cffdata.specs.Numerals.CharStringNumber.{FitsIn, NumberFits
 use Rattle.subsetter_cffdata.proofs.NumeralsLaws.CharStringNumbers.{number_fits}
 use Rattle.subsetter_cffdata.proofs.NumeralsLaws.MiddleNumbers.{stored_written}
 use Rattle.subsetter_type2.specs.Runs.Machine.{Library, Registers, Act, On, Outcome, unended, act_at}
-use Rattle.subsetter_type2.specs.Runs.Behind.{ReachedBehind}
+use Rattle.subsetter_type2.specs.Runs.Following.{ReachedAfter}
 use Rattle.subsetter_type2.specs.Flat.{flat_operands}
 use Rattle.subsetter_type2.specs.Runs.Output.{Written}
 use Rattle.subsetter_type2.specs.Runs.OutputView.{IsOutput, Holds, operands_offset, last_operand_offset, written_at}
@@ -26,7 +26,7 @@ use Rattle.subsetter_type2.specs.declared.token.Effect.{Effect}
 use Rattle.subsetter_type2.specs.declared.token.Effect.TheVariants.{CountsStems, Draws, CallsLocal, CallsGlobal, Returns, Ends, Masks}
 use Rattle.subsetter_type2.specs.Stretches.Plain.{draws, is_plain}
 use Rattle.subsetter_type2.proofs.RunsLaws.Acts.{act_operator}
-use Rattle.subsetter_type2.proofs.RunsLaws.BehindRuns.{behind_more, behind_same}
+use Rattle.subsetter_type2.proofs.RunsLaws.AfterRuns.{after_more, after_same}
 use Rattle.subsetter_type2.proofs.RunsLaws.OutputLemmas.{stands_more, stands_settled, settles, written_is, last_of_more}
 use Rattle.subsetter_type2.proofs.RunsLaws.RecursionLemmas.{unended_front}
 use Rattle.subsetter_type2.proofs.Replay.{act_push, token_number}
@@ -67,7 +67,7 @@ pub leads_nowhere : (charstring : List ℕ) (len tokens mask_len : ℕ) (w : Wri
 leads_nowhere charstring len tokens mask_len w l t = rw (l, t)
     (λ front o library depth all left stems callers room e h.
     let same : all ≡ left = omega arith in
-    subst (λ n. ReachedBehind front o library depth n (record { rests = charstring ∷ callers; registers = registers_with w stems mask_len }) w.settled) same h)
+    subst (λ n. ReachedAfter front o library depth n (record { rests = charstring ∷ callers; registers = registers_with w stems mask_len }) w.settled) same h)
 
 pub comes_at_start : (charstring : List ℕ) (mask_len count : ℕ) (bytes : List ℕ) (settled : ℕ) (w : Written) → IsOutput bytes settled count w
     → Comes charstring mask_len bytes settled w (record { len = 0; tokens = 0; settled = 0; count = count; last = 0 })
@@ -102,13 +102,13 @@ module _ (charstring : List ℕ) (mask_len : ℕ) (bytes : List ℕ) (settled : 
         leads = λ front o library depth all left stems callers room sum r.
             let before = h.leads front o library depth all (suc left) stems callers room (omega arith) r in
             let l : length h.now.operands < 48 = omega (arith, h.stands.many) in
-            behind_more front o library depth (suc left) _ h.now.settled before here callers left refl (unended_front here callers some) _ (rest ∷ callers)
+            after_more front o library depth (suc left) _ h.now.settled before here callers left refl (unended_front here callers some) _ (rest ∷ callers)
             (done_push library here rest n (registers_with h.now stems mask_len) h.now.settled e l) refl (omega arith);
         last = λ _ _. last_of_more (bytes ++ take s.len charstring) _ s.count h.now n h.stands (length bytes + s.len) (omega (arith, length-append bytes (take s.len charstring), length-take-le s.len charstring (omega arith)));
       }
 
-place_behind : (n settled before : ℕ) → operands_offset (n + 1) settled before ≡ before + (n + 1)
-place_behind n settled before = rw (add-one n) refl
+place_after : (n settled before : ℕ) → operands_offset (n + 1) settled before ≡ before + (n + 1)
+place_after n settled before = rw (add-one n) refl
 
 done_draw : (library : Library) (first : ℕ) (rest : List ℕ) (r : Registers) (settled : List ℕ) → one_byte_effect first ≡ Some Draws
     → done (act_at library (first ∷ rest) r) settled ≡ Ok (record { registers = record r { operands = [] }; settled = settled ++ (flat_operands r.operands ++ (first ∷ [])); lead = On rest })
@@ -125,11 +125,11 @@ module _ (charstring : List ℕ) (mask_len : ℕ) (bytes : List ℕ) (settled : 
       ap (λ (b : List ℕ). bytes ++ b) t ∙ sym (append_assoc bytes _ _) ∙ settles _ (first ∷ []) _ _ h.now h.stands in
       record {
         now = record { settled = all; operands = [] };
-        stands = stands_settled all (operands_offset (s.len + 1) settled (length bytes)) (place_behind s.len settled (length bytes) ∙ omega (arith, length-append bytes (take (s.len + 1) charstring), length-take-le (s.len + 1) charstring (omega arith)));
+        stands = stands_settled all (operands_offset (s.len + 1) settled (length bytes)) (place_after s.len settled (length bytes) ∙ omega (arith, length-append bytes (take (s.len + 1) charstring), length-take-le (s.len + 1) charstring (omega arith)));
         leads = λ front o library depth all_tokens left stems callers room sum reached.
-            let before = subst (λ (b : List ℕ). ReachedBehind front o library depth (suc left) (record { rests = b ∷ callers; registers = registers_with h.now stems mask_len }) h.now.settled) d
+            let before = subst (λ (b : List ℕ). ReachedAfter front o library depth (suc left) (record { rests = b ∷ callers; registers = registers_with h.now stems mask_len }) h.now.settled) d
             (h.leads front o library depth all_tokens (suc left) stems callers room (omega arith) reached) in
-            let after = behind_more front o library depth (suc left) _ h.now.settled before (first ∷ rest) callers left refl refl _ (rest ∷ callers)
+            let after = after_more front o library depth (suc left) _ h.now.settled before (first ∷ rest) callers left refl refl _ (rest ∷ callers)
             (done_draw library first rest (registers_with h.now stems mask_len) h.now.settled e) refl (omega arith) in
             rw (is, ← r) after;
         last = λ _ none. absurd (omega arith);
@@ -155,14 +155,14 @@ module _ (charstring : List ℕ) (mask_len : ℕ) (bytes : List ℕ) (settled : 
       let is : all ≡ h.now.settled ++ (flat_operands h.now.operands ++ (first ∷ mask)) =
       ap (λ (b : List ℕ). bytes ++ b) t ∙ sym (append_assoc bytes _ _) ∙ settles _ (first ∷ mask) _ _ h.now h.stands in
       let len_is : s.len + mask_len + 1 ≡ len = omega arith in
-      let place : operands_offset len settled (length bytes) ≡ length bytes + len = subst (λ (n : ℕ). operands_offset n settled (length bytes) ≡ length bytes + n) len_is (place_behind (s.len + mask_len) settled (length bytes)) in
+      let place : operands_offset len settled (length bytes) ≡ length bytes + len = subst (λ (n : ℕ). operands_offset n settled (length bytes) ≡ length bytes + n) len_is (place_after (s.len + mask_len) settled (length bytes)) in
       record {
         now = record { settled = all; operands = [] };
         stands = stands_settled all (operands_offset len settled (length bytes)) (place ∙ omega (arith, length-append bytes (take len charstring), length-take-le len charstring (omega arith)));
         leads = λ front o library depth all_tokens left stems callers room sum reached.
-            let before = subst (λ (b : List ℕ). ReachedBehind front o library depth (suc left) (record { rests = b ∷ callers; registers = registers_with h.now stems mask_len }) h.now.settled) d
+            let before = subst (λ (b : List ℕ). ReachedAfter front o library depth (suc left) (record { rests = b ∷ callers; registers = registers_with h.now stems mask_len }) h.now.settled) d
             (h.leads front o library depth all_tokens (suc left) stems callers room (omega arith) reached) in
-            let after = behind_more front o library depth (suc left) _ h.now.settled before (first ∷ rest) callers left refl refl _ (drop mask_len rest ∷ callers)
+            let after = after_more front o library depth (suc left) _ h.now.settled before (first ∷ rest) callers left refl refl _ (drop mask_len rest ∷ callers)
             (done_mask library first rest (registers_with h.now stems mask_len) h.now.settled e (some_len mask_len some) (le-leb mask_len (length rest) room_for)) refl (omega arith) in
             rw (is, ← r) after;
         last = λ _ none. absurd (omega arith);
@@ -305,7 +305,7 @@ pub by_mask : (charstring : List ℕ) (mask_len : ℕ) (s longer : Stretch) (mas
 by_mask charstring mask_len s longer true l inside e t some = rw l (extends_mask charstring mask_len s inside e some)
 by_mask charstring mask_len s longer false l inside e t some = absurd (cc)
 
--- what is written behind a stretch, as the code joins it
+-- what is written after a stretch, as the code joins it
 pub stretch_stands : (charstring : List ℕ) (mask_len : ℕ) (bytes all : List ℕ) (settled before after : ℕ) (w : Written) (s : Stretch) (h : Comes charstring mask_len bytes settled w s)
     → all ≡ bytes ++ take s.len charstring → before ≡ length bytes → after ≡ operands_offset s.settled settled before → IsOutput all after s.count h.now
 stretch_stands charstring mask_len bytes all settled before after w s h a b p = rw (a, p, b) h.stands
@@ -342,13 +342,13 @@ some_text (b ∷ bytes) callers rests e = omega arith
 rest_of : (charstring : List ℕ) (len : ℕ) → take (length charstring - len) (drop len charstring) ≡ drop len charstring
 rest_of charstring len = take_all (length charstring - len) (drop len charstring) (omega (arith, length-drop len charstring))
 
-pub behind_stretch : (front : List ℕ) (o : Outcome) (library : Library) (depth tokens stems mask_len : ℕ) (rests callers : List (List ℕ)) (charstring : List ℕ) (len n : ℕ) (w now : Written)
-    → ReachedBehind front o library depth tokens (record { rests = rests; registers = registers_with w stems mask_len }) w.settled → unended rests ≡ charstring ∷ callers → Advances charstring len n mask_len w now → length callers < depth → n ≤ tokens
-    → ReachedBehind front o library depth (tokens - n) (record { rests = take (length charstring - len) (drop len charstring) ∷ callers; registers = registers_with now stems mask_len }) now.settled
-behind_stretch front o library depth tokens stems mask_len rests callers charstring len n w now h e leads room few =
+pub after_stretch : (front : List ℕ) (o : Outcome) (library : Library) (depth tokens stems mask_len : ℕ) (rests callers : List (List ℕ)) (charstring : List ℕ) (len n : ℕ) (w now : Written)
+    → ReachedAfter front o library depth tokens (record { rests = rests; registers = registers_with w stems mask_len }) w.settled → unended rests ≡ charstring ∷ callers → Advances charstring len n mask_len w now → length callers < depth → n ≤ tokens
+    → ReachedAfter front o library depth (tokens - n) (record { rests = take (length charstring - len) (drop len charstring) ∷ callers; registers = registers_with now stems mask_len }) now.settled
+after_stretch front o library depth tokens stems mask_len rests callers charstring len n w now h e leads room few =
     rw (rest_of charstring len)
     (leads front o library depth tokens (tokens - n) stems callers room (omega arith)
-    (behind_same front o library depth tokens (registers_with w stems mask_len) rests (charstring ∷ callers) w.settled h (e ∙ sym (unended_again rests charstring callers e))))
+    (after_same front o library depth tokens (registers_with w stems mask_len) rests (charstring ∷ callers) w.settled h (e ∙ sym (unended_again rests charstring callers e))))
 
 -- each turn takes a token
 pub fewer_tokens : (rests callers : List (List ℕ)) (charstring : List ℕ) (len n tokens : ℕ) → unended rests ≡ charstring ∷ callers → (n ≡ 0 → len ≡ 0) → n ≤ tokens → length (take (length charstring - len) (drop len charstring)) ≡ 0 → tokens - n < tokens

@@ -40,7 +40,7 @@ pub record Holds (bytes : List ℕ) (settled count last : ℕ) (w : Written) : T
   pub stands : IsOutput bytes settled count w
   pub known : 1 ≤ count → (last ≡ 0 → ⊥) → last ≡ last_operand_offset w
 
--- where the operands begin: behind the last operator of a stretch that is behind so many bytes; 0 where it has none
+-- where the operands begin: after the last operator of a stretch that is after so many bytes; 0 where it has none
 abbrev pub operands_offset : ℕ → ℕ → ℕ → ℕ
 operands_offset zero settled before = settled
 operands_offset (suc end) settled before = before + suc end

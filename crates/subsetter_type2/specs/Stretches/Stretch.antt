@@ -1,7 +1,7 @@
 -- Stretches of a charstring whose bytes are their own flat form.
 use Rattle.std.specs.Prelude.{◌≡◌, ℕ, ◌+◌, ◌<◌, ◌≤◌, List, ◌∷◌, ◌++◌, length, take, drop}
 use Rattle.subsetter_type2.specs.Runs.Machine.{Library, Registers, Outcome}
-use Rattle.subsetter_type2.specs.Runs.Behind.{ReachedBehind}
+use Rattle.subsetter_type2.specs.Runs.Following.{ReachedAfter}
 use Rattle.subsetter_type2.specs.Runs.Output.{Written}
 use Rattle.subsetter_type2.specs.Runs.OutputView.{IsOutput, operands_offset, last_operand_offset}
 use Rattle.subsetter_type2.specs.declared.stretches.stretch.Stretch.{Stretch}
@@ -9,13 +9,13 @@ use Rattle.subsetter_type2.specs.declared.stretches.stretch.Stretch.{Stretch}
 abbrev pub registers_with : Written → ℕ → ℕ → Registers
 registers_with w stems mask_len = record { operands = w.operands; stems = stems; mask_len = mask_len }
 
--- each run that comes to this text comes behind so many bytes of it by so many tokens, and this is written then
+-- each run that comes to this text comes after so many bytes of it by so many tokens, and this is written then
 abbrev pub Advances : List ℕ → ℕ → ℕ → ℕ → Written → Written → Type 0
 Advances charstring len tokens mask_len w now =
     (front : List ℕ) (o : Outcome) (library : Library) (depth all left stems : ℕ) (callers : List (List ℕ))
     → length callers < depth → all ≡ tokens + left
-    → ReachedBehind front o library depth all (record { rests = charstring ∷ callers; registers = registers_with w stems mask_len }) w.settled
-    → ReachedBehind front o library depth left (record { rests = drop len charstring ∷ callers; registers = registers_with now stems mask_len }) now.settled
+    → ReachedAfter front o library depth all (record { rests = charstring ∷ callers; registers = registers_with w stems mask_len }) w.settled
+    → ReachedAfter front o library depth left (record { rests = drop len charstring ∷ callers; registers = registers_with now stems mask_len }) now.settled
 
 -- each token has a byte, and each byte is one of a token
 pub record IsSound (s : Stretch) : Type 0 where
@@ -24,7 +24,7 @@ pub record IsSound (s : Stretch) : Type 0 where
   pub ends : s.settled ≤ s.len
   pub last : s.last ≤ s.len
 
--- what is written behind a stretch whose bytes are behind these, of which the operands begin at this place
+-- what is written after a stretch whose bytes are after these, of which the operands begin at this place
 pub record Comes (charstring : List ℕ) (mask_len : ℕ) (bytes : List ℕ) (settled : ℕ) (w : Written) (s : Stretch) : Type 0 where
   pub now : Written
   pub stands : IsOutput (bytes ++ take s.len charstring) (operands_offset s.settled settled (length bytes)) s.count now

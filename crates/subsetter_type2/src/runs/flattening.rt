@@ -4,7 +4,7 @@ ghost use Rattle.std.specs.Prelude.{◌≡◌, ◌∷◌, ◌<◌, ◌≤◌, []
 ghost use Rattle.subsetter_type2.specs.Runs.Machine.{unended, rests_after};
 ghost use Rattle.subsetter_type2.specs.View.{rests_of};
 ghost use Rattle.subsetter_type2.specs.Runs.MachineView.{library_of, continuation_of};
-ghost use Rattle.subsetter_base.specs.Gives.{behind};
+ghost use Rattle.subsetter_base.specs.Gives.{following};
 ghost use Rattle.subsetter_type2.specs.Flat.{flat_form};
 ghost use Rattle.subsetter_base.specs.Within.{GivesWithin};
 ghost use Rattle.subsetter_base.specs.declared.error.Error.TheVariants.{CFFError};
@@ -47,7 +47,7 @@ fn follow<'a, const N: usize>(
     }
 }
 
-/// The flat form of a charstring behind these bytes, with room for so many rests. `OverflowError` where all of these pass
+/// The flat form of a charstring after these bytes, with room for so many rests. `OverflowError` where all of these pass
 /// the bound.
 fn flatten_within<'a, const N: usize>(
     bytes: Vec<u8>,
@@ -58,9 +58,9 @@ fn flatten_within<'a, const N: usize>(
 ) -> Result<Vec<u8>, Error>
     requires few { N ≤ 255 }
     requires room { limits.now.depth ≤ N }
-    ensures { GivesWithin (λ all. all.items) limits.now.bytes length result (behind bytes.items (flat_form (library_of subroutines.now) limits.now.tokens limits.now.depth charstring.now)) }
+    ensures { GivesWithin (λ all. all.items) limits.now.bytes length result (following bytes.items (flat_form (library_of subroutines.now) limits.now.tokens limits.now.depth charstring.now)) }
 {
-    let mut machine = Machine::new(Output::behind(bytes));
+    let mut machine = Machine::new(Output::following(bytes));
     rests.clear();
     let mut running = charstring;
     let mut tokens = limits.tokens;
@@ -85,16 +85,16 @@ fn flatten_within<'a, const N: usize>(
     Ok(machine.output.finish())
 }
 
-/// The flat form of a charstring behind these bytes. `OverflowError` where all of these pass the bound. What is left of callers
+/// The flat form of a charstring after these bytes. `OverflowError` where all of these pass the bound. What is left of callers
 /// goes into a stack, whatever it held, where it has room for them.
-pub fn flatten_behind<'a>(
+pub fn flatten_after<'a>(
     bytes: Vec<u8>,
     subroutines: &Subroutines<'a>,
     limits: &Limits,
     charstring: &'a [u8],
     rests: &mut FixedStack<&'a [u8], 64>,
 ) -> Result<Vec<u8>, Error>
-    ensures { GivesWithin (λ all. all.items) limits.now.bytes length result (behind bytes.items (flat_form (library_of subroutines.now) limits.now.tokens limits.now.depth charstring.now)) }
+    ensures { GivesWithin (λ all. all.items) limits.now.bytes length result (following bytes.items (flat_form (library_of subroutines.now) limits.now.tokens limits.now.depth charstring.now)) }
 {
     if limits.depth() <= 64 {
         return flatten_within::<64>(bytes, subroutines, limits, charstring, rests);

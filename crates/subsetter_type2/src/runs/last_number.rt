@@ -7,11 +7,11 @@ ghost use Rattle.subsetter_type2.specs.Runs.OutputView.{AllFit, IsLast};
 
 use subsetter_cffdata::numerals::charstring_number::{CharStringNumber, read_number};
 
-/// What is behind so many numbers.
+/// What is after so many numbers.
 #[inline(always)]
 fn skip_numbers(bytes: &[u8], count: usize) -> Option<&[u8]>
     ensures inside { IfSome result (λ rest. length rest.now ≤ length bytes.now) }
-    ensures behind { (numbers : List CharStringNumber) → AllFit numbers → bytes.now ≡ flat_operands numbers → count ≤ length numbers → MatchOption result ⊥ (λ rest. rest.now ≡ flat_operands (drop count numbers)) }
+    ensures following { (numbers : List CharStringNumber) → AllFit numbers → bytes.now ≡ flat_operands numbers → count ≤ length numbers → MatchOption result ⊥ (λ rest. rest.now ≡ flat_operands (drop count numbers)) }
 {
     let mut rest = bytes;
     for _ in 0..count {

@@ -7,7 +7,7 @@ use Rattle.subsetter_variation.specs.declared.glyphs.inference.Point.{Point}
 use Rattle.subsetter_variation.specs.Glyphs.Inferred.{moved}
 use Rattle.subsetter_variation.specs.Glyphs.Varied.{AreEnds, moved_in}
 
--- the next contour's end, and those that are left behind it
+-- the next contour's end, and those that are left after it
 pub next_end : (start n i : ℕ) (ends : List ℕ) → i < length ends → AreEnds start (drop i ends) n → (start ≤ get_or ends i 0) × (get_or ends i 0 < n) × AreEnds (get_or ends i 0 + 1) (drop (i + 1) ends) n
 next_end start n i ends l h = subst (λ es. AreEnds start es n) (drop_more ends i 0 l) h
 

@@ -57,26 +57,26 @@ pub all_added : (coordinates : List ℤ) (ends : List ℕ) (deltas : List ℤ) (
 all_added coordinates ends deltas s sums new h same count long steps =
     fill_by_all (λ k. get_or sums k (pos 0) +ℤ moved_in (points coordinates (deltas_by_point (length coordinates) None deltas)) 0 ends k s) new (length sums) (pos 0) long (λ k l. steps k l ∙ ap (λ z. get_or sums k (pos 0) +ℤ z) (sym (all_moves coordinates ends deltas k s h same (omega arith))))
 
--- what is read of them, and the bytes behind
+-- what is read of them, and the bytes after
 all_read_and_added : (coordinates : List ℤ) (ends : List ℕ) (s : ℤ) (sums new : List ℤ) (rest : List ℕ) (o : Option (List ℤ × List ℕ)) → AreEnds 0 ends (length coordinates) → length sums ≡ length coordinates → length new ≡ length sums → IfSome o (λ d. length d.0 ≡ length coordinates) → Some rest ≡ option_map (λ d. d.1) o → IfSome o (λ d. (k : ℕ) → k < length sums → get_or new k (pos 0) ≡ get_or sums k (pos 0) +ℤ s *ℤ get_or d.0 k (pos 0)) → option_map {U = List ℤ × List ℕ} (λ d. (added coordinates ends (deltas_by_point (length coordinates) None d.0) s sums, d.1)) o ≡ Some (new, rest)
-all_read_and_added coordinates ends s sums new rest None h count long same behind steps = absurd (cc)
-all_read_and_added coordinates ends s sums new rest (Some d) h count long same behind steps =
+all_read_and_added coordinates ends s sums new rest None h count long same following steps = absurd (cc)
+all_read_and_added coordinates ends s sums new rest (Some d) h count long same following steps =
     let bytes : d.1 ≡ rest = cc in
     ap (λ xs. Some (xs, d.1)) (sym (all_added coordinates ends d.0 s sums new h same count long steps)) ∙ ap (λ b. Some (new, b)) bytes
 
 -- the same of a call that was handed the same sums and the same scalar under other names
 pub added_here : (coordinates : List ℤ) (ends bytes : List ℕ) (s t : ℤ) (sums now new : List ℤ) (rest : List ℕ) → now ≡ sums → s ≡ t → AreEnds 0 ends (length coordinates) → length sums ≡ length coordinates → length new ≡ length now → Some rest ≡ option_map (λ d. d.1) (deltas (length now) bytes) → IfSome (deltas (length now) bytes) (λ d. (k : ℕ) → k < length now → get_or new k (pos 0) ≡ get_or now k (pos 0) +ℤ s *ℤ get_or d.0 k (pos 0)) → added_to_each coordinates ends bytes t sums ≡ Some (new, rest)
 unfolding deltas
-added_here coordinates ends bytes s t sums now new rest a b h count long behind steps =
+added_here coordinates ends bytes s t sums now new rest a b h count long following steps =
     let many : length now ≡ length coordinates = ap length a ∙ count in
     ap (added_to_each coordinates ends bytes t) (sym a)
     ∙ ap (λ z. added_to_each coordinates ends bytes z now) (sym b)
     ∙ ap (λ n. option_map {U = List ℤ × List ℕ} (λ d. (added coordinates ends (deltas_by_point (length coordinates) None d.0) s now, d.1)) (deltas_from n (runs bytes))) (sym many)
-    ∙ all_read_and_added coordinates ends s now new rest (deltas_from (length now) (runs bytes)) h many long (subst (λ n. IfSome (deltas_from (length now) (runs bytes)) (λ d. length d.0 ≡ n)) many (length_read (length now) (runs bytes))) behind steps
+    ∙ all_read_and_added coordinates ends s now new rest (deltas_from (length now) (runs bytes)) h many long (subst (λ n. IfSome (deltas_from (length now) (runs bytes)) (λ d. length d.0 ≡ n)) many (length_read (length now) (runs bytes))) following steps
 
 -- the sums stay within a bound
 pub all_within : (s : ℤ) (sums new : List ℤ) (b : ℕ) (rest : List ℕ) (o : Option (List ℤ × List ℕ)) → length new ≡ length sums → Some rest ≡ option_map (λ d. d.1) o → IfSome o (λ d. (k : ℕ) → k < length sums → get_or new k (pos 0) ≡ get_or sums k (pos 0) +ℤ s *ℤ get_or d.0 k (pos 0)) → IfSome o (λ d. (k : ℕ) → k < length sums → unsigned_abs (s *ℤ get_or d.0 k (pos 0)) ≤ 2 ^ 45) → All (λ z. unsigned_abs z ≤ b) sums → All (λ z. unsigned_abs z ≤ b + 2 ^ 45) new
-all_within s sums new b rest None long behind steps small h = absurd (cc)
-all_within s sums new b rest (Some d) long behind steps small h = All-from_get_or (λ z. unsigned_abs z ≤ b + 2 ^ 45) new (pos 0) (λ k lt.
+all_within s sums new b rest None long following steps small h = absurd (cc)
+all_within s sums new b rest (Some d) long following steps small h = All-from_get_or (λ z. unsigned_abs z ≤ b + 2 ^ 45) new (pos 0) (λ k lt.
     let inside : k < length sums = omega arith in
     one_more (get_or sums k (pos 0)) _ (get_or new k (pos 0)) b (2 ^ 45) (steps k inside) (All-get_or (λ z. unsigned_abs z ≤ b) sums k (pos 0) inside h) (small k inside))

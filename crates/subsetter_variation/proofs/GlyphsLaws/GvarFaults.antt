@@ -32,18 +32,18 @@ less_is false n steps t h = refl
 pub too_few : (n steps : ℕ) → steps < n → spent n steps ≡ Err OverflowError
 too_few n steps h = less_is (nat_le n steps) n steps refl h
 
--- what comes behind an answer, or a part that is missing
-pub behind : {A B : Type 0} (r : Result A Error) (f : A → Result B Error) (x : A) → r ≡ Ok x → (r >>= f) ≡ f x
-behind r f x h = ap (λ q. q >>= f) h
+-- what comes after an answer, or a part that is missing
+pub following : {A B : Type 0} (r : Result A Error) (f : A → Result B Error) (x : A) → r ≡ Ok x → (r >>= f) ≡ f x
+following r f x h = ap (λ q. q >>= f) h
 
-pub behind_error : {A B : Type 0} (r : Result A Error) (f : A → Result B Error) (e : Error) → r ≡ Err e → (r >>= f) ≡ Err e
-behind_error r f e h = ap (λ q. q >>= f) h
+pub after_error : {A B : Type 0} (r : Result A Error) (f : A → Result B Error) (e : Error) → r ≡ Err e → (r >>= f) ≡ Err e
+after_error r f e h = ap (λ q. q >>= f) h
 
-pub behind_named : {A B : Type 0} (o : Option A) (d : Error) (f : A → Result B Error) (x : A) → o ≡ Some x → (ok_or o d >>= f) ≡ f x
-behind_named o d f x h = ap (λ q. ok_or q d >>= f) h
+pub after_named : {A B : Type 0} (o : Option A) (d : Error) (f : A → Result B Error) (x : A) → o ≡ Some x → (ok_or o d >>= f) ≡ f x
+after_named o d f x h = ap (λ q. ok_or q d >>= f) h
 
-pub behind_missing : {A B : Type 0} (o : Option A) (d : Error) (f : A → Result B Error) → o ≡ None → (ok_or o d >>= f) ≡ Err d
-behind_missing o d f h = ap (λ q. ok_or q d >>= f) h
+pub after_missing : {A B : Type 0} (o : Option A) (d : Error) (f : A → Result B Error) → o ≡ None → (ok_or o d >>= f) ≡ Err d
+after_missing o d f h = ap (λ q. ok_or q d >>= f) h
 
 -- ---- tuples
 
@@ -97,8 +97,8 @@ module _ (t : Gvar) (o : Outline) (shared : Option (List ℕ)) (at : List ℤ) w
       → counted_walk o shared (scalar h.region at) h (record w { steps = left; headers = rest }) ≡ Err e → next_walk t o shared at w ≡ Err e
   unfolding next_walk
   counted_stops left w h rest e took is counts stops =
-      behind (spent 1 w.steps) (λ left. ok_or (next_header t w.headers) MalformedFont >>= λ x. scaled_walk o shared (scalar x.0.region at) x.0 (record w { steps = left; headers = x.1 })) left took
-      ∙ behind_named (next_header t w.headers) MalformedFont (λ x. scaled_walk o shared (scalar x.0.region at) x.0 (record w { steps = left; headers = x.1 })) (h, rest) is
+      following (spent 1 w.steps) (λ left. ok_or (next_header t w.headers) MalformedFont >>= λ x. scaled_walk o shared (scalar x.0.region at) x.0 (record w { steps = left; headers = x.1 })) left took
+      ∙ after_named (next_header t w.headers) MalformedFont (λ x. scaled_walk o shared (scalar x.0.region at) x.0 (record w { steps = left; headers = x.1 })) (h, rest) is
       ∙ ap (λ b. cond b (done (record w { steps = left; headers = rest })) (counted_walk o shared (scalar h.region at) h (record w { steps = left; headers = rest }))) counts
       ∙ stops
 
@@ -106,22 +106,22 @@ module _ (t : Gvar) (o : Outline) (shared : Option (List ℕ)) (at : List ℤ) w
   pub tuples_stop : (n : ℕ) (w : Walk) (e : Error) → HasTupleFault t o shared at n w e → walk_all t o shared at n w ≡ Err e
   unfolding next_walk counted_walk
   tuples_stop _ _ _ (no_step n w few) =
-      behind_error (next_walk t o shared at w) (walk_all t o shared at n) OverflowError
-      (behind_error (spent 1 w.steps) (λ left. ok_or (next_header t w.headers) MalformedFont >>= λ x. scaled_walk o shared (scalar x.0.region at) x.0 (record w { steps = left; headers = x.1 })) OverflowError (too_few 1 w.steps few))
+      after_error (next_walk t o shared at w) (walk_all t o shared at n) OverflowError
+      (after_error (spent 1 w.steps) (λ left. ok_or (next_header t w.headers) MalformedFont >>= λ x. scaled_walk o shared (scalar x.0.region at) x.0 (record w { steps = left; headers = x.1 })) OverflowError (too_few 1 w.steps few))
   tuples_stop _ _ _ (no_header n left w took none) =
-      behind_error (next_walk t o shared at w) (walk_all t o shared at n) MalformedFont
-      (behind (spent 1 w.steps) (λ left. ok_or (next_header t w.headers) MalformedFont >>= λ x. scaled_walk o shared (scalar x.0.region at) x.0 (record w { steps = left; headers = x.1 })) left took
-      ∙ behind_missing (next_header t w.headers) MalformedFont (λ x. scaled_walk o shared (scalar x.0.region at) x.0 (record w { steps = left; headers = x.1 })) none)
+      after_error (next_walk t o shared at w) (walk_all t o shared at n) MalformedFont
+      (following (spent 1 w.steps) (λ left. ok_or (next_header t w.headers) MalformedFont >>= λ x. scaled_walk o shared (scalar x.0.region at) x.0 (record w { steps = left; headers = x.1 })) left took
+      ∙ after_missing (next_header t w.headers) MalformedFont (λ x. scaled_walk o shared (scalar x.0.region at) x.0 (record w { steps = left; headers = x.1 })) none)
   tuples_stop _ _ _ (few_steps n left w h rest took is counts few) =
-      behind_error (next_walk t o shared at w) (walk_all t o shared at n) OverflowError
+      after_error (next_walk t o shared at w) (walk_all t o shared at n) OverflowError
       (counted_stops left w h rest OverflowError took is counts
-      (behind_error (spent (length o.xs) left) (λ more. ok_or (tuple_of (length o.xs) shared h) MalformedFont >>= λ d. Ok (moved_by o (scalar h.region at) d.numbers d.dx d.dy more (record w { steps = left; headers = rest }))) OverflowError (too_few (length o.xs) left few)))
+      (after_error (spent (length o.xs) left) (λ more. ok_or (tuple_of (length o.xs) shared h) MalformedFont >>= λ d. Ok (moved_by o (scalar h.region at) d.numbers d.dx d.dy more (record w { steps = left; headers = rest }))) OverflowError (too_few (length o.xs) left few)))
   tuples_stop _ _ _ (no_deltas n left more w h rest took is counts took_more none) =
-      behind_error (next_walk t o shared at w) (walk_all t o shared at n) MalformedFont
+      after_error (next_walk t o shared at w) (walk_all t o shared at n) MalformedFont
       (counted_stops left w h rest MalformedFont took is counts
-      (behind (spent (length o.xs) left) (λ more. ok_or (tuple_of (length o.xs) shared h) MalformedFont >>= λ d. Ok (moved_by o (scalar h.region at) d.numbers d.dx d.dy more (record w { steps = left; headers = rest }))) more took_more
-      ∙ behind_missing (tuple_of (length o.xs) shared h) MalformedFont (λ d. Ok (moved_by o (scalar h.region at) d.numbers d.dx d.dy more (record w { steps = left; headers = rest }))) none))
-  tuples_stop _ _ e (later n w v is f) = behind (next_walk t o shared at w) (walk_all t o shared at n) v is ∙ tuples_stop n v e f
+      (following (spent (length o.xs) left) (λ more. ok_or (tuple_of (length o.xs) shared h) MalformedFont >>= λ d. Ok (moved_by o (scalar h.region at) d.numbers d.dx d.dy more (record w { steps = left; headers = rest }))) more took_more
+      ∙ after_missing (tuple_of (length o.xs) shared h) MalformedFont (λ d. Ok (moved_by o (scalar h.region at) d.numbers d.dx d.dy more (record w { steps = left; headers = rest }))) none))
+  tuples_stop _ _ e (later n w v is f) = following (next_walk t o shared at w) (walk_all t o shared at n) v is ∙ tuples_stop n v e f
 
 -- ---- all variations of a glyph
 
@@ -167,19 +167,19 @@ module _ (t : Gvar) (g : ℕ) (o : Outline) (at : List ℤ) (steps : ℕ) where
   in_bytes_stop : (bytes : List ℕ) (e : Error) → variations_of t g ≡ Some bytes → (length bytes == 0) ≡ false → moved_in_bytes t o at steps bytes ≡ Err e → moved_points t g o at steps ≡ Err e
   unfolding moved_points
   in_bytes_stop bytes e is some h =
-      behind_named (variations_of t g) MalformedFont by_length bytes is
+      after_named (variations_of t g) MalformedFont by_length bytes is
       ∙ ap (λ b. cond b (done (in_units o.xs, in_units o.ys, steps)) (moved_in_bytes t o at steps bytes)) some
       ∙ h
 
   -- a fault stops the points
   pub moving_stops : (e : Error) → HasVariationFault t g o at steps e → moved_points t g o at steps ≡ Err e
   unfolding moved_points moved_in_bytes
-  moving_stops _ (no_variations none) = behind_missing (variations_of t g) MalformedFont by_length none
-  moving_stops _ (no_tuples bytes is some none) = in_bytes_stop bytes MalformedFont is some (behind_missing (tuple_headers bytes) MalformedFont sharing none)
+  moving_stops _ (no_variations none) = after_missing (variations_of t g) MalformedFont by_length none
+  moving_stops _ (no_tuples bytes is some none) = in_bytes_stop bytes MalformedFont is some (after_missing (tuple_headers bytes) MalformedFont sharing none)
   moving_stops _ (no_shared_numbers bytes all is some all_is none) =
-      in_bytes_stop bytes MalformedFont is some (behind_named (tuple_headers bytes) MalformedFont sharing all all_is ∙ behind_missing (shared_numbers (length o.xs) all.0 all.1) MalformedFont walked none)
+      in_bytes_stop bytes MalformedFont is some (after_named (tuple_headers bytes) MalformedFont sharing all all_is ∙ after_missing (shared_numbers (length o.xs) all.0 all.1) MalformedFont walked none)
   moving_stops e (in_tuple bytes all shared is some all_is shared_is f) =
       in_bytes_stop bytes e is some
-      (behind_named (tuple_headers bytes) MalformedFont sharing all all_is
-      ∙ behind_named (shared_numbers (length o.xs) all.0 all.1) MalformedFont walked shared shared_is
-      ∙ behind_error (walk_all t o shared.0 at shared.1.left (start o steps shared.1)) (λ w. Ok (w.xs, w.ys, w.steps)) e (tuples_stop t o shared.0 at shared.1.left (start o steps shared.1) e f))
+      (after_named (tuple_headers bytes) MalformedFont sharing all all_is
+      ∙ after_named (shared_numbers (length o.xs) all.0 all.1) MalformedFont walked shared shared_is
+      ∙ after_error (walk_all t o shared.0 at shared.1.left (start o steps shared.1)) (λ w. Ok (w.xs, w.ys, w.steps)) e (tuples_stop t o shared.0 at shared.1.left (start o steps shared.1) e f))

@@ -1,7 +1,7 @@
 -- What moving the points costs: as many steps from any number of steps that suffices.
 --   Costs                        from m steps down to r, and the same answer from as many more than the cost as are to be left
 --   spent_costs, no_cost         steps that are spent, and an answer that is there
---   costs_behind, costs_then     behind an answer that takes no steps, and one after the other
+--   costs_after, costs_then     after an answer that takes no steps, and one after the other
 use Rattle.std.proofs.Common.{[], ◌≡◌, ℕ, zero, suc, ◌+◌, ◌-◌, ◌≤◌, Bool, true, false, cond, List, Option, Result, Ok, Err, ℤ, pos, length, ◌==◌, if◌then◌else◌, refl, ap, ◌∙◌, arith}
 use Rattle.std.specs.Prelude.{nat_le}
 use Rattle.std.specs.Option.{ok_or}
@@ -16,7 +16,7 @@ use Rattle.subsetter_variation.specs.Glyphs.Tuples.{Gvar, TupleHeader, TupleHead
 use Rattle.subsetter_variation.specs.Glyphs.Movement.{Outline, Walk, counted_walk, moved_by, moved_in_bytes, moved_points, next_walk, scaled_walk, spent, start, walk_all}
 use Rattle.subsetter_variation.specs.Glyphs.Varied.{in_units}
 
--- m - r steps are taken, and come to the answer with however many are left behind them
+-- m - r steps are taken, and come to the answer with however many are left after them
 abbrev pub Costs : {A : Type 0} → (ℕ → Result A Error) → (ℕ → A) → ℕ → ℕ → Type 0
 Costs run answer m r = (r ≤ m) × ((n : ℕ) → run ((m - r) + n) ≡ Ok (answer n))
 
@@ -31,9 +31,9 @@ none m r n e = omega arith
 pub no_cost : {A : Type 0} (given answer : ℕ → A) (m r : ℕ) → m ≡ r → ((n : ℕ) → given n ≡ answer n) → Costs (λ n. done (given n)) answer m r
 no_cost given answer m r e h = (omega arith, λ n. ap (λ s. done (given s)) (none m r n e) ∙ ap (λ x. done x) (h n))
 
--- behind an answer that takes no steps
-pub costs_behind : {A B : Type 0} (r : Result A Error) (x : A) (f : ℕ → A → Result B Error) (answer : ℕ → B) (m p : ℕ) → r ≡ Ok x → Costs (λ n. f n x) answer m p → Costs (λ n. r >>= f n) answer m p
-costs_behind r x f answer m p e h = (h.0, λ n. bind_with r (f ((m - p) + n)) x (Ok (answer n)) e (h.1 n))
+-- after an answer that takes no steps
+pub costs_after : {A B : Type 0} (r : Result A Error) (x : A) (f : ℕ → A → Result B Error) (answer : ℕ → B) (m p : ℕ) → r ≡ Ok x → Costs (λ n. f n x) answer m p → Costs (λ n. r >>= f n) answer m p
+costs_after r x f answer m p e h = (h.0, λ n. bind_with r (f ((m - p) + n)) x (Ok (answer n)) e (h.1 n))
 
 in_turn : (m p r n : ℕ) → p ≤ m → r ≤ p → (m - r) + n ≡ (m - p) + ((p - r) + n)
 in_turn m p r n a b = omega arith
@@ -81,7 +81,7 @@ counted_costs o shared s h w m a e =
     let x = bind_ok tuple (λ t. done (moved_by o s t.numbers t.dx t.dy p.0 w)) a p.2 in
     let i = done_is (moved_by o s x.0.numbers x.0.dx x.0.dy p.0 w) a x.2 in
     costs_then (spent (length o.xs)) (λ n. n) (λ left. tuple >>= λ t. done (moved_by o s t.numbers t.dx t.dy left w)) (with_steps a) m p.0 a.steps (spent_costs (length o.xs) m p.0 p.1)
-    (costs_behind tuple x.0 (λ left t. done (moved_by o s t.numbers t.dx t.dy left w)) (with_steps a) p.0 a.steps x.1
+    (costs_after tuple x.0 (λ left t. done (moved_by o s t.numbers t.dx t.dy left w)) (with_steps a) p.0 a.steps x.1
     (no_cost (λ n. moved_by o s x.0.numbers x.0.dx x.0.dy n w) (with_steps a) p.0 a.steps (ap (λ v. v.steps) i) (λ n. ap (λ v. with_steps v n) i)))
 
 scaled_costs : (c : Bool) (o : Outline) (shared : Option (List ℕ)) (s : ℤ) (h : TupleHeader) (w : Walk) (m : ℕ) (a : Walk) → cond c (done (with_steps w m)) (counted_walk o shared s h (with_steps w m)) ≡ Ok a
@@ -101,7 +101,7 @@ next_costs t o shared at w m a e =
     let p = bind_ok (spent 1 m) (λ left. header >>= go left) a e in
     let x = bind_ok header (go p.0) a p.2 in
     costs_then (spent 1) (λ n. n) (λ left. header >>= go left) (with_steps a) m p.0 a.steps (spent_costs 1 m p.0 p.1)
-    (costs_behind header x.0 go (with_steps a) p.0 a.steps x.1
+    (costs_after header x.0 go (with_steps a) p.0 a.steps x.1
     (scaled_costs (int_eq (scalar x.0.0.region at) (pos 0)) o shared (scalar x.0.0.region at) x.0.0 (record w { headers = x.0.1 }) p.0 a x.2))
 
 all_costs : (t : Gvar) (o : Outline) (shared : Option (List ℕ)) (at : List ℤ) (k : ℕ) (w : Walk) (m : ℕ) (a : Walk) → walk_all t o shared at k (with_steps w m) ≡ Ok a
@@ -129,8 +129,8 @@ in_bytes_costs t o at m bytes a e =
     let x = bind_ok (ok_or (shared_numbers (length o.xs) p.0.0 p.0.1) MalformedFont) (walked m) a p.2 in
     let u = bind_ok (walk_all t o x.0.0 at x.0.1.left (start o m x.0.1)) last a x.2 in
     let i = done_is (u.0.xs, u.0.ys, u.0.steps) a u.2 in
-    costs_behind (ok_or (tuple_headers bytes) MalformedFont) p.0 sharing (with_left a) m a.2 p.1
-    (costs_behind (ok_or (shared_numbers (length o.xs) p.0.0 p.0.1) MalformedFont) x.0 walked (with_left a) m a.2 x.1
+    costs_after (ok_or (tuple_headers bytes) MalformedFont) p.0 sharing (with_left a) m a.2 p.1
+    (costs_after (ok_or (shared_numbers (length o.xs) p.0.0 p.0.1) MalformedFont) x.0 walked (with_left a) m a.2 x.1
     (costs_then (λ n. walk_all t o x.0.0 at x.0.1.left (start o n x.0.1)) (with_steps u.0) last (with_left a) m u.0.steps a.2
     (all_costs t o x.0.0 at x.0.1.left (start o 0 x.0.1) m u.0 u.1)
     (no_cost (with_left (u.0.xs, u.0.ys, 0)) (with_left a) u.0.steps a.2 (ap (λ (z : List ℤ × List ℤ × ℕ). z.2) i) (λ n. ap (λ (z : List ℤ × List ℤ × ℕ). with_left z n) i))))
@@ -142,10 +142,10 @@ points_costs true t o at m bytes xs ys a e =
     no_cost (with_left (xs, ys, 0)) (with_left a) m a.2 (ap (λ (z : List ℤ × List ℤ × ℕ). z.2) i) (λ n. ap (λ (z : List ℤ × List ℤ × ℕ). with_left z n) i)
 points_costs false t o at m bytes xs ys a e = in_bytes_costs t o at m bytes a e
 
--- as many steps move the points to the same place, with however many left behind them
+-- as many steps move the points to the same place, with however many left after them
 pub moved_points_cost : (t : Gvar) (g : ℕ) (o : Outline) (at : List ℤ) (m : ℕ) (a : List ℤ × List ℤ × ℕ) → moved_points t g o at m ≡ Ok a → (a.2 ≤ m) × ((n : ℕ) → moved_points t g o at ((m - a.2) + n) ≡ Ok (a.0, a.1, n))
 unfolding moved_points
 moved_points_cost t g o at m a e =
     let go = λ (steps : ℕ) (bytes : List ℕ). if length bytes == 0 then done (in_units o.xs, in_units o.ys, steps) else moved_in_bytes t o at steps bytes in
     let p = bind_ok (ok_or (variations_of t g) MalformedFont) (go m) a e in
-    costs_behind (ok_or (variations_of t g) MalformedFont) p.0 go (with_left a) m a.2 p.1 (points_costs (length p.0 == 0) t o at m p.0 (in_units o.xs) (in_units o.ys) a p.2)
+    costs_after (ok_or (variations_of t g) MalformedFont) p.0 go (with_left a) m a.2 p.1 (points_costs (length p.0 == 0) t o at m p.0 (in_units o.xs) (in_units o.ys) a p.2)

@@ -34,12 +34,12 @@ pub moved_here : (c : List Point) (k : ℕ) (d : Point) (s : ℤ) → k < length
 unfolding moved
 moved_here c k d s l = here c k (get_or c k d).at s (get_or c k d).delta (first_touched-drop c k d l) ∙ sym (ap (λ o. moved_at o (before c k) (after c k) s) (slice_get-get_or c k d l))
 
--- what the loop goes on with behind a touched point, and behind an untouched one
-pub behind_touched : (c : List Point) (k : ℕ) (d : Point) (t : Touched) → k < length c → touched (get_or c k d) ≡ Some t → Some t ≡ before c (k + 1)
-behind_touched c k d t l e = sym (ap (λ o. option_or o (last_touched c)) (last_touched-take c k d l ∙ ap (λ o. option_or o (last_touched (take k c))) e))
+-- what the loop goes on with after a touched point, and after an untouched one
+pub after_touched : (c : List Point) (k : ℕ) (d : Point) (t : Touched) → k < length c → touched (get_or c k d) ≡ Some t → Some t ≡ before c (k + 1)
+after_touched c k d t l e = sym (ap (λ o. option_or o (last_touched c)) (last_touched-take c k d l ∙ ap (λ o. option_or o (last_touched (take k c))) e))
 
-pub behind_untouched : (c : List Point) (k : ℕ) (d : Point) → k < length c → touched (get_or c k d) ≡ None → (before c k ≡ before c (k + 1)) × (option_or (first_touched (drop k c)) (first_touched c) ≡ option_or (first_touched (drop (k + 1) c)) (first_touched c))
-behind_untouched c k d l e = (
+pub after_untouched : (c : List Point) (k : ℕ) (d : Point) → k < length c → touched (get_or c k d) ≡ None → (before c k ≡ before c (k + 1)) × (option_or (first_touched (drop k c)) (first_touched c) ≡ option_or (first_touched (drop (k + 1) c)) (first_touched c))
+after_untouched c k d l e = (
   sym (ap (λ o. option_or o (last_touched c)) (last_touched-take c k d l ∙ ap (λ o. option_or o (last_touched (take k c))) e)),
   ap (λ o. option_or o (first_touched c)) (first_touched-drop c k d l ∙ ap (λ o. option_or o (first_touched (drop (k + 1) c))) e),
 )

@@ -65,20 +65,20 @@ module _ (p q : AxisValueMap) (from : p.from <ℤ q.from) (to : p.to ≤ℤ q.to
 
 -- ---- by segments
 
--- the number lies behind a segment that it isn't on
-behind : (a b : Bool) → (a && b) ≡ false → a ≡ true → b ≡ false
-behind true b h k = h
-behind false b h k = absurd cc
+-- the number lies after a segment that it isn't on
+following : (a b : Bool) → (a && b) ≡ false → a ≡ true → b ≡ false
+following true b h k = h
+following false b h k = absurd cc
 
-behind_first : (p q : AxisValueMap) (n : ℤ) → is_on p q n ≡ false → f2dot14_to_fixed p.from ≤ℤ n → f2dot14_to_fixed q.from ≤ℤ n
-behind_first p q n off low = lt_false n (f2dot14_to_fixed q.from) (behind (int_le (f2dot14_to_fixed p.from) n) (int_lt n (f2dot14_to_fixed q.from)) off (grind (arith, ints)))
+past_first : (p q : AxisValueMap) (n : ℤ) → is_on p q n ≡ false → f2dot14_to_fixed p.from ≤ℤ n → f2dot14_to_fixed q.from ≤ℤ n
+past_first p q n off low = lt_false n (f2dot14_to_fixed q.from) (following (int_le (f2dot14_to_fixed p.from) n) (int_lt n (f2dot14_to_fixed q.from)) off (grind (arith, ints)))
 
 before_second : (p q : AxisValueMap) (n : ℤ) → is_on p q n ≡ true → n <ℤ f2dot14_to_fixed q.from
 before_second p q n on = lt_true n (f2dot14_to_fixed q.from) (both_of (int_le (f2dot14_to_fixed p.from) n) (int_lt n (f2dot14_to_fixed q.from)) on).1
 
 -- a greatest number that is kept, and that no number passes, is kept by an end further on
-kept_behind : (p q : AxisValueMap) (ends : List AxisValueMap) (n : ℤ) → keeps (pos 16384) (p ∷ q ∷ ends) ≡ true → p.from <ℤ q.from → f2dot14_to_fixed q.from ≤ℤ n → n ≤ℤ pos 65536 → keeps (pos 16384) (q ∷ ends) ≡ true
-kept_behind p q ends n h from low high = either (int_eq p.from (pos 16384) && int_eq p.to (pos 16384)) (keeps (pos 16384) (q ∷ ends)) h (λ k. let same : p.from ≡ pos 16384 = (Decides-int_eq p.from (pos 16384)).0 (both_of (int_eq p.from (pos 16384)) (int_eq p.to (pos 16384)) k).0 in absurd (omega (arith, ints))) (λ k. k)
+kept_past : (p q : AxisValueMap) (ends : List AxisValueMap) (n : ℤ) → keeps (pos 16384) (p ∷ q ∷ ends) ≡ true → p.from <ℤ q.from → f2dot14_to_fixed q.from ≤ℤ n → n ≤ℤ pos 65536 → keeps (pos 16384) (q ∷ ends) ≡ true
+kept_past p q ends n h from low high = either (int_eq p.from (pos 16384) && int_eq p.to (pos 16384)) (keeps (pos 16384) (q ∷ ends)) h (λ k. let same : p.from ≡ pos 16384 = (Decides-int_eq p.from (pos 16384)).0 (both_of (int_eq p.from (pos 16384)) (int_eq p.to (pos 16384)) k).0 in absurd (omega (arith, ints))) (λ k. k)
 
 record Follows (p q : AxisValueMap) (ends : List AxisValueMap) : Type 0 where
   from : p.from <ℤ q.from
@@ -106,8 +106,8 @@ low_from p (q ∷ ends) n up h low high = by (λ u k l. low_from q ends n u k l 
     by later true on = let f = follow p q ends up in segment_low p q f.from f.to n low
     by later false off =
         let f = follow p q ends up in
-        let l = behind_first p q n off low in
-        through (f2dot14_to_fixed p.to) (f2dot14_to_fixed q.to) (mapped_from q ends n) (fine_le p.to q.to f.to) (later f.up (kept_behind p q ends n h f.from l high) l)
+        let l = past_first p q n off low in
+        through (f2dot14_to_fixed p.to) (f2dot14_to_fixed q.to) (mapped_from q ends n) (fine_le p.to q.to f.to) (later f.up (kept_past p q ends n h f.from l high) l)
 
 up_from : (p : AxisValueMap) (ends : List AxisValueMap) (m n : ℤ) → ascends_from p ends ≡ true → keeps (pos 16384) (p ∷ ends) ≡ true → f2dot14_to_fixed p.from ≤ℤ m → m ≤ℤ n → n ≤ℤ pos 65536 → mapped_from p ends m ≤ℤ mapped_from p ends n
 up_from p [] m n up h low le high = le
@@ -120,12 +120,12 @@ up_from p (q ∷ ends) m n up h low le high = by (λ u k l. up_from q ends m n u
         → cond a (on_segment p q m) (mapped_from q ends m) ≤ℤ cond b (on_segment p q n) (mapped_from q ends n)
     by later true true x y = segment_up p q f.from f.to m n low le
     by later true false x y =
-        let l = behind_first p q n y (through (f2dot14_to_fixed p.from) m n low le) in
-        through (on_segment p q m) (f2dot14_to_fixed q.to) (mapped_from q ends n) (segment_high p q f.from f.to m low (before_second p q m x)) (low_from q ends n f.up (kept_behind p q ends n h f.from l high) l high)
-    by later false true x y = let l = behind_first p q m x low in let g = before_second p q n y in absurd (omega (arith, ints))
+        let l = past_first p q n y (through (f2dot14_to_fixed p.from) m n low le) in
+        through (on_segment p q m) (f2dot14_to_fixed q.to) (mapped_from q ends n) (segment_high p q f.from f.to m low (before_second p q m x)) (low_from q ends n f.up (kept_past p q ends n h f.from l high) l high)
+    by later false true x y = let l = past_first p q m x low in let g = before_second p q n y in absurd (omega (arith, ints))
     by later false false x y =
-        let l = behind_first p q m x low in
-        later f.up (kept_behind p q ends n h f.from (through (f2dot14_to_fixed q.from) m n l le) high) l
+        let l = past_first p q m x low in
+        later f.up (kept_past p q ends n h f.from (through (f2dot14_to_fixed q.from) m n l le) high) l
 
 segments_up : (ends : List AxisValueMap) (m n : ℤ) → ascends ends ≡ true → is_segment_map ends ≡ true → neg_ℤ (pos 65536) ≤ℤ m → m ≤ℤ n → n ≤ℤ pos 65536 → by_segments ends m ≤ℤ by_segments ends n
 segments_up [] m n up h low le high = le

@@ -1,4 +1,4 @@
--- The deltas of a whole run, and those behind it.
+-- The deltas of a whole run, and those after it.
 use Rattle.std.proofs.Common.{◌≡◌, ℕ, zero, suc, ◌+◌, ◌-◌, ◌*◌, ◌%◌, ◌<◌, ◌≤◌, Bool, true, false, cond, List, [], ◌∷◌, ◌++◌, length, get_or, take, drop, map, Option, Some, None, ℤ, pos, nat_le, refl, ap, sym, ◌∙◌, arith}
 use Rattle.std.specs.Int.{w8, w16, cast_signed}
 use Rattle.std.specs.Option.{option_map}
@@ -7,15 +7,15 @@ use Rattle.subsetter_base.specs.Options.{◌>>=◌}
 use Rattle.subsetter_variation.specs.Packing.Packed.{Run, word_in, runs, run_in, begun, delta_in, next_delta, deltas_from}
 use Rattle.subsetter_base.specs.Bytes.{byte}
 
--- a run of so many deltas, behind its first byte
+-- a run of so many deltas, after its first byte
 abbrev pub run_of : ℕ → ℕ → List ℕ → Run
 run_of n control bytes = record { left = n; control = control; bytes = bytes }
 
--- the delta that a run has next, and the bytes behind it
+-- the delta that a run has next, and the bytes after it
 abbrev delta_bytes : ℕ → List ℕ → Option (ℤ × List ℕ)
 delta_bytes control bytes = cond (nat_le 128 control) (Some (pos 0, bytes)) (cond (nat_le 64 control) (option_map (λ w. (cast_signed w16 w.0, w.1)) (word_in bytes)) (option_map (λ b. (cast_signed w8 b.0, b.1)) (byte bytes)))
 
--- with those behind it
+-- with those after it
 abbrev pub onto : ℤ → Option (List ℤ × List ℕ) → Option (List ℤ × List ℕ)
 onto x read = read >>= λ rest. Some (x ∷ rest.0, rest.1)
 
@@ -35,7 +35,7 @@ next_in_run n control bytes =
     let one : suc n - 1 ≡ n = omega arith in
     ap (λ o. o >>= delta_in) (begun_on n control bytes) ∙ rw one (with_run (nat_le 128 control) (nat_le 64 control) n control bytes (word_in bytes) (byte bytes))
 
--- a delta that is read, and so many behind it
+-- a delta that is read, and so many after it
 abbrev pub next_then : ℕ → Option (ℤ × Run) → Option (List ℤ × List ℕ)
 next_then m o = o >>= λ d. onto d.0 (deltas_from m d.1)
 
@@ -127,7 +127,7 @@ unfolding next_delta
 between_runs zero control bytes = refl
 between_runs (suc m) control bytes = refl
 
--- the deltas that are read, and so many behind them
+-- the deltas that are read, and so many after them
 abbrev pub then_deltas : ℕ → Option (List ℤ × List ℕ) → Option (List ℤ × List ℕ)
 then_deltas m None = None
 then_deltas m (Some d) = option_map (λ x. (d.0 ++ x.0, x.1)) (deltas_from m (runs d.1))

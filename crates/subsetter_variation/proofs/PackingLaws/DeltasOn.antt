@@ -42,16 +42,16 @@ pub length_read : (n : ℕ) (r : Run) → IfSome (deltas_from n r) (λ d. length
 length_read zero r = ended_length (ended r)
 length_read (suc n) r = then_length n (next_delta r) (λ next. length_read n next)
 
--- ---- behind a run
+-- ---- after a run
 abbrev got : Option (List ℤ × List ℕ) → List ℤ × List ℕ
 got None = ([], [])
 got (Some d) = d
 
-behind_front : (at c past : ℕ) (front : List ℤ) (q whole : Option (List ℤ × List ℕ)) → past ≡ at + c → length front ≡ c → option_map (λ x. (front ++ x.0, x.1)) q ≡ option_map (from_place at) whole → q ≡ option_map (from_place past) whole
-behind_front at c past front None None p l e = refl
-behind_front at c past front None (Some d) p l e = absurd (cc)
-behind_front at c past front (Some x) None p l e = absurd (cc)
-behind_front at c past front (Some x) (Some d) p l e =
+past_front : (at c past : ℕ) (front : List ℤ) (q whole : Option (List ℤ × List ℕ)) → past ≡ at + c → length front ≡ c → option_map (λ x. (front ++ x.0, x.1)) q ≡ option_map (from_place at) whole → q ≡ option_map (from_place past) whole
+past_front at c past front None None p l e = refl
+past_front at c past front None (Some d) p l e = absurd (cc)
+past_front at c past front (Some x) None p l e = absurd (cc)
+past_front at c past front (Some x) (Some d) p l e =
     let deltas : front ++ x.0 ≡ drop at d.0 = ap (λ o. (got o).0) e in
     let bytes : x.1 ≡ d.1 = ap (λ o. (got o).1) e in
     let rest : x.0 ≡ drop past d.0 = sym (drop-append_seam front x.0) ∙ ap (λ n. drop n (front ++ x.0)) l ∙ ap (drop c) deltas ∙ drop-drop c at d.0 ∙ ap (λ n. drop n d.0) (sym p) in
@@ -61,7 +61,7 @@ pub after_run : (m at c past : ℕ) (o whole : Option (List ℤ × List ℕ)) (r
 after_run m at c past None whole rest p l r e = absurd (cc)
 after_run m at c past (Some x) whole rest p l r e =
     let same : rest ≡ x.1 = cc in
-    ap (λ bytes. deltas_from m (runs bytes)) same ∙ behind_front at c past x.0 (deltas_from m (runs x.1)) whole p l e
+    ap (λ bytes. deltas_from m (runs bytes)) same ∙ past_front at c past x.0 (deltas_from m (runs x.1)) whole p l e
 
 -- the deltas of the run are those from its place on
 front_at : (at c k : ℕ) (front : List ℤ) (q : Option (List ℤ × List ℕ)) (d : List ℤ × List ℕ) → at ≤ k → k < at + c → length front ≡ c → option_map (λ x. (front ++ x.0, x.1)) q ≡ Some (from_place at d) → get_or front (k - at) (pos 0) ≡ get_or d.0 k (pos 0)

@@ -7,7 +7,7 @@ use Rattle.subsetter_base.specs.declared.error.Error.{Error}
 use Rattle.subsetter_base.specs.Options as optional
 use Rattle.subsetter_variation.specs.Packing.Packed.{Run, ended, next_delta, deltas_from, next_point, points_from}
 
--- members in front of a list that is answered with what follows it
+-- members before a list that is answered with what follows it
 abbrev pub ahead : {A B : Type 0} → List A → Result (List A × B) Error → Result (List A × B) Error
 ahead front read = read >>= λ x. Ok (front ++ x.0, x.1)
 

@@ -7,7 +7,7 @@ use Rattle.subsetter_base.specs.Options.{◌>>=◌}
 use Rattle.subsetter_variation.specs.Packing.Packed.{word_in, deltas, point_numbers}
 use Rattle.subsetter_variation.specs.declared.region.RegionAxis.{RegionAxis}
 
--- the first bytes and those behind them, if there are as many
+-- the first bytes and those after them, if there are as many
 abbrev pub split : ℕ → List ℕ → Option (List ℕ × List ℕ)
 split n bytes = if nat_le n (length bytes) then Some (take n bytes, drop n bytes) else None
 
@@ -94,7 +94,7 @@ peaks_in t flags bytes =
     if nat_le 32768 flags then split (tuple_size t.axis_count) bytes
     else option_map (λ peaks. (peaks, bytes)) (range t.shared (flags % 4096 * tuple_size t.axis_count) (tuple_size t.axis_count))
 
--- bit 0x4000: starts and ends are behind
+-- bit 0x4000: starts and ends are after
 abbrev pub ends_in : ℕ → ℕ → List ℕ → List ℕ → Option (List RegionAxis × List ℕ)
 ends_in axis_count flags peaks bytes =
     if nat_le 16384 (flags % 32768) then (do
@@ -152,7 +152,7 @@ pub record Tuple : Type 0 where
   pub dx : List ℤ
   pub dy : List ℤ
 
--- the point numbers that the tuples of a glyph share, none for all, and the tuples, whose data are behind them
+-- the point numbers that the tuples of a glyph share, none for all, and the tuples, whose data are after them
 unfoldable pub shared_numbers : ℕ → Bool → TupleHeaders → Option (Option (List ℕ) × TupleHeaders)
 shared_numbers limit is_shared r =
     if is_shared then option_map (λ n. (n.0, record r { serialized = n.1 })) (point_numbers limit r.serialized)

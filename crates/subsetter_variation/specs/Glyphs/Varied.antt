@@ -51,7 +51,7 @@ deltas_of ps = map (λ p. p.delta) ps
 abbrev pub added : List ℤ → List ℕ → List (Option ℤ) → ℤ → List ℤ → List ℤ
 added coordinates ends deltas scalar sums = map (λ k. slice_index_or sums k (pos 0) +ℤ moved_in (points coordinates deltas) 0 ends k scalar) (range_with_len 0 (length sums))
 
--- the same of a tuple that gives each point a delta, whose bytes these are, and the bytes behind these deltas
+-- the same of a tuple that gives each point a delta, whose bytes these are, and the bytes after these deltas
 abbrev pub added_to_each : List ℤ → List ℕ → List ℕ → ℤ → List ℤ → Option (List ℤ × List ℕ)
 added_to_each coordinates ends bytes scalar sums = option_map (λ d. (added coordinates ends (deltas_by_point (length coordinates) None d.0) scalar sums, d.1)) (deltas (length coordinates) bytes)
 

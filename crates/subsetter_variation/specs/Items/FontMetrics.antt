@@ -5,11 +5,11 @@ use Rattle.subsetter_base.specs.Bytes.{be, range, number, from_offset}
 use Rattle.subsetter_base.specs.Options.{◌>>=◌}
 use Rattle.subsetter_variation.specs.Items.ItemVariations.{Store, item_delta, item_store}
 
--- the outer and the inner index of a value record, which are behind its tag
+-- the outer and the inner index of a value record, which are after its tag
 abbrev pub value_indexes : List ℕ → ℕ × ℕ
 value_indexes bytes = (be (take 2 (drop 4 bytes)), be (take 2 (drop 6 bytes)))
 
--- those of the first of n records, the record k and those behind it, that has a tag, if one has; the records have one size
+-- those of the first of n records, the record k and those after it, that has a tag, if one has; the records have one size
 abbrev pub value_from : ℕ → ℕ → ℕ → List ℕ → List ℕ → Option (Option (ℕ × ℕ))
 value_from zero k size mvar tag = Some None
 value_from (suc n) k size mvar tag = do

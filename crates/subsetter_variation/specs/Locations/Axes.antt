@@ -12,7 +12,7 @@ use Rattle.subsetter_variation.specs.declared.locations.axes.Axis.{Axis}
 abbrev pub axis_of : List ℕ → Axis
 axis_of bytes = record { tag = record { 0 = take 4 bytes }; minimum = long_signed_at bytes 4; default = long_signed_at bytes 8; maximum = long_signed_at bytes 12 }
 
--- so many records of one size each, one behind the other
+-- so many records of one size each, one after the other
 abbrev pub axes_at : ℕ → ℕ → List ℕ → ℕ → Option (List Axis)
 axes_at zero size fvar at = Some []
 axes_at (suc n) size fvar at = do

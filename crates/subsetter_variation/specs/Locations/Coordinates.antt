@@ -16,7 +16,7 @@ use Rattle.subsetter_variation.specs.declared.locations.segments.AxisValueMap.{A
 unfoldable pub coordinate : Axis → List AxisValueMap → List (Tag × ℤ) → ℤ
 coordinate a ends settings = nearest (mapped ends (default_normalized a (user_coordinate a settings))) 4
 
--- on each axis, whose segments are behind those of the axis before
+-- on each axis, whose segments are after those of the axis before
 abbrev pub coordinates_at : List Axis → List (Tag × ℤ) → List ℕ → ℕ → Option (List ℤ)
 coordinates_at [] settings avar at = Some []
 coordinates_at (a ∷ axes) settings avar at = do

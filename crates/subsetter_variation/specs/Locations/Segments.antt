@@ -49,7 +49,7 @@ by_segments (p ∷ ends) n = mapped_from p ends n
 
 -- ---- which ends count
 
--- behind others an end counts whose number is above those of all before it, and whose new number isn't less than that of the last one that counts
+-- after others an end counts whose number is above those of all before it, and whose new number isn't less than that of the last one that counts
 abbrev pub counts : ℤ → AxisValueMap → AxisValueMap → Bool
 counts top last q = int_lt top q.from && int_le last.to q.to
 
@@ -57,7 +57,7 @@ counts top last q = int_lt top q.from && int_le last.to q.to
 abbrev pub topmost : ℤ → AxisValueMap → ℤ
 topmost top q = if int_lt top q.from then q.from else top
 
--- the ends that count behind the last one that did
+-- the ends that count after the last one that did
 abbrev pub counting_from : ℤ → AxisValueMap → List AxisValueMap → List AxisValueMap
 counting_from top last [] = []
 counting_from top last (q ∷ ends) = if counts top last q then q ∷ counting_from (topmost top q) q ends else counting_from (topmost top q) last ends

@@ -71,8 +71,8 @@ fn inner_region_axis(peaks: &[u8], starts: &[u8], ends: &[u8]) -> RegionAxis
     }
 }
 
-/// The bytes behind the first two.
-fn behind_two(bytes: &[u8]) -> &[u8]
+/// The bytes after the first two.
+fn after_two(bytes: &[u8]) -> &[u8]
     requires { 2 ≤ length bytes.now }
     ensures value { result.now ≡ drop 2 bytes.now }
     ensures len { length result.now + 2 ≡ length bytes.now }
@@ -104,7 +104,7 @@ pub(crate) fn tuple_region<'a>(
     }
 }
 
-/// The scalar at a location of a region without ends of its own. The axes behind one that makes it 0 aren't read.
+/// The scalar at a location of a region without ends of its own. The axes after one that makes it 0 aren't read.
 #[tactic(auto, using(crate::proofs::Regions::scalar_step, crate::proofs::Regions::scalar_end))]
 fn peak_scalar(peaks: &[u8], at: &[i32]) -> i64
     requires { length peaks.now ≡ tuple_size (length at.now) }
@@ -119,7 +119,7 @@ fn peak_scalar(peaks: &[u8], at: &[i32]) -> i64
         if whole == 0 {
             return 0;
         }
-        rest = behind_two(rest);
+        rest = after_two(rest);
     }
     whole
 }
@@ -143,9 +143,9 @@ fn intermediate_scalar(peaks: &[u8], starts: &[u8], ends: &[u8], at: &[i32]) -> 
         if whole == 0 {
             return 0;
         }
-        p = behind_two(p);
-        s = behind_two(s);
-        e = behind_two(e);
+        p = after_two(p);
+        s = after_two(s);
+        e = after_two(e);
     }
     whole
 }

@@ -39,7 +39,7 @@ const OFFSET32_SIZE: usize = 4;
 
 const OFFSET16_SIZE: usize = 2;
 
-/// dataOffset of a glyph's variations, two bytes, behind tupleVariationCount.
+/// dataOffset of a glyph's variations, two bytes, after tupleVariationCount.
 const DATA_OFFSET: usize = 2;
 /// tupleVariationHeaders.
 const TUPLE_VARIATION_HEADERS: usize = 4;
@@ -100,7 +100,7 @@ impl<'a> Model for TupleHeaders<'a> {
     ghost view = { λ r. record { left = r.left; headers = r.headers.now; serialized = r.serialized.now } };
 }
 
-/// The first bytes and those behind them, if there are as many.
+/// The first bytes and those after them, if there are as many.
 fn split(n: usize, bytes: &[u8]) -> Option<(&[u8], &[u8])>
     ensures value { MatchOption result (split n bytes.now ≡ None) (λ r. split n bytes.now ≡ Some (r.0.now, r.1.now)) }
     ensures len { IfSome result (λ r. length r.0.now ≡ n) }
@@ -256,7 +256,7 @@ pub fn tuple_headers(bytes: &[u8]) -> Option<(bool, TupleHeaders<'_>)>
     ))
 }
 
-/// The peaks of a region, and the bytes of the header behind them.
+/// The peaks of a region, and the bytes of the header after them.
 fn peaks_in<'a>(t: &Gvar<'a>, flags: u16, bytes: &'a [u8]) -> Option<(&'a [u8], &'a [u8])>
     ensures value { MatchOption result (peaks_in t.now flags bytes.now ≡ None) (λ r. peaks_in t.now flags bytes.now ≡ Some (r.0.now, r.1.now)) }
     ensures len { IfSome result (λ r. length r.0.now ≡ tuple_size t.now.axis_count) }
@@ -271,7 +271,7 @@ fn peaks_in<'a>(t: &Gvar<'a>, flags: u16, bytes: &'a [u8]) -> Option<(&'a [u8], 
     }
 }
 
-/// The region with these peaks, and the bytes of the header behind it.
+/// The region with these peaks, and the bytes of the header after it.
 fn ends_in<'a>(
     axis_count: u16,
     flags: u16,
@@ -292,7 +292,7 @@ fn ends_in<'a>(
     }
 }
 
-/// The region of a tuple, and the bytes of the header behind it.
+/// The region of a tuple, and the bytes of the header after it.
 #[tactic(auto, unfolding(crate::specs::Glyphs::Tuples::region_in))]
 fn region_in<'a>(t: &Gvar<'a>, flags: u16, bytes: &'a [u8]) -> Option<(TupleRegion<'a>, &'a [u8])>
     ensures axes { IfSome result (λ r. length r.0 ≡ t.now.axis_count) }
@@ -367,7 +367,7 @@ impl<'a> TupleHeaders<'a> {
     }
 }
 
-/// The next tuple, without its deltas, and those behind it, unless it is cut.
+/// The next tuple, without its deltas, and those after it, unless it is cut.
 #[tactic(auto, unfolding(crate::specs::Glyphs::Tuples::next_header))]
 pub fn next_header<'a>(
     t: &Gvar<'a>,

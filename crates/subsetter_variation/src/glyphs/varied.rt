@@ -184,7 +184,7 @@ pub fn added(
     Ok(sums)
 }
 
-/// The sums of the points, and what a tuple that gives each a delta moves it by on top, along one axis, and the bytes behind these
+/// The sums of the points, and what a tuple that gives each a delta moves it by on top, along one axis, and the bytes after these
 /// deltas, unless they are cut.
 pub fn added_to_each<'a>(
     coordinates: &[i16],

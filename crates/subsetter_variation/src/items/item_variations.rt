@@ -155,7 +155,7 @@ fn coordinate_in(at: &[i32]) -> Option<(i32, &[i32])>
     }
 }
 
-/// The scalar of a region at a location, in parts of 2^30. The axes behind one that makes it 0 aren't read.
+/// The scalar of a region at a location, in parts of 2^30. The axes after one that makes it 0 aren't read.
 #[tactic(auto, using(crate::proofs::Masters::scalar_of_none))]
 pub fn region_scalar(region: LazyArray16<'_, RegionAxis>, at: &[i32]) -> i64
     ensures value { result ≡ scalar (region_of region.entry) at.now }
@@ -287,7 +287,7 @@ fn word_delta(r: &Row<'_>, k: u16) -> Option<i32>
     }
 }
 
-/// A delta behind the words.
+/// A delta after the words.
 fn byte_delta(r: &Row<'_>, k: u16) -> Option<i32>
     ensures { result ≡ byte_delta r.now k }
 {

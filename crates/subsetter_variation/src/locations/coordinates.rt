@@ -57,7 +57,7 @@ fn unmapped_coordinates(
     Ok(coordinates)
 }
 
-/// On each axis, whose segments are behind those of the axis before.
+/// On each axis, whose segments are after those of the axis before.
 #[tactic(auto, using(crate::proofs::PackingLaws::Listed::coordinates_cut))]
 fn coordinates_at(
     alloc: Global,

@@ -47,7 +47,7 @@ fn f2dot14_to_fixed(z: i16) -> i64
 
 /// Of a whole as great a part as a number has passed of the way from one end to another.
 fn interpolated(from: i64, to: i64, n: i64, whole: i64) -> i64
-    requires behind { from ≤ℤ n }
+    requires following { from ≤ℤ n }
     requires before { n <ℤ to }
     requires start { unsigned_abs from ≤ 2 ^ 20 }
     requires end { unsigned_abs to ≤ 2 ^ 20 }
@@ -62,7 +62,7 @@ fn interpolated(from: i64, to: i64, n: i64, whole: i64) -> i64
 /// A number between two ends, at the same part of the distance between their new numbers.
 #[tactic(auto, unfolding(crate::specs::Locations::Segments::on_segment))]
 fn on_segment(p: AxisValueMap, q: AxisValueMap, n: i64) -> i64
-    requires behind { f2dot14_to_fixed p.from ≤ℤ n }
+    requires following { f2dot14_to_fixed p.from ≤ℤ n }
     requires before { n <ℤ f2dot14_to_fixed q.from }
     ensures value { result ≡ on_segment p q n }
     ensures bound { unsigned_abs result ≤ 2 ^ 19 }
@@ -76,7 +76,7 @@ fn on_segment(p: AxisValueMap, q: AxisValueMap, n: i64) -> i64
 /// The number is between two ends, and isn't the second.
 fn is_on(p: AxisValueMap, q: AxisValueMap, n: i64) -> bool
     ensures value { result ≡ is_on p q n }
-    ensures behind { result ≡ true → f2dot14_to_fixed p.from ≤ℤ n }
+    ensures following { result ≡ true → f2dot14_to_fixed p.from ≤ℤ n }
     ensures before { result ≡ true → n <ℤ f2dot14_to_fixed q.from }
 {
     f2dot14_to_fixed(p.from) <= n && n < f2dot14_to_fixed(q.from)
@@ -99,7 +99,7 @@ pub struct Passed {
     last: AxisValueMap,
 }
 
-/// Whether an end counts behind others: its number is above the greatest so far, and its new number isn't less than that of the last end
+/// Whether an end counts after others: its number is above the greatest so far, and its new number isn't less than that of the last end
 /// that counts.
 fn counts(passed: Passed, q: AxisValueMap) -> bool
     ensures { result ≡ counts passed.top passed.last q }
@@ -190,7 +190,7 @@ pub fn mapped(ends: LazyArray16<'_, AxisValueMap>, n: i64) -> i64
 /// Whether an end counts, and a number is between the last one that does and it.
 fn counts_and_is_on(passed: Passed, q: AxisValueMap, n: i64) -> bool
     ensures value { result ≡ (counts passed.top passed.last q && is_on passed.last q n) }
-    ensures behind { result ≡ true → f2dot14_to_fixed passed.last.from ≤ℤ n }
+    ensures following { result ≡ true → f2dot14_to_fixed passed.last.from ≤ℤ n }
     ensures before { result ≡ true → n <ℤ f2dot14_to_fixed q.from }
 {
     counts(passed, q) && is_on(passed.last, q, n)

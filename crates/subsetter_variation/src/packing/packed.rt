@@ -10,7 +10,7 @@ ghost use Rattle.std.specs.Option.{ok_or, option_copied, option_map};
 ghost use Rattle.std.specs.List.{All};
 ghost use Rattle.subsetter_base.specs.Gives.{Gives};
 ghost use Rattle.subsetter_base.specs.declared.error.Error.TheVariants.{MalformedFont};
-ghost use Rattle.subsetter_variation.specs.Packing.Packed.{word_in, runs, run_in, begun, behind, ended, delta_in, next_delta, deltas_from, deltas, step_in, next_point, points_from, count_in, point_numbers};
+ghost use Rattle.subsetter_variation.specs.Packing.Packed.{word_in, runs, run_in, begun, following, ended, delta_in, next_delta, deltas_from, deltas, step_in, next_point, points_from, count_in, point_numbers};
 ghost use Rattle.subsetter_base.specs.Bytes.{byte};
 
 use std::alloc::Global;
@@ -50,7 +50,7 @@ impl<'a> Model for Run<'a> {
     ghost view = { λ r. record { left = r.left; control = r.control; bytes = r.bytes.now } };
 }
 
-/// The number of the first byte, and the bytes behind it.
+/// The number of the first byte, and the bytes after it.
 #[tactic(auto, unfolding(subsetter_base::specs::Bytes::byte))]
 pub(crate) fn byte_in(bytes: &[u8]) -> Option<(u8, &[u8])>
     ensures { MatchOption result (byte bytes.now ≡ None) (λ r. byte bytes.now ≡ Some (r.0, r.1.now)) }
@@ -61,7 +61,7 @@ pub(crate) fn byte_in(bytes: &[u8]) -> Option<(u8, &[u8])>
     }
 }
 
-/// The number of the first two bytes, and the bytes behind them.
+/// The number of the first two bytes, and the bytes after them.
 pub(crate) fn word_in(bytes: &[u8]) -> Option<(u16, &[u8])>
     ensures { MatchOption result (word_in bytes.now ≡ None) (λ r. word_in bytes.now ≡ Some (r.0, r.1.now)) }
 {
@@ -110,9 +110,9 @@ fn begun<'a>(limit: u8, r: Run<'a>) -> Option<Run<'a>>
     }
 }
 
-/// The run behind one of its numbers.
-fn behind<'a>(r: Run<'a>, bytes: &'a [u8]) -> Run<'a>
-    ensures { result ≡ behind r.entry bytes.now }
+/// The run after one of its numbers.
+fn following<'a>(r: Run<'a>, bytes: &'a [u8]) -> Run<'a>
+    ensures { result ≡ following r.entry bytes.now }
 {
     Run {
         left: r.left.saturating_sub(1),
@@ -127,13 +127,13 @@ fn delta_in<'a>(r: Run<'a>) -> Option<(i16, Run<'a>)>
 {
     if r.control >= DELTAS_ARE_ZERO {
         let rest = r.bytes;
-        Some((0, behind(r, rest)))
+        Some((0, following(r, rest)))
     } else if r.control >= DELTAS_ARE_WORDS {
         let (word, rest) = word_in(r.bytes)?;
-        Some((word.cast_signed(), behind(r, rest)))
+        Some((word.cast_signed(), following(r, rest)))
     } else {
         let (byte, rest) = byte_in(r.bytes)?;
-        Some((i16::from(byte.cast_signed()), behind(r, rest)))
+        Some((i16::from(byte.cast_signed()), following(r, rest)))
     }
 }
 
@@ -151,10 +151,10 @@ fn step_in<'a>(r: Run<'a>) -> Option<(u16, Run<'a>)>
 {
     if r.control >= POINTS_ARE_WORDS {
         let (word, rest) = word_in(r.bytes)?;
-        Some((word, behind(r, rest)))
+        Some((word, following(r, rest)))
     } else {
         let (byte, rest) = byte_in(r.bytes)?;
-        Some((u16::from(byte), behind(r, rest)))
+        Some((u16::from(byte), following(r, rest)))
     }
 }
 
@@ -191,14 +191,14 @@ fn count_in(bytes: &[u8]) -> Option<(u16, &[u8])>
     ))
 }
 
-/// The bytes behind the last run.
+/// The bytes after the last run.
 fn ended<'a>(r: Run<'a>) -> Option<&'a [u8]>
     ensures { option_copied result ≡ ended r.entry }
 {
     if r.left == 0 { Some(r.bytes) } else { None }
 }
 
-/// That many deltas, in the memory of a list that is spare, and the bytes behind them. A cut list, or a run that is longer than it, is
+/// That many deltas, in the memory of a list that is spare, and the bytes after them. A cut list, or a run that is longer than it, is
 /// `MalformedFont`.
 #[tactic(auto, using(crate::proofs::PackingLaws::Runs::deltas_step, crate::proofs::PackingLaws::Runs::deltas_cut, crate::proofs::PackingLaws::Runs::deltas_end), unfolding(crate::specs::Packing::Packed::deltas))]
 pub fn deltas(spare: Vec<i16>, n: usize, bytes: &[u8]) -> Result<(Vec<i16>, &[u8]), Error>
@@ -218,7 +218,7 @@ pub fn deltas(spare: Vec<i16>, n: usize, bytes: &[u8]) -> Result<(Vec<i16>, &[u8
     Ok((list, rest))
 }
 
-/// So many numbers, which ascend and are below the limit, in the memory of a list that is spare, and the bytes behind them.
+/// So many numbers, which ascend and are below the limit, in the memory of a list that is spare, and the bytes after them.
 #[tactic(auto, using(crate::proofs::PackingLaws::Runs::points_step, crate::proofs::PackingLaws::Runs::points_cut, crate::proofs::PackingLaws::Runs::points_end))]
 fn points_from(
     spare: Vec<u32>,
@@ -246,7 +246,7 @@ fn points_from(
     Ok((list, rest))
 }
 
-/// The points that deltas are given for, none for all, in the memory of a list that is spare, and the bytes behind them. A cut list, a
+/// The points that deltas are given for, none for all, in the memory of a list that is spare, and the bytes after them. A cut list, a
 /// run that is longer than it, or a number that is given twice or isn't below the limit is `MalformedFont`.
 #[tactic(auto, unfolding(crate::specs::Packing::Packed::point_numbers))]
 pub fn point_numbers<'a>(

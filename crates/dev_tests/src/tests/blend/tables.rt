@@ -104,7 +104,7 @@ fn font_dicts_are_those_of_the_glyphs(rt: HostRuntime) -> Result<(), Fail> {
         0x0E, 0x0E,
     ];
     assert!(rt; table.ends_with(&texts));
-    // The private dicts, and FDSelect behind them. Of the second -12 12 500 15 with -6 0 11 3: the edges -15, -3, 502.5, 519; 80 with
+    // The private dicts, and FDSelect after them. Of the second -12 12 500 15 with -6 0 11 3: the edges -15, -3, 502.5, 519; 80 with
     // 41: 100.5. Of the third 60 with 9 and -7 by two regions: 64.5; BlueScale is a real, 0.0375.
     let privates = [
         0x81, 0x95, 0xF8, 0x7E, 0x9A, 0x06, 0xDB, 0x0A, 0x7C, 0x97, 0xF8, 0x8E, 0x9B, 0x06, 0xF0,
@@ -136,7 +136,7 @@ fn wrong_private_dicts_are_refused(rt: HostRuntime) -> Result<(), Fail> {
     assert!(rt; write_private_at(rt.alloc(), blend, &store, &mut w).is_ok());
     let refused = write_private_at(rt.alloc(), blend, &None, &mut w);
     assert!(rt; refused.err() == Some(Error::MalformedFont));
-    // A blend with too few operands; a vsindex behind a blend, and one of data that aren't there.
+    // A blend with too few operands; a vsindex after a blend, and one of data that aren't there.
     for dict in [
         [0xBD, 0x8C, 0x17, 0x0B].as_slice(),
         &[0xEF, 0xBD, 0x8C, 0x17, 0x0B, 0x8B, 0x16],

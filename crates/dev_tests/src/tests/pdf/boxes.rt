@@ -4,7 +4,7 @@ use pdf_boxes::kept_box;
 use pdf_values::GlyphBox;
 use std::test::*;
 
-/// A `CFF ` of nine glyphs, each with the width 500. fontTools wrote the first six: an empty one; rcurveline and rlinecurve behind
+/// A `CFF ` of nine glyphs, each with the width 500. fontTools wrote the first six: an empty one; rcurveline and rlinecurve after
 /// a stem; flex and rlineto; hhcurveto and vhcurveto with an odd operand; hlineto; and a curve whose control points lie outside its
 /// ink. Of the others none has a box: a call of a subroutine, a line past 32,767, and no endchar.
 const TABLE: [u8; 161] = [

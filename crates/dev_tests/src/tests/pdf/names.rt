@@ -1,6 +1,6 @@
 //! `pdf_names`: the names of a font made for this at some coordinates, as FreeType gives them; and of long names, by the rule.
 //!
-//! FreeType writes no 0 in front of the point.
+//! FreeType writes no 0 before the point.
 
 mod rows;
 

@@ -3,7 +3,7 @@ use Rattle.std.proofs.lemmas.Int.{to_z-of_z}
 use Rattle.std.proofs.lemmas.Result.{err_from_is_err_and}
 use Rattle.pdf_runs.specs.Words.{groups}
 use Rattle.pdf_operators.specs.Operators.{acts_of}
-use Rattle.pdf_operators.specs.Runs.{acts_behind, are_shown}
+use Rattle.pdf_operators.specs.Runs.{acts_after, are_shown}
 use Rattle.pdf_operators.proofs.RunSteps.{Refuses, end_is, end_refused, part_more, part_refused, parts_ended, shown_more}
 use Rattle.pdf_operators.proofs.runs.operations_of_parts.Goals as goal
 
@@ -38,7 +38,7 @@ returns-in_err-push_end-clause-err c =
 pub returns-clause-ok : goal.returns-clause-ok
 returns-clause-ok c =
     let same : to_z w32 (of_z w32 c.args.end) ≡ c.args.end = search (rules, to_z-of_z) in
-    subst (λ (z : ℤ). acts_of c.push_end.new.operations.items ≡ acts_behind c.args.font c.args.direction z c.args.first (groups c.args.parts.now)) same
+    subst (λ (z : ℤ). acts_of c.push_end.new.operations.items ≡ acts_after c.args.font c.args.direction z c.args.first (groups c.args.parts.now)) same
     (parts_ended c.args.font c.args.direction _ c.args.parts.now c.loop-part.part-index c.loop-part.stop (acts_of c.loop-part.operations.items) (acts_of c.push_end.new.operations.items) _ (omega arith) c.in_ok-push_end.ensures.ok c.loop-part.invariant.acts)
 
 pub returns-clause-valid : goal.returns-clause-valid

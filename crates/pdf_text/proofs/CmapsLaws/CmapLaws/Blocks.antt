@@ -15,7 +15,7 @@ use Rattle.pdf_text.proofs.CmapsLaws.CmapLaws.Tokens.{IsRow, all_tokens, block_t
 
 -- ---- a block
 
--- lines in front of others
+-- lines before others
 abbrev with_front : List Row → Option (List Row) → Option (List Row)
 with_front rs more = option_map (λ ss. rs ++ ss) more
 

@@ -16,7 +16,7 @@ use Rattle.pdf_text.proofs.MetricsLaws.WidthLaws.Text.{AreSmall, AllSmall, entri
 use Rattle.pdf_text.proofs.MetricsLaws.ColumnLaws.Entries.{own_size, spans_are_read}
 use Rattle.pdf_text.proofs.MetricsLaws.ColumnLaws.Text.{IsSmallColumn, AreSmallColumns, AreSmallSpans, columns_read}
 use Rattle.pdf_text.proofs.CmapsLaws.BlockSteps.{twice}
-use Rattle.pdf_text.proofs.Written.{three_behind_nothing}
+use Rattle.pdf_text.proofs.Written.{three_after_nothing}
 
 -- ---- the text
 
@@ -32,7 +32,7 @@ parts_text cs ps = sym (ap (λ (ss : List Span). map span_text ss) (twice part_v
 
 pub all_written : (cs : List Column) (ps : List Part) (empty w1 w2 w3 : List ℕ) → empty ≡ [] → w1 ≡ empty ++ codes "[" → w2 ≡ w1 ++ join_with_byte 32 (map (λ p. span_text (span_of cs (part_view p))) ps) → w3 ≡ w2 ++ codes "]" → w3 ≡ columns_text (map (span_of cs) (parts_view ps))
 all_written cs ps empty w1 w2 w3 n f g h =
-    three_behind_nothing empty (codes "[") (join_with_byte 32 (map span_text (map (span_of cs) (parts_view ps)))) (codes "]") w1 w2 w3 n f
+    three_after_nothing empty (codes "[") (join_with_byte 32 (map span_text (map (span_of cs) (parts_view ps)))) (codes "]") w1 w2 w3 n f
     (g ∙ ap (λ (l : List (List ℕ)). w1 ++ join_with_byte 32 l) (parts_text cs ps)) h
 
 with_room : (d : DefaultColumn) (cs : List Column) (b : Bool) (es lists : List Entry) → leaves_out d cs ≡ b → es ≡ (if b then marked d cs else lists) → lists ≡ lists_from 2729 (length cs) 0 (own_marks 1 cs) → es ≡ column_entries d cs

@@ -13,7 +13,7 @@ use Rattle.pdf_text.specs.declared.metrics.columns.Column.{Column}
 use Rattle.pdf_text.specs.declared.metrics.columns.DefaultColumn.{DefaultColumn}
 use Rattle.pdf_text.specs.Tokens.{tokens, number_in}
 use Rattle.pdf_text.specs.Metrics.Arrays.{spread}
-use Rattle.pdf_text.specs.Metrics.Columns.{Span, listed_columns, same_columns, column_text, span_text, columns_text, integer_in, between_spans, behind_first, behind_last, behind_advance, behind_x, on_list, on_advance, on_x, spans_in, spans_of}
+use Rattle.pdf_text.specs.Metrics.Columns.{Span, listed_columns, same_columns, column_text, span_text, columns_text, integer_in, between_spans, past_first, after_last, after_advance, after_x, on_list, on_advance, on_x, spans_in, spans_of}
 use Rattle.pdf_text.proofs.TokenLaws.Tokens.{IsDark, dark, first_token, digits_dark, decimal_digits, decimal_some, number_read, no_word}
 use Rattle.subsetter_base.proofs.TextLemmas.{spaced, joined}
 
@@ -112,17 +112,17 @@ abbrev list_tokens : List Column → List (List ℕ) → List (List ℕ)
 list_tokens [] ts = codes "]" ∷ ts
 list_tokens (c ∷ cs) ts = column_tokens c (list_tokens cs ts)
 
--- what stands behind a column on a list
-behind_column : (ts : List (List ℕ)) (rest : List ℕ) → (after : List ℕ) × (spread (spaced ts ++ (93 ∷ rest)) ≡ 32 ∷ after)
-behind_column [] rest = (93 ∷ 32 ∷ spread rest, refl)
-behind_column (t ∷ ts) rest = (spread ((t ++ spaced ts) ++ (93 ∷ rest)), refl)
+-- what stands after a column on a list
+after_column : (ts : List (List ℕ)) (rest : List ℕ) → (after : List ℕ) × (spread (spaced ts ++ (93 ∷ rest)) ≡ 32 ∷ after)
+after_column [] rest = (93 ∷ 32 ∷ spread rest, refl)
+after_column (t ∷ ts) rest = (spread ((t ++ spaced ts) ++ (93 ∷ rest)), refl)
 
 spaced_tokens : (cs : List Column) (rest : List ℕ) → AreSmallColumns cs → tokens (spread (spaced (map column_text cs) ++ (93 ∷ rest))) ≡ list_tokens cs (tokens (spread rest))
 spaced_tokens [] rest h = refl
 spaced_tokens (c ∷ cs) rest h =
-    let behind = behind_column (map column_text cs) rest in
+    let following = after_column (map column_text cs) rest in
     ap (λ (t : List ℕ). tokens (spread (32 ∷ t))) (append_assoc (column_text c) (spaced (map column_text cs)) (93 ∷ rest))
-    ∙ tokens_of_column c (spaced (map column_text cs) ++ (93 ∷ rest)) behind.0 h.0 behind.1
+    ∙ tokens_of_column c (spaced (map column_text cs) ++ (93 ∷ rest)) following.0 h.0 following.1
     ∙ ap (λ (ts : List (List ℕ)). column_tokens c ts) (spaced_tokens cs rest h.1)
 
 tokens_of_list : (cs : List Column) (rest : List ℕ) → AreSmallColumns cs → tokens (spread (join_with_byte 32 (map column_text cs) ++ (93 ∷ rest))) ≡ list_tokens cs (tokens (spread rest))
@@ -167,9 +167,9 @@ all_tokens (s ∷ ss) = span_tokens s (all_tokens ss)
 spaced_spans : (ss : List Span) → AreSmallSpans ss → tokens (spread (spaced (map span_text ss) ++ codes "]")) ≡ all_tokens ss
 spaced_spans [] h = refl
 spaced_spans (s ∷ ss) h =
-    let behind = behind_column (map span_text ss) [] in
+    let following = after_column (map span_text ss) [] in
     ap (λ (t : List ℕ). tokens (spread (32 ∷ t))) (append_assoc (span_text s) (spaced (map span_text ss)) (codes "]"))
-    ∙ tokens_of_span s (spaced (map span_text ss) ++ codes "]") behind.0 h.0 behind.1
+    ∙ tokens_of_span s (spaced (map span_text ss) ++ codes "]") following.0 h.0 following.1
     ∙ ap (λ (ts : List (List ℕ)). span_tokens s ts) (spaced_spans ss h.1)
 
 joined_spans : (ss : List Span) → AreSmallSpans ss → tokens (spread (join_with_byte 32 (map span_text ss) ++ codes "]")) ≡ all_tokens ss
@@ -179,13 +179,13 @@ joined_spans (s ∷ ss) h =
 
 -- ---- what is read of them
 
-first_read : (t : List ℕ) (ts : List (List ℕ)) (n : ℕ) → bytes_eq t (codes "]") ≡ false → number_in t ≡ Some n → spans_in between_spans (t ∷ ts) ≡ spans_in (behind_first n) ts
+first_read : (t : List ℕ) (ts : List (List ℕ)) (n : ℕ) → bytes_eq t (codes "]") ≡ false → number_in t ≡ Some n → spans_in between_spans (t ∷ ts) ≡ spans_in (past_first n) ts
 first_read t ts n p q = rw (p, q) refl
 
-last_read : (first : ℕ) (t : List ℕ) (ts : List (List ℕ)) (n : ℕ) → bytes_eq t (codes "[") ≡ false → number_in t ≡ Some n → spans_in (behind_first first) (t ∷ ts) ≡ spans_in (behind_last first n) ts
+last_read : (first : ℕ) (t : List ℕ) (ts : List (List ℕ)) (n : ℕ) → bytes_eq t (codes "[") ≡ false → number_in t ≡ Some n → spans_in (past_first first) (t ∷ ts) ≡ spans_in (after_last first n) ts
 last_read first t ts n p q = rw (p, q) refl
 
-three_read : (first last : ℕ) (t u v : List ℕ) (ts : List (List ℕ)) (c : Column) → integer_in t ≡ Some c.advance → integer_in u ≡ Some c.x → integer_in v ≡ Some c.y → spans_in (behind_last first last) (t ∷ u ∷ v ∷ ts) ≡ option_map (λ ss. same_columns first last c ∷ ss) (spans_in between_spans ts)
+three_read : (first last : ℕ) (t u v : List ℕ) (ts : List (List ℕ)) (c : Column) → integer_in t ≡ Some c.advance → integer_in u ≡ Some c.x → integer_in v ≡ Some c.y → spans_in (after_last first last) (t ∷ u ∷ v ∷ ts) ≡ option_map (λ ss. same_columns first last c ∷ ss) (spans_in between_spans ts)
 three_read first last t u v ts c p q r = rw (p, q, r) refl
 
 member_read : (first : ℕ) (cs : List Column) (t u v : List ℕ) (ts : List (List ℕ)) (c : Column) → bytes_eq t (codes "]") ≡ false → integer_in t ≡ Some c.advance → integer_in u ≡ Some c.x → integer_in v ≡ Some c.y → spans_in (on_list first cs) (t ∷ u ∷ v ∷ ts) ≡ spans_in (on_list first (cs ++ c ∷ [])) ts

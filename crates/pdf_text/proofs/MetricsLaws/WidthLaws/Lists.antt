@@ -10,7 +10,7 @@ use Rattle.pdf_text.specs.Metrics.Arrays.{Entry, each, width_in, entries_from, l
 use Rattle.pdf_text.proofs.MetricsLaws.WidthLaws.Read.{below_or_not, in_each, past_each, taken, entries_are_read}
 use Rattle.pdf_text.proofs.MetricsLaws.WidthLaws.Text.{AreSmall, AllSmall}
 
--- ---- one list, and those behind it
+-- ---- one list, and those after it
 
 pub no_lists : (most n first : ℕ) → lists_from most n first [] ≡ []
 no_lists most zero first = refl
@@ -56,28 +56,28 @@ which most n k e = elim (below_or_not n most) [ inl l ↦ inr (l, omega arith) |
 joined : (old new all es front : List Entry) (e : Entry) → new ≡ old ++ e ∷ [] → front ≡ e ∷ es → old ++ front ≡ all → new ++ es ≡ all
 joined old new all es front e n f a = rw n (append_assoc old (e ∷ []) es) ∙ ap (λ (l : List Entry). old ++ l) (sym f) ∙ a
 
-cut_at : (most first behind : ℕ) (widths : List ℕ) → 0 < most → first < length widths → behind ≡ first + min most (length widths - first)
-    → lists_from most (length widths - first) first (drop first widths) ≡ each first (slice_range widths first behind) ∷ lists_from most (length widths - behind) behind (drop behind widths)
-cut_at most first behind widths p l e =
-    let k = behind - first in
+cut_at : (most first following : ℕ) (widths : List ℕ) → 0 < most → first < length widths → following ≡ first + min most (length widths - first)
+    → lists_from most (length widths - first) first (drop first widths) ≡ each first (slice_range widths first following) ∷ lists_from most (length widths - following) following (drop following widths)
+cut_at most first following widths p l e =
+    let k = following - first in
     let size : length (drop first widths) ≡ length widths - first = length-drop first widths in
-    let left : length (drop first widths) - k ≡ length widths - behind = omega (arith, size) in
-    let next : first + k ≡ behind = omega arith in
+    let left : length (drop first widths) - k ≡ length widths - following = omega (arith, size) in
+    let next : first + k ≡ following = omega arith in
     let is : k ≡ min most (length (drop first widths)) = omega (arith, size) in
     ap (λ (n : ℕ). lists_from most n first (drop first widths)) (sym size)
     ∙ cut_by most first k (drop first widths) p (omega (arith, size)) (which most (length (drop first widths)) k is)
     ∙ same_front first (take k (drop first widths)) (take k (drop first widths)) _ _ refl
     (ap (λ (n : ℕ). lists_from most n (first + k) (drop k (drop first widths))) left
-    ∙ ap (λ (vs : List ℕ). lists_from most (length widths - behind) (first + k) vs) (drop-drop k first widths)
-    ∙ ap (λ (n : ℕ). lists_from most (length widths - behind) n (drop n widths)) next)
+    ∙ ap (λ (vs : List ℕ). lists_from most (length widths - following) (first + k) vs) (drop-drop k first widths)
+    ∙ ap (λ (n : ℕ). lists_from most (length widths - following) n (drop n widths)) next)
 
 -- ---- the loop over widths
 
-pub one_more_list : (most first behind : ℕ) (old new all : List Entry) (widths : List ℕ) → 0 < most → first < length widths → behind ≡ first + min most (length widths - first)
-    → new ≡ old ++ each first (slice_range widths first behind) ∷ []
-    → old ++ lists_from most (length widths - first) first (drop first widths) ≡ all → new ++ lists_from most (length widths - behind) behind (drop behind widths) ≡ all
-one_more_list most first behind old new all widths p l e n a =
-    joined old new all _ _ (each first (slice_range widths first behind)) n (cut_at most first behind widths p l e) a
+pub one_more_list : (most first following : ℕ) (old new all : List Entry) (widths : List ℕ) → 0 < most → first < length widths → following ≡ first + min most (length widths - first)
+    → new ≡ old ++ each first (slice_range widths first following) ∷ []
+    → old ++ lists_from most (length widths - first) first (drop first widths) ≡ all → new ++ lists_from most (length widths - following) following (drop following widths) ≡ all
+one_more_list most first following old new all widths p l e n a =
+    joined old new all _ _ (each first (slice_range widths first following)) n (cut_at most first following widths p l e) a
 
 pub no_widths : (most first : ℕ) (front all : List Entry) (widths : List ℕ) → length widths ≤ first → front ++ lists_from most (length widths - first) first (drop first widths) ≡ all → front ≡ all
 no_widths most first front all widths l a =
@@ -93,7 +93,7 @@ lists_are_read most (suc n) first (w ∷ ws) d j l p m =
     let rest : length (drop most (w ∷ ws)) ≡ suc (length ws) - most = length-drop most (w ∷ ws) in
     elim (below_or_not j most) [
       | inl here ↦ in_each first (take most (w ∷ ws)) (lists_from most n (first + most) (drop most (w ∷ ws))) d j (omega (arith, size)) ∙ taken most (w ∷ ws) d j here
-      | inr behind ↦
+      | inr following ↦
           past_each first (take most (w ∷ ws)) (lists_from most n (first + most) (drop most (w ∷ ws))) d (first + j) (inr (omega (arith, size)))
           ∙ ap (λ k. width_in (lists_from most n (first + most) (drop most (w ∷ ws))) d k) (let e : first + j ≡ (first + most) + (j - most) = omega arith in e)
           ∙ lists_are_read most n (first + most) (drop most (w ∷ ws)) d (j - most) (omega (arith, rest)) p (omega (arith, rest))

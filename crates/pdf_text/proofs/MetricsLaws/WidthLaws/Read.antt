@@ -137,14 +137,14 @@ taken n ws d i l = rw get_or-take refl
 pub taken_size : (n : ℕ) (ws : List ℕ) → n ≤ length ws → length (take n ws) ≡ n
 taken_size n ws l = simp length-take (omega arith)
 
--- behind what opens at a width
+-- after what opens at a width
 module _ (most first d w : ℕ) (ws : List ℕ) (es : List Entry) (before : (k : ℕ) → k < first + 1 → width_in es d k ≡ d) (later : (i : ℕ) → more most d w ws ≤ i → width_in es d ((first + 1) + i) ≡ get_or ws i d) where
-  behind : (i : ℕ) → more most d w ws ≤ i → width_in es d (first + suc i) ≡ get_or ws i d
-  behind i l = let e : first + suc i ≡ (first + 1) + i = omega arith in ap (λ k. width_in es d k) e ∙ later i l
+  following : (i : ℕ) → more most d w ws ≤ i → width_in es d (first + suc i) ≡ get_or ws i d
+  following i l = let e : first + suc i ≡ (first + 1) + i = omega arith in ap (λ k. width_in es d k) e ∙ later i l
 
   at_many : (i : ℕ) → more most d w ws ≡ run w ws → (i < run w ws) ⊎ (run w ws ≤ i) → width_in (same first (first + run w ws) w ∷ es) d (first + suc i) ≡ get_or ws i d
   at_many i m (inl l) = in_same first (first + run w ws) w es d (first + suc i) (omega arith) (omega arith) ∙ sym (run_is w ws d i l)
-  at_many i m (inr l) = past_same first (first + run w ws) w es d (first + suc i) (inr (omega arith)) ∙ behind i (omega arith)
+  at_many i m (inr l) = past_same first (first + run w ws) w es d (first + suc i) (inr (omega arith)) ∙ following i (omega arith)
 
   at_list : (i n : ℕ) → n ≤ length ws → more most d w ws ≡ n → (i < n) ⊎ (n ≤ i) → width_in (each first (w ∷ take n ws) ∷ es) d (first + suc i) ≡ get_or ws i d
   at_list i n size m (inl l) =
@@ -152,11 +152,11 @@ module _ (most first d w : ℕ) (ws : List ℕ) (es : List Entry) (before : (k :
       in_each first (w ∷ take n ws) es d (suc i) (omega arith) ∙ taken n ws d i l
   at_list i n size m (inr l) =
       let e : length (take n ws) ≡ n = taken_size n ws size in
-      past_each first (w ∷ take n ws) es d (first + suc i) (inr (omega arith)) ∙ behind i (omega arith)
+      past_each first (w ∷ take n ws) es d (first + suc i) (inr (omega arith)) ∙ following i (omega arith)
 
   at_opened : (j : ℕ) → Opens most first d w ws → width_in (opened most first d w ws ++ es) d (first + j) ≡ get_or (w ∷ ws) j d
   at_opened zero (none p e m) = rw e (before (first + 0) (omega arith) ∙ sym p)
-  at_opened (suc i) (none p e m) = rw e (behind i (omega arith))
+  at_opened (suc i) (none p e m) = rw e (following i (omega arith))
   at_opened zero (many e m) = rw e (in_same first (first + run w ws) w es d (first + 0) (omega arith) (omega arith))
   at_opened (suc i) (many e m) = rw e (at_many i m (below_or_not i (run w ws)))
   at_opened zero (list e m) = rw e (in_each first (w ∷ take (listed most d ws) ws) es d 0 (omega arith))

@@ -39,17 +39,17 @@ number_token n rest after l e =
 abbrev pub AreSmall : List ℕ → Type 0
 AreSmall ws = All (λ w. w < 2 ^ 64) ws
 
--- what stands behind a number on a list
-behind_number : (ts : List (List ℕ)) (rest : List ℕ) → (after : List ℕ) × (spread (spaced ts ++ (93 ∷ rest)) ≡ 32 ∷ after)
-behind_number [] rest = (93 ∷ 32 ∷ spread rest, refl)
-behind_number (t ∷ ts) rest = (spread ((t ++ spaced ts) ++ (93 ∷ rest)), refl)
+-- what stands after a number on a list
+past_number : (ts : List (List ℕ)) (rest : List ℕ) → (after : List ℕ) × (spread (spaced ts ++ (93 ∷ rest)) ≡ 32 ∷ after)
+past_number [] rest = (93 ∷ 32 ∷ spread rest, refl)
+past_number (t ∷ ts) rest = (spread ((t ++ spaced ts) ++ (93 ∷ rest)), refl)
 
 spaced_tokens : (ws rest : List ℕ) → AreSmall ws → tokens (spread (spaced (map decimal ws) ++ (93 ∷ rest))) ≡ map decimal ws ++ (codes "]" ∷ tokens (spread rest))
 spaced_tokens [] rest h = refl
 spaced_tokens (w ∷ ws) rest h =
-    let behind = behind_number (map decimal ws) rest in
+    let following = past_number (map decimal ws) rest in
     ap (λ (t : List ℕ). tokens (spread (32 ∷ t))) (append_assoc (decimal w) (spaced (map decimal ws)) (93 ∷ rest))
-    ∙ number_token w (spaced (map decimal ws) ++ (93 ∷ rest)) behind.0 (All-head (λ v. v < 2 ^ 64) w ws h) behind.1
+    ∙ number_token w (spaced (map decimal ws) ++ (93 ∷ rest)) following.0 (All-head (λ v. v < 2 ^ 64) w ws h) following.1
     ∙ ap (λ (ts : List (List ℕ)). decimal w ∷ ts) (spaced_tokens ws rest (All-tail (λ v. v < 2 ^ 64) w ws h))
 
 list_tokens : (ws rest : List ℕ) → AreSmall ws → tokens (spread (join_with_byte 32 (map decimal ws) ++ (93 ∷ rest))) ≡ map decimal ws ++ (codes "]" ∷ tokens (spread rest))
@@ -97,9 +97,9 @@ all_tokens (e ∷ es) = tokens_before e (all_tokens es)
 spaced_entries : (es : List Entry) → AllSmall es → tokens (spread (spaced (map entry_text es) ++ codes "]")) ≡ all_tokens es
 spaced_entries [] h = refl
 spaced_entries (e ∷ es) h =
-    let behind = behind_number (map entry_text es) [] in
+    let following = past_number (map entry_text es) [] in
     ap (λ (t : List ℕ). tokens (spread (32 ∷ t))) (append_assoc (entry_text e) (spaced (map entry_text es)) (codes "]"))
-    ∙ entry_tokens e (spaced (map entry_text es) ++ codes "]") behind.0 h.0 behind.1
+    ∙ entry_tokens e (spaced (map entry_text es) ++ codes "]") following.0 h.0 following.1
     ∙ ap (tokens_before e) (spaced_entries es h.1)
 
 joined_entries : (es : List Entry) → AllSmall es → tokens (spread (join_with_byte 32 (map entry_text es) ++ codes "]")) ≡ all_tokens es

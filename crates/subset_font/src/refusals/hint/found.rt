@@ -87,12 +87,12 @@ fn first_reason(
     ensures { result ≡ first_reason error (record { bytes = font.now; index = index; extras = all_extras }) widths asked.now }
 {
     let mut rest = asked;
-    while let [one, behind @ ..] = rest {
+    while let [one, following @ ..] = rest {
         let hint = reason_for(error, font, index, widths, one);
         if hint.is_some() {
             return hint;
         }
-        rest = behind;
+        rest = following;
     }
     None
 }

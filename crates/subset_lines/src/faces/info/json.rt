@@ -50,7 +50,7 @@ fn write_string_or_null<W: Write>(text: Option<&[u8]>, out: &mut W) -> Result<()
     }
 }
 
-/// Writes the object of a table, behind a text.
+/// Writes the object of a table, after a text.
 #[tactic(auto, using(crate::proofs::Written::both))]
 fn write_object<W: Write>(before: &[u8], tag: Tag, size: u32, out: &mut W) -> Result<(), Unwritten>
     ensures { OnOk result (Appends (W.contents out.old) (W.contents out.new) (before.now ++ table_object tag size)) }

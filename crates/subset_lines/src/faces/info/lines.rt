@@ -3,7 +3,7 @@
 ghost use Rattle.std.specs.Prelude.{OnOk, Some, map};
 ghost use Rattle.std.specs.Io.KnownBytes.{Appends};
 ghost use Rattle.std.specs.Option.{option_copied};
-ghost use Rattle.subset_lines.specs.Faces.Info.{line_behind, lines_behind, permission_lines, glyphs_line, counts_lines, if_any, refusal_lines, table_line, table_lines, head_lines, info_lines};
+ghost use Rattle.subset_lines.specs.Faces.Info.{line_after, lines_after, permission_lines, glyphs_line, counts_lines, if_any, refusal_lines, table_line, table_lines, head_lines, info_lines};
 
 use crate::entry::Unwritten;
 use crate::faces::axes::write_tag;
@@ -16,10 +16,10 @@ use std::alloc::Global;
 use std::io::Write;
 use subsetter_base::Tag;
 
-/// Writes words as a line behind a text.
+/// Writes words as a line after a text.
 #[tactic(auto, using(crate::proofs::Written::both))]
-fn write_line_behind<W: Write>(front: &[u8], word: &str, out: &mut W) -> Result<(), Unwritten>
-    ensures { OnOk result (Appends (W.contents out.old) (W.contents out.new) (line_behind front.now word.now)) }
+fn write_line_after<W: Write>(front: &[u8], word: &str, out: &mut W) -> Result<(), Unwritten>
+    ensures { OnOk result (Appends (W.contents out.old) (W.contents out.new) (line_after front.now word.now)) }
 {
     write_text(front, out)?;
     write_text(word.as_bytes(), out)?;
@@ -28,11 +28,11 @@ fn write_line_behind<W: Write>(front: &[u8], word: &str, out: &mut W) -> Result<
 
 /// Writes a line for each.
 #[tactic(auto, using(crate::proofs::Written::at_first, crate::proofs::Written::after_part, crate::proofs::Written::at_last))]
-fn write_lines_behind<W: Write>(front: &[u8], words: &[&str], out: &mut W) -> Result<(), Unwritten>
-    ensures { OnOk result (Appends (W.contents out.old) (W.contents out.new) (lines_behind front.now (map (λ w. w.now) words.now))) }
+fn write_lines_after<W: Write>(front: &[u8], words: &[&str], out: &mut W) -> Result<(), Unwritten>
+    ensures { OnOk result (Appends (W.contents out.old) (W.contents out.new) (lines_after front.now (map (λ w. w.now) words.now))) }
 {
     for word in words {
-        write_line_behind(front, word, out)?;
+        write_line_after(front, word, out)?;
     }
     Ok(())
 }
@@ -41,7 +41,7 @@ fn write_lines_behind<W: Write>(front: &[u8], words: &[&str], out: &mut W) -> Re
 fn write_permissions<W: Write>(words: &[&str], out: &mut W) -> Result<(), Unwritten>
     ensures { OnOk result (Appends (W.contents out.old) (W.contents out.new) (permission_lines (map (λ w. w.now) words.now))) }
 {
-    write_lines_behind(b"permission ", words, out)
+    write_lines_after(b"permission ", words, out)
 }
 
 /// Writes the line of the count of glyphs.
@@ -67,7 +67,7 @@ fn write_counts<W: Write>(faces: u32, bytes: u64, out: &mut W) -> Result<(), Unw
     Ok(())
 }
 
-/// Writes a text as a line behind another, if there is one.
+/// Writes a text as a line after another, if there is one.
 #[tactic(auto, using(crate::proofs::Written::both))]
 fn write_if_any<W: Write>(front: &[u8], text: Option<&[u8]>, out: &mut W) -> Result<(), Unwritten>
     ensures { OnOk result (Appends (W.contents out.old) (W.contents out.new) (if_any front.now (option_copied text.entry))) }

@@ -90,7 +90,7 @@ outlines_afresh hinting find loca glyf w long head le a b c =
     outlines_by hinting find loca glyf (with_adjustment w (head_bytes long head)) (be (format_bytes long)) a b c (head_format w long head le)
     ∙ ap (λ (l : Bool). Some (record { loca = loca; glyf = glyf; head = with_adjustment w (head_bytes long head); long = l; hinting = hinting })) (format_back long)
 
--- four parts behind one, grouped
+-- four parts after one, grouped
 regroup : (A Z M F E : List ℕ) → A ++ Z ++ (M ++ (F ++ E)) ≡ A ++ Z ++ M ++ F ++ E
 regroup A Z M F E = simp append_assoc
 

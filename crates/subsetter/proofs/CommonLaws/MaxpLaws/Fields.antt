@@ -1,4 +1,4 @@
--- The fields of `maxp` behind numGlyphs, where hinting is asked for or not.
+-- The fields of `maxp` after numGlyphs, where hinting is asked for or not.
 use Rattle.std.proofs.Common.{◌≡◌, ℕ, ◌+◌, ◌≤◌, Bool, true, false, cond, List, ◌++◌, length, take, drop, refl, ap, ◌∙◌, append_assoc, arith}
 use Rattle.std.specs.Prelude.{nat_le}
 use Rattle.std.specs.Int.{w16, w32, to_be_bytes}

@@ -16,7 +16,7 @@ use Rattle.subsetter_sfnt.specs.declared.fields.name.NameRecord.{NameRecord}
 use Rattle.subsetter.specs.Common.Name.Read.{Name, NameTable, name_records_in, name_parts, name_table, name_records, name_storage, name_of_record, name_bytes, is_kept_record, is_kept_name, among, with_string, with_strings, string_offset, joined, HasKeptNames, KeepsNames, rewritten, copied}
 use Rattle.subsetter_sfnt.specs.Fields.Name.{string_of}
 use Rattle.subsetter.specs.Common.Name.Plain.{Placed, placed, placed_string, with_name, few_names, subset_names, name_of_table, new_name, name_of}
-use Rattle.subsetter.proofs.CommonLaws.NameLaws.Written.{among-append, place_before, place_behind, place_new}
+use Rattle.subsetter.proofs.CommonLaws.NameLaws.Written.{among-append, place_before, place_after, place_new}
 use Rattle.subsetter.proofs.CommonLaws.NameLaws.Back.{AllBytes, all_bytes, all_drop, all_take, range_found, FitsRecord, fit_records, fits_kept, table_back}
 
 -- ---- steps that answered
@@ -41,7 +41,7 @@ there_now ts s = by (among ts s) refl
     by false t =
         let self = bytes_eq_self s in (
           among-append ts (s ∷ []) s ∙ ap (λ b. b || (bytes_eq s s || false)) t ∙ ap (λ b. b || false) self,
-          place_behind ts (s ∷ []) s t ∙ ap (λ b. length (joined ts) + cond b 0 (length s + 0)) self ∙ omega (arith, place_new ts s t),
+          place_after ts (s ∷ []) s t ∙ ap (λ b. length (joined ts) + cond b 0 (length s + 0)) self ∙ omega (arith, place_new ts s t),
         )
 
 stored_after : (ts more : List (List ℕ)) (s pre bytes : List ℕ) (at : ℕ) → among ts s ≡ true → bytes ≡ pre ++ joined (ts ++ more) → at ≡ length pre + string_offset ts s → range bytes at (length s) ≡ Some s

@@ -10,28 +10,28 @@ use Rattle.subsetter_base.specs.declared.error.Error.TheVariants.{SubsetError}
 use Rattle.subsetter_sfnt.specs.declared.fields.name.NameRecord.{NameRecord}
 use Rattle.subsetter.specs.Common.Name.Read.{NameTable, is_kept_record, with_string, joined, name_bytes}
 use Rattle.subsetter_sfnt.specs.Fields.Name.{name_record_bytes, string_of}
-use Rattle.subsetter.specs.Common.Name.Plain.{Placed, Laid, placed, placed_string, with_name, few_names, subset_names, header_bytes, laid_behind, few_laid, laid_bytes, kept_bytes}
+use Rattle.subsetter.specs.Common.Name.Plain.{Placed, Laid, placed, placed_string, with_name, few_names, subset_names, header_bytes, laid_after, few_laid, laid_bytes, kept_bytes}
 use Rattle.subsetter.proofs.CommonLaws.NameLaws.Back.{length-records}
 
 abbrev laid : List ℕ → List (List ℕ) → Laid
 laid bytes strings = record { bytes = bytes; strings = strings }
 
--- a record behind those that are written, or in front of those that are placed
-record_moved : (front : List ℕ) (r : NameRecord) (at : ℕ) (read : Result Placed Error) → laid_behind (front ++ name_record_bytes (record r { string_offset = at })) read ≡ laid_behind front (read >>= λ p. Ok (with_name r at p))
+-- a record after those that are written, or before those that are placed
+record_moved : (front : List ℕ) (r : NameRecord) (at : ℕ) (read : Result Placed Error) → laid_after (front ++ name_record_bytes (record r { string_offset = at })) read ≡ laid_after front (read >>= λ p. Ok (with_name r at p))
 record_moved front r at (Ok p) = ap (λ (l : List ℕ). done (laid l p.strings)) (append_assoc front (name_record_bytes (record r { string_offset = at })) (flat_map name_record_bytes p.names))
 record_moved front r at (Err e) = refl
 
 -- where the whole is what was written and the rest, it is so after one record more
 pub one_more : (storage front after : List ℕ) (ts us : List (List ℕ)) (r : NameRecord) (rs rest : List NameRecord) (s : List ℕ) (at : ℕ) (total : Result Laid Error)
     → rs ≡ r ∷ rest → is_kept_record r ≡ true → string_of storage r ≡ Some s → placed_string ts s ≡ Ok at → us ≡ with_string ts s → after ≡ front ++ name_record_bytes (record r { string_offset = at })
-    → laid_behind front (placed storage ts (filter is_kept_record rs)) ≡ total → laid_behind after (placed storage us (filter is_kept_record rest)) ≡ total
+    → laid_after front (placed storage ts (filter is_kept_record rs)) ≡ total → laid_after after (placed storage us (filter is_kept_record rest)) ≡ total
 one_more storage front after ts us r rs rest s at total is kept there place strings written h =
     let others = filter is_kept_record rest in
     let first : filter is_kept_record rs ≡ r ∷ others = ap (filter is_kept_record) is ∙ ap (λ b. cond b (r ∷ others) others) kept in
     let found : placed storage ts (r ∷ others) ≡ (placed_string ts s >>= λ n. placed storage (with_string ts s) others >>= λ p. Ok (with_name r n p)) = ap (λ (o : Option (List ℕ)). ok_or o SubsetError >>= λ x. placed_string ts x >>= λ n. placed storage (with_string ts x) others >>= λ p. Ok (with_name r n p)) there in
     let step : placed storage ts (r ∷ others) ≡ (placed storage (with_string ts s) others >>= λ p. Ok (with_name r at p)) = found ∙ ap (λ (x : Result ℕ Error). x >>= λ n. placed storage (with_string ts s) others >>= λ p. Ok (with_name r n p)) place in
-    ap (λ (l : List ℕ). laid_behind l (placed storage us others)) written ∙ ap (λ (l : List (List ℕ)). laid_behind (front ++ name_record_bytes (record r { string_offset = at })) (placed storage l others)) strings
-    ∙ record_moved front r at (placed storage (with_string ts s) others) ∙ sym (ap (laid_behind front) (ap (placed storage ts) first ∙ step)) ∙ h
+    ap (λ (l : List ℕ). laid_after l (placed storage us others)) written ∙ ap (λ (l : List (List ℕ)). laid_after (front ++ name_record_bytes (record r { string_offset = at })) (placed storage l others)) strings
+    ∙ record_moved front r at (placed storage (with_string ts s) others) ∙ sym (ap (laid_after front) (ap (placed storage ts) first ∙ step)) ∙ h
 
 -- ---- the whole table
 
@@ -48,7 +48,7 @@ pub all_written : (t : NameTable) → laid_bytes t ≡ kept_bytes t
 unfolding subset_names header_bytes name_bytes
 all_written t = by (placed t.storage [] (filter is_kept_record t.records))
   where
-    by : (x : Result Placed Error) → (laid_behind [] x >>= few_laid) ≡ table_of (x >>= few_names)
+    by : (x : Result Placed Error) → (laid_after [] x >>= few_laid) ≡ table_of (x >>= few_names)
     by (Ok p) =
         let bytes = flat_map name_record_bytes p.names in
         let long = length-records p.names in

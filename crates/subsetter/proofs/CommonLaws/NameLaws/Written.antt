@@ -44,17 +44,17 @@ place_before (t ∷ ts) us q h = by (bytes_eq q t) (λ k. place_before ts us q k
     by true e k = refl
     by false e k = ap (λ n. length t + n) (e k)
 
--- one that isn't comes behind them
-pub place_behind : (ts us : List (List ℕ)) (q : List ℕ) → among ts q ≡ false → string_offset (ts ++ us) q ≡ length (joined ts) + string_offset us q
-place_behind [] us q h = omega arith
-place_behind (t ∷ ts) us q h = by (bytes_eq q t) (λ k. place_behind ts us q k) h
+-- one that isn't comes after them
+pub place_after : (ts us : List (List ℕ)) (q : List ℕ) → among ts q ≡ false → string_offset (ts ++ us) q ≡ length (joined ts) + string_offset us q
+place_after [] us q h = omega arith
+place_after (t ∷ ts) us q h = by (bytes_eq q t) (λ k. place_after ts us q k) h
   where
     by : (b : Bool) → (among ts q ≡ false → string_offset (ts ++ us) q ≡ length (joined ts) + string_offset us q) → (b || among ts q) ≡ false → cond b 0 (length t + string_offset (ts ++ us) q) ≡ length (joined (t ∷ ts)) + string_offset us q
     by true e k = absurd (false≢true (sym k))
     by false e k = omega (arith, e k, length-append t (joined ts))
 
 pub place_new : (ts : List (List ℕ)) (q : List ℕ) → among ts q ≡ false → string_offset ts q ≡ length (joined ts)
-place_new ts q h = ap (λ l. string_offset l q) (sym (append-nil ts)) ∙ place_behind ts [] q h ∙ omega arith
+place_new ts q h = ap (λ l. string_offset l q) (sym (append-nil ts)) ∙ place_after ts [] q h ∙ omega arith
 
 -- the places after a string was put at the end
 pub places_more : (ts : List (List ℕ)) (s q : List ℕ) (n : ℕ) → among ts s ≡ false → n ≡ length (joined ts)
@@ -71,7 +71,7 @@ places_more ts s q n absent is = by (bytes_eq s q) refl
         let none : among ts q ≡ false = ap (among ts) (sym e) ∙ absent in
         let self : bytes_eq q s ≡ true = ap (λ x. bytes_eq x s) (sym e) ∙ bytes_eq_self s in
         let there : among (ts ++ s ∷ []) q ≡ true = among-append ts (s ∷ []) q ∙ ap (λ b. b || (bytes_eq q s || false)) none ∙ ap (λ b. b || false) self in
-        let at : string_offset (ts ++ s ∷ []) q ≡ length (joined ts) = place_behind ts (s ∷ []) q none ∙ ap (λ b. length (joined ts) + cond b 0 (length s + 0)) self ∙ omega arith in
+        let at : string_offset (ts ++ s ∷ []) q ≡ length (joined ts) = place_after ts (s ∷ []) q none ∙ ap (λ b. length (joined ts) + cond b 0 (length s + 0)) self ∙ omega arith in
         ap Some (is ∙ sym at) ∙ ap (λ b. cond b (Some (string_offset (ts ++ s ∷ []) q)) None) (sym there)
     by false t =
         known (among ts q) refl (eq_turned s q false t refl) ∙ ap (λ b. cond b (Some (string_offset (ts ++ s ∷ []) q)) None) (sym (among-append ts (s ∷ []) q))

@@ -37,24 +37,24 @@ mark_is step all names (x ∷ marks) (suc j) m h e =
     let later = mark_is step all (drop step names) marks j m h.1.1 e in
     (later.0 ∙ drop-drop (step * j) step names ∙ ap (λ n. drop n names) (steps_more step j), later.1)
 
--- the member at a place is the first behind the place
-pub first_behind : (names : List (List ℕ)) (i : ℕ) (x : List ℕ) (rest : List (List ℕ)) → drop i names ≡ x ∷ rest → get_or names i [] ≡ x
-first_behind [] zero x rest e = absurd cc
-first_behind [] (suc i) x rest e = absurd cc
-first_behind (y ∷ names) zero x rest e = ap (λ (l : List (List ℕ)). get_or l 0 []) e
-first_behind (y ∷ names) (suc i) x rest e = first_behind names i x rest e
+-- the member at a place is the first after the place
+pub first_after : (names : List (List ℕ)) (i : ℕ) (x : List ℕ) (rest : List (List ℕ)) → drop i names ≡ x ∷ rest → get_or names i [] ≡ x
+first_after [] zero x rest e = absurd cc
+first_after [] (suc i) x rest e = absurd cc
+first_after (y ∷ names) zero x rest e = ap (λ (l : List (List ℕ)). get_or l 0 []) e
+first_after (y ∷ names) (suc i) x rest e = first_after names i x rest e
 
-pub none_behind : (names : List (List ℕ)) (i : ℕ) → drop i names ≡ [] → get_or names i [] ≡ []
-none_behind [] i e = refl
-none_behind (y ∷ names) zero e = absurd cc
-none_behind (y ∷ names) (suc i) e = none_behind names i e
+pub none_following : (names : List (List ℕ)) (i : ℕ) → drop i names ≡ [] → get_or names i [] ≡ []
+none_following [] i e = refl
+none_following (y ∷ names) zero e = absurd cc
+none_following (y ∷ names) (suc i) e = none_following names i e
 
--- behind the name at a place
-pub behind_first : (bytes : List ℕ) (at len : ℕ) → at < length bytes → len ≡ get_or bytes at 0 → at + 1 + len ≤ length bytes → names_in (drop (at + 1 + len) bytes) ≡ drop 1 (names_in (drop at bytes))
-behind_first bytes at len lt is le =
+-- after the name at a place
+pub past_first : (bytes : List ℕ) (at len : ℕ) → at < length bytes → len ≡ get_or bytes at 0 → at + 1 + len ≤ length bytes → names_in (drop (at + 1 + len) bytes) ≡ drop 1 (names_in (drop at bytes))
+past_first bytes at len lt is le =
     let front : drop at bytes ≡ len ∷ drop (at + 1) bytes = drop_more bytes at 0 lt ∙ ap (λ (x : ℕ). x ∷ drop (at + 1) bytes) (sym is) in
-    let behind : drop len (drop (at + 1) bytes) ≡ drop (at + 1 + len) bytes = drop-drop len (at + 1) bytes in
-    ap names_in (sym behind) ∙ first_gone len (drop (at + 1) bytes) (omega (arith, length-drop (at + 1) bytes)) ∙ ap (λ l. drop 1 (names_in l)) (sym front)
+    let following : drop len (drop (at + 1) bytes) ≡ drop (at + 1 + len) bytes = drop-drop len (at + 1) bytes in
+    ap names_in (sym following) ∙ first_gone len (drop (at + 1) bytes) (omega (arith, length-drop (at + 1) bytes)) ∙ ap (λ l. drop 1 (names_in l)) (sym front)
 
 -- one name more is passed over
 pub passed : (bytes : List ℕ) (start at next n : ℕ) → names_in (drop at bytes) ≡ drop n (names_in (drop start bytes)) → names_in (drop next bytes) ≡ drop 1 (names_in (drop at bytes)) → names_in (drop next bytes) ≡ drop (n + 1) (names_in (drop start bytes))

@@ -14,7 +14,7 @@ use Rattle.subsetter.specs.Common.Post.Marks.{AreMarks, step_of, run_bytes, plac
 use Rattle.subsetter.specs.Common.Post.Plain.{entry_of}
 use Rattle.subsetter.specs.Common.Post.Read.{names_in, pascal_strings, pascal_bytes}
 use Rattle.subsetter.proofs.CommonLaws.PostLaws.Indexes.{first_name}
-use Rattle.subsetter.proofs.CommonLaws.PostLaws.Marks.{behind_first, mark_is}
+use Rattle.subsetter.proofs.CommonLaws.PostLaws.Marks.{past_first, mark_is}
 
 -- ---- one name
 
@@ -38,12 +38,12 @@ is_name bytes at len lt is le =
     record {
       some = omega (arith, ap length names);
       place = omega (arith, size, ap (λ (l : List (List ℕ)). length (get_or l 0 [])) names);
-      behind = behind_first bytes at len lt is le;
+      following = past_first bytes at len lt is le;
     }
 
 -- ---- the names at the front of some bytes
 
--- so many names at the front, and what is behind them
+-- so many names at the front, and what is after them
 record IsFront (all : List ℕ) (k : ℕ) : Type 0 where
   rest : List ℕ
   split : all ≡ run_bytes (names_in all) 0 k ++ rest
@@ -67,8 +67,8 @@ next_front : (all : List ℕ) (k : ℕ) → IsBytes all → IsFront all k → k 
 next_front all k small f lt =
     let names = names_in all in
     let front = run_bytes names 0 k in
-    let behind : f.rest ≡ drop (length front) all = sym (ap (drop (length front)) f.split ∙ drop_at front f.rest (length front) refl) in
-    let bytes : IsBytes f.rest = subst IsBytes (sym behind) (IsBytes-drop (length front) all small) in
+    let following : f.rest ≡ drop (length front) all = sym (ap (drop (length front)) f.split ∙ drop_at front f.rest (length front) refl) in
+    let bytes : IsBytes f.rest = subst IsBytes (sym following) (IsBytes-drop (length front) all small) in
     let first = is_first f.rest bytes (omega (arith, ap length f.left, length-drop k names)) in
     let name = take first.len first.rest in
     let after = drop first.len first.rest in
@@ -85,13 +85,13 @@ next_front all k small f lt =
     gone : (bytes rest : List ℕ) (len : ℕ) → bytes ≡ len ∷ rest → len ≤ length rest → names_in (drop len rest) ≡ drop 1 (names_in bytes)
     gone bytes rest len is le =
         let all : drop (0 + 1 + len) (len ∷ rest) ≡ drop len rest = ap (λ n. drop n (len ∷ rest)) (let e : 0 + 1 + len ≡ suc len = omega arith in e) in
-        sym (ap names_in all) ∙ behind_first (len ∷ rest) 0 len (omega arith) refl (omega arith) ∙ ap (λ (l : List ℕ). drop 1 (names_in l)) (sym is)
+        sym (ap names_in all) ∙ past_first (len ∷ rest) 0 len (omega arith) refl (omega arith) ∙ ap (λ (l : List ℕ). drop 1 (names_in l)) (sym is)
 
 front_of : (all : List ℕ) (k : ℕ) → IsBytes all → k ≤ length (names_in all) → IsFront all k
 front_of all zero small le = record { rest = all; split = refl; left = refl }
 front_of all (suc k) small le = next_front all k small (front_of all k small (omega arith)) (omega arith)
 
--- a run behind another
+-- a run after another
 run_more : (names : List (List ℕ)) (from n : ℕ) → run_bytes names 0 (from + n) ≡ run_bytes names 0 from ++ run_bytes names from n
 run_more names from zero = ap (run_bytes names 0) (let e : from + 0 ≡ from = omega arith in e) ∙ sym (append-nil (run_bytes names 0 from))
 run_more names from (suc n) =
@@ -108,9 +108,9 @@ run_there all from n start end small le s e =
     let front = run_bytes names 0 from in
     let run = run_bytes names from n in
     let whole : all ≡ front ++ (run ++ f.rest) = f.split ∙ ap (λ (l : List ℕ). l ++ f.rest) (run_more names from n) ∙ append_assoc front run f.rest in
-    let behind : drop start all ≡ run ++ f.rest = ap (drop start) whole ∙ drop_at front (run ++ f.rest) start (sym s) in
+    let following : drop start all ≡ run ++ f.rest = ap (drop start) whole ∙ drop_at front (run ++ f.rest) start (sym s) in
     let size : length run ≡ end - start = omega (arith, s, e, ap length (run_more names from n), length-append front run) in
-    ap (take (end - start)) behind ∙ take_at run f.rest (end - start) size
+    ap (take (end - start)) following ∙ take_at run f.rest (end - start) size
 
 -- ---- marks
 
@@ -214,6 +214,6 @@ next_written names indexes i index before next total lt is e so_far =
     let here : flat_map (entry_of names) (drop i indexes) ≡ entry_of names index ++ rest = ap (flat_map (entry_of names)) (drop_more indexes i 0 lt ∙ ap (λ (x : ℕ). x ∷ drop (i + 1) indexes) (sym is)) ∙ flat_map-cons (entry_of names) index (drop (i + 1) indexes) in
     ap (λ (l : List ℕ). l ++ rest) e ∙ append_assoc before (entry_of names index) rest ∙ ap (λ (l : List ℕ). before ++ l) (sym here) ∙ so_far
 
--- behind the last index
+-- after the last index
 pub all_written : (names : List (List ℕ)) (indexes : List ℕ) (i : ℕ) (before after total : List ℕ) → length indexes ≤ i → after ≡ before → before ++ flat_map (entry_of names) (drop i indexes) ≡ total → after ≡ total
 all_written names indexes i before after total le e so_far = e ∙ sym (append-nil before) ∙ ap (λ (l : List ℕ). before ++ flat_map (entry_of names) l) (sym (drop_all i indexes le)) ∙ so_far

@@ -1,4 +1,4 @@
--- Names of one length behind each other.
+-- Names of one length after each other.
 use Rattle.std.proofs.Common.{◌≡◌, ℕ, zero, suc, ◌+◌, ◌*◌, ◌<◌, ◌≤◌, List, [], ◌∷◌, length, take, drop, cond, sym, ap, ◌∙◌, arith}
 use Rattle.std.specs.Prelude.{get_or}
 use Rattle.std.proofs.lemmas.Bool.{le-leb}
@@ -16,14 +16,14 @@ within zero k step lt = absurd (omega arith)
 within (suc n) zero step lt = omega arith
 within (suc n) (suc k) step lt = omega (arith, within n k step (omega arith))
 
--- behind one more name of a length, where k such names stand before
+-- after one more name of a length, where k such names stand before
 pub one_more_alike : (bytes : List ℕ) (len step k : ℕ) → step ≡ len + 1 → 8 * step ≤ length bytes → k < 8 → get_or bytes (k * step) 0 ≡ len → names_in (drop (k * step) bytes) ≡ drop k (names_in bytes) → names_in (drop ((k + 1) * step) bytes) ≡ drop (k + 1) (names_in bytes)
 one_more_alike bytes len step k is room lt here before =
     let at = k * step in
     let below : at + step ≤ 8 * step = within 8 k step lt in
     let front : drop at bytes ≡ len ∷ drop (at + 1) bytes = drop_more bytes at 0 (omega (arith, below, room, is)) ∙ ap (λ (x : ℕ). x ∷ drop (at + 1) bytes) here in
-    let behind : drop len (drop (at + 1) bytes) ≡ drop ((k + 1) * step) bytes = drop-drop len (at + 1) bytes ∙ ap (λ (n : ℕ). drop n bytes) (sum k step len is) in
-    ap names_in (sym behind) ∙ first_gone len (drop (at + 1) bytes) (omega (arith, length-drop (at + 1) bytes, below, room, is)) ∙ ap (λ l. drop 1 (names_in l)) (sym front) ∙ ap (drop 1) before ∙ drop-drop 1 k (names_in bytes)
+    let following : drop len (drop (at + 1) bytes) ≡ drop ((k + 1) * step) bytes = drop-drop len (at + 1) bytes ∙ ap (λ (n : ℕ). drop n bytes) (sum k step len is) in
+    ap names_in (sym following) ∙ first_gone len (drop (at + 1) bytes) (omega (arith, length-drop (at + 1) bytes, below, room, is)) ∙ ap (λ l. drop 1 (names_in l)) (sym front) ∙ ap (drop 1) before ∙ drop-drop 1 k (names_in bytes)
   where
     sum : (k step len : ℕ) → step ≡ len + 1 → k * step + 1 + len ≡ (k + 1) * step
     sum k step len is = grind arith

@@ -33,6 +33,6 @@ stays_bare bytes le within h =
     let none : at + 2 + 0 ≡ at + 2 = omega arith in
     let c : from_offset bytes (at + 2 + 0) ≡ Some (drop (at + 2) bytes) = ap (from_offset bytes) none ∙ ap (λ q. cond q (Some (drop (at + 2) bytes)) None) (le-leb (at + 2) (length bytes) within) in
     sym (ap (λ (o : Option ℕ). unwrap_or (option_and_then (λ n. bare_at bytes (10 + 2 * n)) o) bytes) a
-    ∙ ap (λ (o : Option ℕ). unwrap_or (option_and_then (λ size. option_and_then (λ behind. just (take at bytes ++ 0 ∷ 0 ∷ behind)) (from_offset bytes (at + 2 + size))) o) bytes) b
-    ∙ ap (λ (o : Option (List ℕ)). unwrap_or (option_and_then (λ behind. just (take at bytes ++ 0 ∷ 0 ∷ behind)) o) bytes) c
+    ∙ ap (λ (o : Option ℕ). unwrap_or (option_and_then (λ size. option_and_then (λ following. just (take at bytes ++ 0 ∷ 0 ∷ following)) (from_offset bytes (at + 2 + size))) o) bytes) b
+    ∙ ap (λ (o : Option (List ℕ)). unwrap_or (option_and_then (λ following. just (take at bytes ++ 0 ∷ 0 ∷ following)) o) bytes) c
     ∙ same bytes at within h)

@@ -41,18 +41,18 @@ finds : (bytes : List ℕ) (contours size : ℕ) → number bytes 0 2 ≡ Some c
     → bare_found bytes ≡ Some (take (10 + 2 * contours) bytes ++ 0 ∷ 0 ∷ drop (10 + 2 * contours + 2 + size) bytes)
 finds bytes contours size e f le =
     let at = 10 + 2 * contours in
-    let behind : from_offset bytes (at + 2 + size) ≡ Some (drop (at + 2 + size) bytes) = ap (λ q. cond q (Some (drop (at + 2 + size) bytes)) None) (le-leb (at + 2 + size) (length bytes) le) in
+    let following : from_offset bytes (at + 2 + size) ≡ Some (drop (at + 2 + size) bytes) = ap (λ q. cond q (Some (drop (at + 2 + size) bytes)) None) (le-leb (at + 2 + size) (length bytes) le) in
     ap (λ (o : Option ℕ). option_and_then (λ n. bare_at bytes (10 + 2 * n)) o) e
     ∙ ap (λ (o : Option ℕ). option_and_then (λ n. option_and_then (λ l. just (take at bytes ++ 0 ∷ 0 ∷ l)) (from_offset bytes (at + 2 + n))) o) f
-    ∙ ap (λ (o : Option (List ℕ)). option_and_then (λ l. just (take at bytes ++ 0 ∷ 0 ∷ l)) o) behind
+    ∙ ap (λ (o : Option (List ℕ)). option_and_then (λ l. just (take at bytes ++ 0 ∷ 0 ∷ l)) o) following
 
 module _ (a b : ℕ) (rest pad : List ℕ) (one : length pad ≤ 1) where
   abbrev whole : List ℕ
   whole = a ∷ b ∷ rest
 
-  -- where nothing is found, the outline is as it was, and nothing stands behind its instructions
-  none_behind : bare_found whole ≡ None → IsBareSimple (whole ++ pad)
-  none_behind none contours size e f lt =
+  -- where nothing is found, the outline is as it was, and nothing stands after its instructions
+  none_following : bare_found whole ≡ None → IsBareSimple (whole ++ pad)
+  none_following none contours size e f lt =
       let len = length-append whole pad in
       let first : number whole 0 2 ≡ Some contours = sym (number-left whole pad 0 2 (omega arith)) ∙ e in
       let second : number whole (10 + 2 * contours) 2 ≡ Some size = sym (number-left whole pad (10 + 2 * contours) 2 (omega (arith, len, lt, one))) ∙ f in
@@ -63,8 +63,8 @@ module _ (a b : ℕ) (rest pad : List ℕ) (one : length pad ≤ 1) where
   none_left bytes found contours size e f lt =
       let k = bind_some (number whole 0 2) (λ n. bare_at whole (10 + 2 * n)) bytes found in
       let at = 10 + 2 * k.0 in
-      let l = bind_some (number whole at 2) (λ n. option_and_then (λ behind. just (take at whole ++ 0 ∷ 0 ∷ behind)) (from_offset whole (at + 2 + n))) bytes k.2 in
-      let m = bind_some (from_offset whole (at + 2 + l.0)) (λ behind. just (take at whole ++ 0 ∷ 0 ∷ behind)) bytes l.2 in
+      let l = bind_some (number whole at 2) (λ n. option_and_then (λ following. just (take at whole ++ 0 ∷ 0 ∷ following)) (from_offset whole (at + 2 + n))) bytes k.2 in
+      let m = bind_some (from_offset whole (at + 2 + l.0)) (λ following. just (take at whole ++ 0 ∷ 0 ∷ following)) bytes l.2 in
       let is : take at whole ++ 0 ∷ 0 ∷ m.0 ≡ bytes = just_is (take at whole ++ 0 ∷ 0 ∷ m.0) bytes m.2 in
       let within : at + 2 ≤ length whole = number-fits whole at 2 l.0 l.1 in
       let wide : length (take at whole) ≡ at = length-take-le at whole (omega (arith, within)) in
@@ -82,7 +82,7 @@ module _ (a b : ℕ) (rest pad : List ℕ) (one : length pad ≤ 1) where
   bare_found_has = by (bare_found whole) refl
     where
       by : (o : Option (List ℕ)) → bare_found whole ≡ o → IsBareSimple (unwrap_or o whole ++ pad)
-      by None e = none_behind e
+      by None e = none_following e
       by (Some bytes) e = none_left bytes e
 
 bare_has : (long : Bool) (a b : ℕ) (rest : List ℕ) → IsBareSimple (padded long (bare_simple (a ∷ b ∷ rest)))

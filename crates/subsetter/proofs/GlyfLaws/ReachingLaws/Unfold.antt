@@ -154,8 +154,8 @@ bare_begins a b rest = by (bare_found (a ∷ b ∷ rest)) refl
     by (Some whole) e =
         let k = bind_some (number (a ∷ b ∷ rest) 0 2) (λ contours. bare_at (a ∷ b ∷ rest) (10 + 2 * contours)) whole e in
         let at = 10 + 2 * k.0 in
-        let l = bind_some (number (a ∷ b ∷ rest) at 2) (λ size. option_and_then (λ behind. just (take at (a ∷ b ∷ rest) ++ 0 ∷ 0 ∷ behind)) (from_offset (a ∷ b ∷ rest) (at + 2 + size))) whole k.2 in
-        let m = bind_some (from_offset (a ∷ b ∷ rest) (at + 2 + l.0)) (λ behind. just (take at (a ∷ b ∷ rest) ++ 0 ∷ 0 ∷ behind)) whole l.2 in
+        let l = bind_some (number (a ∷ b ∷ rest) at 2) (λ size. option_and_then (λ following. just (take at (a ∷ b ∷ rest) ++ 0 ∷ 0 ∷ following)) (from_offset (a ∷ b ∷ rest) (at + 2 + size))) whole k.2 in
+        let m = bind_some (from_offset (a ∷ b ∷ rest) (at + 2 + l.0)) (λ following. just (take at (a ∷ b ∷ rest) ++ 0 ∷ 0 ∷ following)) whole l.2 in
         let same : take at (a ∷ b ∷ rest) ++ 0 ∷ 0 ∷ m.0 ≡ whole = just_is (take at (a ∷ b ∷ rest) ++ 0 ∷ 0 ∷ m.0) whole m.2 in
         (take (8 + 2 * k.0) rest ++ 0 ∷ 0 ∷ m.0, sym same ∙ ap (λ (l : List ℕ). l ++ 0 ∷ 0 ∷ m.0) (front k.0))
 

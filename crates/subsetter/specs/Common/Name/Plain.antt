@@ -21,7 +21,7 @@ placed_string strings s = if nat_lt (string_offset strings s) 65536 then Ok (str
 abbrev pub with_name : NameRecord → ℕ → Placed → Placed
 with_name r at p = record { names = record r { string_offset = at } ∷ p.names; strings = p.strings }
 
--- the records, their strings being stored behind others
+-- the records, their strings being stored after others
 abbrev pub placed : List ℕ → List (List ℕ) → List NameRecord → Result Placed Error
 placed storage strings [] = Ok (record { names = []; strings = strings })
 placed storage strings (r ∷ rs) = do
@@ -34,14 +34,14 @@ placed storage strings (r ∷ rs) = do
 unfoldable pub header_bytes : ℕ → List ℕ
 header_bytes count = to_be_bytes w16 0 ++ to_be_bytes w16 count ++ to_be_bytes w16 (6 + 12 * count)
 
--- the bytes of records, and the strings that stand behind them
+-- the bytes of records, and the strings that stand after them
 pub record Laid : Type 0 where
   pub bytes : List ℕ
   pub strings : List (List ℕ)
 
--- placed records behind other bytes
-abbrev pub laid_behind : List ℕ → Result Placed Error → Result Laid Error
-laid_behind front read = read >>= λ p. Ok (record { bytes = front ++ flat_map name_record_bytes p.names; strings = p.strings })
+-- placed records after other bytes
+abbrev pub laid_after : List ℕ → Result Placed Error → Result Laid Error
+laid_after front read = read >>= λ p. Ok (record { bytes = front ++ flat_map name_record_bytes p.names; strings = p.strings })
 
 -- a table of at most 5460 records, which have twelve bytes each
 abbrev pub few_laid : Laid → Result (List ℕ) Error
@@ -51,9 +51,9 @@ few_laid l = if nat_le (length l.bytes) 65520 then Ok (header_bytes (length l.by
 abbrev pub few_names : Placed → Result NameTable Error
 few_names p = if nat_le (length p.names) 5460 then Ok (record { records = p.names; storage = joined p.strings }) else Err SubsetError
 
--- the bytes of the kept records, with their strings behind them
+-- the bytes of the kept records, with their strings after them
 abbrev pub laid_bytes : NameTable → Result (List ℕ) Error
-laid_bytes t = laid_behind [] (placed t.storage [] (filter is_kept_record t.records)) >>= few_laid
+laid_bytes t = laid_after [] (placed t.storage [] (filter is_kept_record t.records)) >>= few_laid
 
 unfoldable pub subset_names : NameTable → Result NameTable Error
 subset_names t = do

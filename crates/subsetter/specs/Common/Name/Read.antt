@@ -84,7 +84,7 @@ with_strings ts (s ∷ ss) = with_strings (with_string ts s) ss
 abbrev pub distinct : List (List ℕ) → List (List ℕ)
 distinct ss = with_strings [] ss
 
--- where a string begins among strings that stand one after another; behind them all where it isn't one of them
+-- where a string begins among strings that stand one after another; after them all where it isn't one of them
 abbrev pub string_offset : List (List ℕ) → List ℕ → ℕ
 string_offset [] s = 0
 string_offset (t ∷ ts) s = if bytes_eq s t then 0 else length t + string_offset ts s

@@ -11,7 +11,7 @@ abbrev pub AreMarks : ℕ → List ℕ → List (List ℕ) → List ℕ → Type
 AreMarks step all names [] = Unit {0}
 AreMarks step all names (m ∷ marks) = (names_in (drop m all) ≡ names) × ((m ≤ length all) × AreMarks step all (drop step names) marks)
 
--- so many names from a number on, each behind its length byte, an empty one where none is there
+-- so many names from a number on, each after its length byte, an empty one where none is there
 abbrev pub run_bytes : List (List ℕ) → ℕ → ℕ → List ℕ
 run_bytes names from zero = []
 run_bytes names from (suc n) = run_bytes names from n ++ pascal_bytes (get_or names (from + n) [])
@@ -28,4 +28,4 @@ ArePlaces names marks = (k : ℕ) → k < length marks → k ≤ length names �
 pub record IsName (bytes : List ℕ) (at end : ℕ) : Type 0 where
   pub some : 1 ≤ length (names_in (drop at bytes))
   pub place : end ≡ at + length (pascal_bytes (get_or (names_in (drop at bytes)) 0 []))
-  pub behind : names_in (drop end bytes) ≡ drop 1 (names_in (drop at bytes))
+  pub following : names_in (drop end bytes) ≡ drop 1 (names_in (drop at bytes))

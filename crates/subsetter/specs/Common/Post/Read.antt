@@ -22,7 +22,7 @@ pascal_strings (suc n) (len ∷ bytes) = if nat_le len (length bytes) then take 
 abbrev pub names_in : List ℕ → List (List ℕ)
 names_in bytes = pascal_strings (length bytes) bytes
 
--- the header, an index of two bytes for each glyph, and the names that stand behind
+-- the header, an index of two bytes for each glyph, and the names that stand after
 pub record PostTable : Type 0 where
   pub header : List ℕ
   pub indexes : Items

@@ -7,14 +7,14 @@ use Rattle.subsetter_sfnt.specs.Read.{Font}
 use Rattle.subsetter.specs.Glyf.Read.{outline}
 use Rattle.subsetter.specs.Glyf.Parts.{Component, Chain, Parts, Empty, Simple, Composite, outline_parts}
 
--- the bytes before a place, the length 0, and what stands behind the instructions whose length stands at that place
+-- the bytes before a place, the length 0, and what stands after the instructions whose length stands at that place
 abbrev pub bare_at : List ℕ → ℕ → Option (List ℕ)
 bare_at bytes at = do
   size ← number bytes at 2
-  behind ← from_offset bytes (at + 2 + size)
-  Some (take at bytes ++ 0 ∷ 0 ∷ behind)
+  following ← from_offset bytes (at + 2 + size)
+  Some (take at bytes ++ 0 ∷ 0 ∷ following)
 
--- a simple outline: its number of contours stands at its start, and the length of its instructions behind ten bytes of head and two for each contour
+-- a simple outline: its number of contours stands at its start, and the length of its instructions after ten bytes of head and two for each contour
 abbrev pub bare_found : List ℕ → Option (List ℕ)
 bare_found bytes = do
   contours ← number bytes 0 2
@@ -37,7 +37,7 @@ requested_flags false flags = bit_and flags 0xFEFF
 abbrev pub requested_component : Bool → Component → Component
 requested_component hinting c = record { flags = requested_flags hinting c.flags; glyph = c.glyph; rest = c.rest }
 
--- the bytes behind the last component are instructions
+-- the bytes after the last component are instructions
 abbrev pub requested_tail : Bool → List ℕ → List ℕ
 requested_tail true tail = tail
 requested_tail false tail = []

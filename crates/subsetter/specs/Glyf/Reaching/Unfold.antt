@@ -6,7 +6,7 @@ use Rattle.subsetter.specs.Glyf.Read.{Outlines, outlines}
 use Rattle.subsetter.specs.Glyf.Parts.{Component, Parts, Empty, Simple, Composite}
 use Rattle.subsetter.specs.Glyf.BareOutlines.Bare.{glyph_parts}
 
--- in the short format of loca an outline has even length: one zero byte goes behind an odd one
+-- in the short format of loca an outline has even length: one zero byte goes after an odd one
 abbrev pub padded : Bool → List ℕ → List ℕ
 padded long bytes = if long then bytes else aligned 2 bytes
 

@@ -15,7 +15,7 @@ use subsetter_base::Error;
 use subsetter_base::fields::byte_in;
 use subsetter_base::read::between_offsets;
 
-/// The place behind the name at a place, if one is there.
+/// The place after the name at a place, if one is there.
 fn name_end(bytes: &[u8], at: usize) -> Option<usize>
     ensures there { IfSome result (λ end. IsName bytes.now at end) }
     ensures within { IfSome result (λ end. end ≤ length bytes.now) }
@@ -32,8 +32,8 @@ fn name_end(bytes: &[u8], at: usize) -> Option<usize>
     Some(end)
 }
 
-/// The place behind the name at a place; the end of the bytes where no name is there.
-fn behind_name(bytes: &[u8], at: usize) -> usize
+/// The place after the name at a place; the end of the bytes where no name is there.
+fn past_name(bytes: &[u8], at: usize) -> usize
     ensures names { names_in (drop result bytes.now) ≡ drop 1 (names_in (drop at bytes.now)) }
     ensures within { result ≤ length bytes.now }
     ensures place { 1 ≤ length (names_in (drop at bytes.now)) → IsName bytes.now at result }
@@ -44,7 +44,7 @@ fn behind_name(bytes: &[u8], at: usize) -> usize
     }
 }
 
-/// The place behind so many names from a place on.
+/// The place after so many names from a place on.
 fn pass(bytes: &[u8], start: usize, count: usize) -> usize
     requires { start ≤ length bytes.now }
     ensures names { names_in (drop result bytes.now) ≡ drop count (names_in (drop start bytes.now)) }
@@ -52,7 +52,7 @@ fn pass(bytes: &[u8], start: usize, count: usize) -> usize
 {
     let mut at = start;
     for _ in 0..count {
-        at = behind_name(bytes, at);
+        at = past_name(bytes, at);
     }
     at
 }
@@ -82,7 +82,7 @@ fn alike_len(bytes: &[u8], count: usize, len: u8) -> Option<usize>
     }
 }
 
-/// The length byte at a place, 0 behind the last one.
+/// The length byte at a place, 0 after the last one.
 fn length_byte(bytes: &[u8], at: usize) -> u8 {
     match byte_in(Some(bytes), at) {
         Some(len) => len,
@@ -90,7 +90,7 @@ fn length_byte(bytes: &[u8], at: usize) -> u8 {
     }
 }
 
-/// The place behind so many names from a place on, found soon where eight names are alike.
+/// The place after so many names from a place on, found soon where eight names are alike.
 fn skip(bytes: &[u8], at: usize, count: usize) -> usize
     requires { at ≤ length bytes.now }
     ensures names { names_in (drop result bytes.now) ≡ drop count (names_in (drop at bytes.now)) }
@@ -108,7 +108,7 @@ fn skip(bytes: &[u8], at: usize, count: usize) -> usize
     }
 }
 
-/// The place behind eight names from a place on, and a guess of the length of those that follow.
+/// The place after eight names from a place on, and a guess of the length of those that follow.
 ///
 /// Names in a row often have one length. It is taken from the names before and not read here, so that the place of the
 /// next names waits for no byte.
@@ -126,7 +126,7 @@ fn skip_eight(bytes: &[u8], at: usize, len: u8) -> (usize, u8)
     }
 }
 
-/// The place behind one name from a place on, or behind eight, and a guess of the length of those that follow.
+/// The place after one name from a place on, or after eight, and a guess of the length of those that follow.
 fn skip_step(bytes: &[u8], at: usize, len: u8, is_dense: bool) -> (usize, u8)
     requires { at ≤ length bytes.now }
     ensures names { names_in (drop result.0 bytes.now) ≡ drop (step_of is_dense) (names_in (drop at bytes.now)) }
@@ -134,7 +134,7 @@ fn skip_step(bytes: &[u8], at: usize, len: u8, is_dense: bool) -> (usize, u8)
     ensures place { is_dense ≡ true → 1 ≤ length (names_in (drop at bytes.now)) → IsName bytes.now at result.0 }
 {
     if is_dense {
-        (behind_name(bytes, at), len)
+        (past_name(bytes, at), len)
     } else {
         skip_eight(bytes, at, len)
     }
@@ -151,7 +151,7 @@ fn mark_of(is_dense: bool, number: usize) -> (usize, usize)
     }
 }
 
-/// The first name of some bytes, behind its length byte; an empty one where no name is there.
+/// The first name of some bytes, after its length byte; an empty one where no name is there.
 #[tactic(auto, using(crate::proofs::CommonLaws::PostLaws::Entries::entry_there, crate::proofs::CommonLaws::PostLaws::Entries::entry_cut))]
 fn first_entry(bytes: &[u8]) -> &[u8]
     ensures { result.now ≡ pascal_bytes (get_or (names_in bytes.now) 0 []) }
@@ -182,7 +182,7 @@ fn mark_in(marks: &[u32], place: usize) -> Option<usize>
     Some(*mark as usize)
 }
 
-/// So many names from a number on, each behind its length byte, where every offset is kept and all are there.
+/// So many names from a number on, each after its length byte, where every offset is kept and all are there.
 fn run_in<'a>(
     all: &'a [u8],
     marks: &[u32],
@@ -214,7 +214,7 @@ struct Mark<'a> {
     count: usize,
 }
 
-/// Names by their numbers. They stand one behind another, so the places of some are kept.
+/// Names by their numbers. They stand one after another, so the places of some are kept.
 #[derive(Drop)]
 pub(crate) struct NameList<'a> {
     all: &'a [u8],
@@ -287,7 +287,7 @@ impl<'a> NameList<'a> {
         }
     }
 
-    /// The name with a number behind its length byte, an empty one where none is there.
+    /// The name with a number after its length byte, an empty one where none is there.
     pub(crate) fn entry(&self, number: usize) -> &'a [u8]
         ensures { result.now ≡ pascal_bytes (get_or self.now number []) }
     {
@@ -296,7 +296,7 @@ impl<'a> NameList<'a> {
         first_entry(&bytes[at..])
     }
 
-    /// So many names from a number on, each behind its length byte, where every offset is kept and all are there.
+    /// So many names from a number on, each after its length byte, where every offset is kept and all are there.
     pub(crate) fn entries(&self, from: usize, count: usize) -> Option<&'a [u8]>
         requires { from + count < 2 ^ 64 }
         ensures { IfSome result (λ run. run.now ≡ run_bytes self.now from count) }
@@ -317,7 +317,7 @@ impl<'a> NameList<'a> {
         if !self.is_dense {
             return self.entry(number).len();
         }
-        let behind = self.mark(number.saturating_add(1));
-        behind.saturating_sub(self.mark(number))
+        let following = self.mark(number.saturating_add(1));
+        following.saturating_sub(self.mark(number))
     }
 }

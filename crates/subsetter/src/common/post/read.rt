@@ -16,7 +16,7 @@ use subsetter_base::read::{LazyArray16, Reader};
 use subsetter_base::{Error, GlyphRemapper};
 use subsetter_sfnt::fields::post::{HEADER_SIZE, VERSION_2_0, version};
 
-/// Names, each behind its length byte. An empty name is a name; a cut one ends them.
+/// Names, each after its length byte. An empty name is a name; a cut one ends them.
 #[derive(Drop)]
 pub struct Names<'a> {
     rest: &'a [u8],

@@ -98,7 +98,7 @@ plays_more stems mask_len stems_next mask_next stems_then mask_then e es few fit
       ∙ ap (λ (l : List type2.Event). type2.run library depth m l (one y (at stems_then mask_then []))) (append_assoc said (e ∷ []) es);
 }
 
--- a width in front of the operands of stems counts no stem
+-- a width before the operands of stems counts no stem
 half_same : (w n : ℕ) → w ≤ 1 → n % 2 ≡ 0 → (w + n) / 2 ≡ n / 2
 half_same w n h e = omega arith
 
@@ -156,22 +156,22 @@ last_act r next e x stems pen i loud c ink library y =
     subst (λ (v : type2.Event). type2.act_at library (operator_of v.operator ++ (v.mask ++ y)) (at stems r.mask_len i.event.operands) ≡ type2.Does (Some v) (at next.stems next.mask_len []) (type2.On y)) (sym event) (loud.again library y stems i.event.operands counted)
 
 -- one that others follow
-abbrev stems_behind : Bool → ℕ → ℕ → ℕ
-stems_behind true stems n = stems + n / 2
-stems_behind false stems n = stems
+abbrev stems_past : Bool → ℕ → ℕ → ℕ
+stems_past true stems n = stems + n / 2
+stems_past false stems n = stems
 
 front_event : (operator : Operator) (numbers : List CharStringNumber) (hint : Bool) (stems mask_len : ℕ) → effect_of operator ≡ hint_effect hint → (hint ≡ true → stems + length numbers / 2 ≤ 65535)
-    → (library : type2.Library) (y : List ℕ) → type2.act_at library (operator_of operator ++ ([] ++ y)) (at stems mask_len numbers) ≡ type2.Does (Some (record { operator = operator; operands = numbers; mask = [] })) (at (stems_behind hint stems (length numbers)) mask_len []) (type2.On y)
+    → (library : type2.Library) (y : List ℕ) → type2.act_at library (operator_of operator ++ ([] ++ y)) (at stems mask_len numbers) ≡ type2.Does (Some (record { operator = operator; operands = numbers; mask = [] })) (at (stems_past hint stems (length numbers)) mask_len []) (type2.On y)
 front_event operator numbers true stems mask_len e few library y =
     act_operator library operator effect.CountsStems y (at stems mask_len numbers) e
     ∙ stems_done operator y numbers stems mask_len (stems + length numbers / 2) refl (le-leb (stems + length numbers / 2) 65535 (few refl))
 front_event operator numbers false stems mask_len e few library y = act_operator library operator effect.Draws y (at stems mask_len numbers) e
 
 front_act : (x : Event) (hint : Bool) (stems mask_len : ℕ) (pen : Pen) (i : Inked) → IsInk x pen i → x.mask ≡ [] → effect_of x.operator ≡ hint_effect hint → (hint ≡ true → stems + length i.event.operands / 2 ≤ 65535)
-    → (library : type2.Library) (y : List ℕ) → type2.act_at library (operator_of i.event.operator ++ (i.event.mask ++ y)) (at stems mask_len i.event.operands) ≡ type2.Does (Some i.event) (at (stems_behind hint stems (length i.event.operands)) mask_len []) (type2.On y)
+    → (library : type2.Library) (y : List ℕ) → type2.act_at library (operator_of i.event.operator ++ (i.event.mask ++ y)) (at stems mask_len i.event.operands) ≡ type2.Does (Some i.event) (at (stems_past hint stems (length i.event.operands)) mask_len []) (type2.On y)
 front_act x hint stems mask_len pen i ink none e few library y =
     let event : i.event ≡ record { operator = x.operator; operands = i.event.operands; mask = [] } = event_same i.event x.operator [] ink.operator (ink.mask ∙ none) in
-    subst (λ (v : type2.Event). type2.act_at library (operator_of v.operator ++ (v.mask ++ y)) (at stems mask_len i.event.operands) ≡ type2.Does (Some v) (at (stems_behind hint stems (length i.event.operands)) mask_len []) (type2.On y)) (sym event) (front_event x.operator i.event.operands hint stems mask_len e few library y)
+    subst (λ (v : type2.Event). type2.act_at library (operator_of v.operator ++ (v.mask ++ y)) (at stems mask_len i.event.operands) ≡ type2.Does (Some v) (at (stems_past hint stems (length i.event.operands)) mask_len []) (type2.On y)) (sym event) (front_event x.operator i.event.operands hint stems mask_len e few library y)
 
 counted_on : (stems w k n total : ℕ) → w ≤ 1 → k % 2 ≡ 0 → n % 2 ≡ 0 → k ≤ n → stems + n / 2 ≡ total → stems + (w + k) / 2 + (n - k) / 2 ≡ total
 counted_on stems w k n total w1 k2 n2 less e = omega (arith, w1, k2, n2, less, e)
@@ -185,9 +185,9 @@ some_operands stems before n m long e none z = let s = none z in absurd (omega (
 even_less : (n k : ℕ) → n % 2 ≡ 0 → k % 2 ≡ 0 → k ≤ n → (n - k) % 2 ≡ 0
 even_less n k a b less = omega (arith, a, b, less)
 
--- what is left behind a piece
+-- what is left after a piece
 rest_counts : (r : Registers) (e x : Event) (stems w l k : ℕ) (hint : Bool) → is_hint e.operator.0 ≡ hint → Counts r e x stems → w ≤ 1 → l ≡ w + k → 48 ≤ length x.operands → k ≤ 47 → (hint ≡ true → k % 2 ≡ 0)
-    → Counts r e (rest_of k x) (stems_behind hint stems l)
+    → Counts r e (rest_of k x) (stems_past hint stems l)
 rest_counts r e x stems w l k true is c w1 l_is long high even = record {
   operator = c.operator;
   mask = c.mask;
@@ -251,9 +251,9 @@ module _ (r next : Registers) (e : Event) (loud : Loud r e next) (now : Whole) w
       let few : hint ≡ true → stems + length ink.event.operands / 2 ≤ 65535 = λ t.
       subst (λ (m : ℕ). stems + m / 2 ≤ 65535) (sym l)
       (few_counted stems n k (length x.operands) _ one (even t) (omega (arith, long, high)) (c.hint (is ∙ t)) (loud.few (is ∙ t) (some_operands stems r.stems (length x.operands) (length e.operands) long (c.hint (is ∙ t)) c.none))) in
-      one_more w now u stems r.mask_len (stems_behind hint stems (length ink.event.operands)) r.mask_len ink refl (omega (arith, l, one, high)) (ink_is.fit fit)
+      one_more w now u stems r.mask_len (stems_past hint stems (length ink.event.operands)) r.mask_len ink refl (omega (arith, l, one, high)) (ink_is.fit fit)
       (front_act front hint stems r.mask_len w.pen ink ink_is refl (two.effect ∙ ap hint_effect same) few)
-      (more u (stems_behind hint stems (length ink.event.operands)) ink_is.advance (rest_counts r e x stems n (length ink.event.operands) k hint is c one l long high even) two.rest h)
+      (more u (stems_past hint stems (length ink.event.operands)) ink_is.advance (rest_counts r e x stems n (length ink.event.operands) k hint is c one l long high even) two.rest h)
 
   by_fit : (b : Bool) (x : Event) (xs : List Event) (stems : ℕ) (w v : Whole) → nat_le (length (width w.pen.advance) + length x.operands) 48 ≡ b → IsAccepted x → Counts r e x stems → AllFit (width w.pen.advance)
       → all_taken whole_also_piece (if b then x ∷ [] else front_of (next_cut x) x ∷ xs) w ≡ Ok v → (AllFit (width v.pen.advance) → Ahead v now next.stems next.mask_len)

@@ -34,7 +34,7 @@ pub record IsCounted (r : Registers) (e : Event) (stems n : ℕ) : Type 0 where
   pub path : is_hint e.operator.0 ≡ false → stems ≡ r.stems
   pub none : length e.operands ≡ 0 → stems ≡ r.stems
 
--- the plain machine takes the opened operator with the last operands, up to a width in front of them
+-- the plain machine takes the opened operator with the last operands, up to a width before them
 pub record Loud (r : Registers) (e : Event) (next : Registers) : Type 0 where
   pub accepted : IsAccepted e
   pub few : is_hint e.operator.0 ≡ true → (length e.operands ≡ 0 → ⊥) → r.stems + length e.operands / 2 ≤ 65535
@@ -163,7 +163,7 @@ pub stems_done : (operator : Operator) (x : List ℕ) (numbers : List CharString
     → type2.count_stems operator x (at stems mask_len numbers) ≡ type2.Does (Some (record { operator = operator; operands = numbers; mask = [] })) (at after mask_len []) (type2.On x)
 stems_done operator x numbers stems mask_len after e h = rw h (ap (λ (n : ℕ). type2.Does (Some (record { operator = operator; operands = numbers; mask = [] })) (at n mask_len []) (type2.On x)) e)
 
--- a mask of so many bytes that stands in front of others
+-- a mask of so many bytes that stands before others
 took_again : (operator : Operator) (rest x : List ℕ) (r : type2.Registers) → nat_le r.mask_len (length rest) ≡ true
     → type2.take_mask operator (take r.mask_len rest ++ x) r ≡ type2.emit operator (take r.mask_len rest) (type2.On x) r
 took_again operator rest x r h =

@@ -5,7 +5,7 @@ use Rattle.std.proofs.lemmas.Bool.{leb-true}
 use Rattle.std.proofs.lemmas.Bool.Decides.{nat_tests}
 use Rattle.subsetter_blend.specs.declared.writing.placing.Position.{Position}
 use Rattle.subsetter_blend.specs.Drawing.{IsAccepted, AreAccepted, event_drawn, events_drawn}
-use Rattle.subsetter_blend.specs.Drawn.{Segment, point_behind}
+use Rattle.subsetter_blend.specs.Drawn.{Segment, point_after}
 use Rattle.subsetter_blend.specs.Laws.{SplitsAlike}
 use Rattle.subsetter_blend.specs.Writing.Marks.{Mark, event_marks, all_marks}
 use Rattle.subsetter_blend.specs.Writing.Split.{front_of, rest_of, next_cut, pieces}
@@ -53,9 +53,9 @@ by_fit false width e es h w a more =
     record {
       few = (front_few width k (length (take k e.operands)) w (is_cut e.operator.0 (length e.operands)).high (omega (arith, length-take k e.operands)), m.few);
       accepted = (c.front, m.accepted);
-      draws = λ at. ap (λ (s : List Segment). event_drawn (front_of k e) at ++ s) (m.draws (point_behind at (event_drawn (front_of k e) at))) ∙ sym (c.draws at);
+      draws = λ at. ap (λ (s : List Segment). event_drawn (front_of k e) at ++ s) (m.draws (point_after at (event_drawn (front_of k e) at))) ∙ sym (c.draws at);
       stems = λ vertical. ap (λ (s : List ℤ). stems_of vertical (front_of k e) ++ s) (m.stems vertical) ∙ sym (stems_parted vertical k e);
-      says = λ at. ap (λ (l : List Mark). event_marks (front_of k e) at ++ l) (m.says (point_behind at (event_drawn (front_of k e) at))) ∙ says_parted k e at (λ h. c.still h at) (c.draws at);
+      says = λ at. ap (λ (l : List Mark). event_marks (front_of k e) at ++ l) (m.says (point_after at (event_drawn (front_of k e) at))) ∙ says_parted k e at (λ h. c.still h at) (c.draws at);
     }
 
 pub rest_few : (n m k r : ℕ) (width : ℕ) → 40 ≤ k → r ≡ n - k → width + n ≤ 48 + 40 * suc m → 0 + r ≤ 48 + 40 * m

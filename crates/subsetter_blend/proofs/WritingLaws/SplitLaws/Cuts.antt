@@ -11,7 +11,7 @@ use Rattle.subsetter_type2.specs.declared.token.Effect.TheVariants as effect
 use Rattle.subsetter_type2.specs.Token.{one_byte_effect, effect_of}
 use Rattle.subsetter_blend.specs.declared.writing.placing.Position.{Position}
 use Rattle.subsetter_blend.specs.Drawing.{path_of, path_drawn, event_drawn, IsAccepted}
-use Rattle.subsetter_blend.specs.Drawn.{Segment, Path, lines, alternating_lines, curves, curves_line, lines_curve, horizontal_curves, vertical_curves, odd_horizontal, odd_vertical, alternating_curves, point_behind}
+use Rattle.subsetter_blend.specs.Drawn.{Segment, Path, lines, alternating_lines, curves, curves_line, lines_curve, horizontal_curves, vertical_curves, odd_horizontal, odd_vertical, alternating_curves, point_after}
 use Rattle.subsetter_blend.specs.Hint.{is_hint}
 use Rattle.subsetter_blend.specs.Runs.Kind.{one_byte_accepts, two_byte_accepts, type_accepts, accepts}
 use Rattle.subsetter_blend.specs.Writing.Split.{one_byte_cut, one_byte_piece, moved_by, sum_before, front_of, rest_of, next_cut}
@@ -28,7 +28,7 @@ hint_effect false = Some effect.Draws
 pub record IsParted (vs : List ℤ) (b : ℕ) : Type 0 where
   pub draws : (at : Position) → path_drawn (path_of b) at vs
       ≡ path_drawn (path_of (one_byte_piece b)) at (take (one_byte_cut b (length vs)) vs)
-      ++ path_drawn (path_of b) (point_behind at (path_drawn (path_of (one_byte_piece b)) at (take (one_byte_cut b (length vs)) vs))) (moved_by (sum_before (is_hint (OneByteOperator (b ∷ []))) (take (one_byte_cut b (length vs)) vs)) (drop (one_byte_cut b (length vs)) vs))
+      ++ path_drawn (path_of b) (point_after at (path_drawn (path_of (one_byte_piece b)) at (take (one_byte_cut b (length vs)) vs))) (moved_by (sum_before (is_hint (OneByteOperator (b ∷ []))) (take (one_byte_cut b (length vs)) vs)) (drop (one_byte_cut b (length vs)) vs))
   pub front : one_byte_accepts (one_byte_piece b) (one_byte_cut b (length vs)) ≡ true
   pub rest : one_byte_accepts b (length vs - one_byte_cut b (length vs)) ≡ true
   pub effect_is : one_byte_effect (one_byte_piece b) ≡ hint_effect (is_hint (OneByteOperator (b ∷ [])))
@@ -36,10 +36,10 @@ pub record IsParted (vs : List ℤ) (b : ℕ) : Type 0 where
   pub still : is_hint (OneByteOperator (b ∷ [])) ≡ true → path_of (one_byte_piece b) ≡ None
 
 -- two parts, of which the first has k operands
-parted : (f g h : Position → List ℤ → List Segment) (at : Position) (vs : List ℤ) (k : ℕ) → f at (take k vs ++ drop k vs) ≡ g at (take k vs) ++ h (point_behind at (g at (take k vs))) (drop k vs)
-    → f at vs ≡ g at (take k vs) ++ h (point_behind at (g at (take k vs))) (moved_by (pos 0) (drop k vs))
+parted : (f g h : Position → List ℤ → List Segment) (at : Position) (vs : List ℤ) (k : ℕ) → f at (take k vs ++ drop k vs) ≡ g at (take k vs) ++ h (point_after at (g at (take k vs))) (drop k vs)
+    → f at vs ≡ g at (take k vs) ++ h (point_after at (g at (take k vs))) (moved_by (pos 0) (drop k vs))
 parted f g h at vs k e =
-    ap (f at) (sym (take-append-drop k vs)) ∙ e ∙ ap (λ (l : List ℤ). g at (take k vs) ++ h (point_behind at (g at (take k vs))) l) (sym (moved_none (drop k vs)))
+    ap (f at) (sym (take-append-drop k vs)) ∙ e ∙ ap (λ (l : List ℤ). g at (take k vs) ++ h (point_after at (g at (take k vs))) l) (sym (moved_none (drop k vs)))
 
 module _ (vs : List ℤ) (long : 48 ≤ length vs) where
   taken : (k : ℕ) → k ≤ 47 → length (take k vs) ≡ k
@@ -131,7 +131,7 @@ module _ (vs : List ℤ) (long : 48 ≤ length vs) where
   parted_31 : one_byte_accepts 31 (length vs) ≡ true → IsParted vs 31
   parted_31 a = record { draws = λ at. parted (alternating_curves false) (alternating_curves false) (alternating_curves false) at vs 40 (turning_split false at (take 40 vs) (drop 40 vs) eight_40 more_left); front = refl; rest = turn_left (length vs) long a; effect_is = refl; even = λ h. absurd (false≢true h); still = λ h. absurd (false≢true h) }
 
-  -- ---- an odd operand in front of the first part
+  -- ---- an odd operand before the first part
   abbrev odd : ℕ
   odd = length vs % 4 + 44
 
@@ -144,11 +144,11 @@ module _ (vs : List ℤ) (long : 48 ≤ length vs) where
   front_odd : (length (take odd vs) % 4 == 1) ≡ (length vs % 4 == 1)
   front_odd = ap (λ (n : ℕ). n % 4 == 1) taken_odd ∙ ap (λ (n : ℕ). n == 1) (same_odd (length vs))
 
-  behind_even : (n : ℕ) → 48 ≤ n → (n - (n % 4 + 44)) % 4 ≡ 0
-  behind_even n l = omega (arith, l)
+  after_even : (n : ℕ) → 48 ≤ n → (n - (n % 4 + 44)) % 4 ≡ 0
+  after_even n l = omega (arith, l)
 
-  behind_odd : (length (moved_by (pos 0) (drop odd vs)) % 4 == 1) ≡ false
-  behind_odd = ap (λ (n : ℕ). n % 4 == 1) (length_moved (pos 0) (drop odd vs) ∙ left odd) ∙ ap (λ (n : ℕ). n == 1) (behind_even (length vs) long)
+  after_odd : (length (moved_by (pos 0) (drop odd vs)) % 4 == 1) ≡ false
+  after_odd = ap (λ (n : ℕ). n % 4 == 1) (length_moved (pos 0) (drop odd vs) ∙ left odd) ∙ ap (λ (n : ℕ). n == 1) (after_even (length vs) long)
 
   odd_is : (length vs % 4 == 1) ≡ true → length (take odd vs) % 4 ≡ 1
   odd_is h = ap (λ (n : ℕ). n % 4) taken_odd ∙ same_odd (length vs) ∙ eqb-true (length vs % 4) 1 h
@@ -162,24 +162,24 @@ module _ (vs : List ℤ) (long : 48 ≤ length vs) where
   front_accepts : (n : ℕ) → (nat_le 4 n && nat_lt (n % 4) 2) ≡ true → (nat_le 4 (n % 4 + 44) && nat_lt ((n % 4 + 44) % 4) 2) ≡ true
   front_accepts n a = grind (arith, nat_tests)
 
-  behind_accepts : (n : ℕ) → 48 ≤ n → (nat_le 4 n && nat_lt (n % 4) 2) ≡ true → (nat_le 4 (n - (n % 4 + 44)) && nat_lt ((n - (n % 4 + 44)) % 4) 2) ≡ true
-  behind_accepts n l a = grind (arith, nat_tests)
+  after_accepts : (n : ℕ) → 48 ≤ n → (nat_le 4 n && nat_lt (n % 4) 2) ≡ true → (nat_le 4 (n - (n % 4 + 44)) && nat_lt ((n - (n % 4 + 44)) % 4) 2) ≡ true
+  after_accepts n l a = grind (arith, nat_tests)
 
   some_taken : 4 ≤ length (take odd vs)
   some_taken = omega (arith, taken_odd)
 
-  abbrev behind : List ℤ
-  behind = moved_by (pos 0) (drop odd vs)
+  abbrev following : List ℤ
+  following = moved_by (pos 0) (drop odd vs)
 
   parted_27 : one_byte_accepts 27 (length vs) ≡ true → IsParted vs 27
   parted_27 a = record {
     draws = λ at.
         let b = length vs % 4 == 1 in
         parted (odd_horizontal b) (odd_horizontal b) horizontal_curves at vs odd (odd_horizontal_split b at (take odd vs) (drop odd vs) odd_is (even_is a) some_taken)
-        ∙ ap (λ (c : Bool). odd_horizontal c at (take odd vs) ++ odd_horizontal false (point_behind at (odd_horizontal c at (take odd vs))) behind) (sym front_odd)
-        ∙ ap (λ (c : Bool). odd_horizontal (length (take odd vs) % 4 == 1) at (take odd vs) ++ odd_horizontal c (point_behind at (odd_horizontal (length (take odd vs) % 4 == 1) at (take odd vs))) behind) (sym behind_odd);
+        ∙ ap (λ (c : Bool). odd_horizontal c at (take odd vs) ++ odd_horizontal false (point_after at (odd_horizontal c at (take odd vs))) following) (sym front_odd)
+        ∙ ap (λ (c : Bool). odd_horizontal (length (take odd vs) % 4 == 1) at (take odd vs) ++ odd_horizontal c (point_after at (odd_horizontal (length (take odd vs) % 4 == 1) at (take odd vs))) following) (sym after_odd);
     front = front_accepts (length vs) a;
-    rest = behind_accepts (length vs) long a;
+    rest = after_accepts (length vs) long a;
     effect_is = refl;
     even = λ h. absurd (false≢true h);
     still = λ h. absurd (false≢true h);
@@ -190,10 +190,10 @@ module _ (vs : List ℤ) (long : 48 ≤ length vs) where
     draws = λ at.
         let b = length vs % 4 == 1 in
         parted (odd_vertical b) (odd_vertical b) vertical_curves at vs odd (odd_vertical_split b at (take odd vs) (drop odd vs) odd_is (even_is a) some_taken)
-        ∙ ap (λ (c : Bool). odd_vertical c at (take odd vs) ++ odd_vertical false (point_behind at (odd_vertical c at (take odd vs))) behind) (sym front_odd)
-        ∙ ap (λ (c : Bool). odd_vertical (length (take odd vs) % 4 == 1) at (take odd vs) ++ odd_vertical c (point_behind at (odd_vertical (length (take odd vs) % 4 == 1) at (take odd vs))) behind) (sym behind_odd);
+        ∙ ap (λ (c : Bool). odd_vertical c at (take odd vs) ++ odd_vertical false (point_after at (odd_vertical c at (take odd vs))) following) (sym front_odd)
+        ∙ ap (λ (c : Bool). odd_vertical (length (take odd vs) % 4 == 1) at (take odd vs) ++ odd_vertical c (point_after at (odd_vertical (length (take odd vs) % 4 == 1) at (take odd vs))) following) (sym after_odd);
     front = front_accepts (length vs) a;
-    rest = behind_accepts (length vs) long a;
+    rest = after_accepts (length vs) long a;
     effect_is = refl;
     even = λ h. absurd (false≢true h);
     still = λ h. absurd (false≢true h);
@@ -226,7 +226,7 @@ module _ (vs : List ℤ) (long : 48 ≤ length vs) where
 
 -- an event in two parts
 pub record IsCutInTwo (e : Event) : Type 0 where
-  pub draws : (at : Position) → event_drawn e at ≡ event_drawn (front_of (next_cut e) e) at ++ event_drawn (rest_of (next_cut e) e) (point_behind at (event_drawn (front_of (next_cut e) e) at))
+  pub draws : (at : Position) → event_drawn e at ≡ event_drawn (front_of (next_cut e) e) at ++ event_drawn (rest_of (next_cut e) e) (point_after at (event_drawn (front_of (next_cut e) e) at))
   pub front : IsAccepted (front_of (next_cut e) e)
   pub rest : IsAccepted (rest_of (next_cut e) e)
   pub effect : effect_of (front_of (next_cut e) e).operator ≡ hint_effect (is_hint e.operator.0)
@@ -244,11 +244,11 @@ type_cut (OneByteOperator (b ∷ [])) vs mask l a =
     let k = one_byte_cut b (length vs) in
     let bound = one_byte_is_cut b (length vs) in
     let taken : length (take k vs) ≡ k = length-take-le k vs (omega (arith, l, bound.high)) in
-    let behind : length (moved_by (sum_before (is_hint (OneByteOperator (b ∷ []))) (take k vs)) (drop k vs)) ≡ length vs - k = length_moved (sum_before (is_hint (OneByteOperator (b ∷ []))) (take k vs)) (drop k vs) ∙ length-drop k vs in
+    let following : length (moved_by (sum_before (is_hint (OneByteOperator (b ∷ []))) (take k vs)) (drop k vs)) ≡ length vs - k = length_moved (sum_before (is_hint (OneByteOperator (b ∷ []))) (take k vs)) (drop k vs) ∙ length-drop k vs in
     record {
       draws = p.draws;
       front = ap (λ (n : ℕ). one_byte_accepts (one_byte_piece b) n) taken ∙ p.front;
-      rest = ap (λ (n : ℕ). one_byte_accepts b n) behind ∙ p.rest;
+      rest = ap (λ (n : ℕ). one_byte_accepts b n) following ∙ p.rest;
       effect = p.effect_is;
       even = p.even;
       still = λ h at. ap (λ (o : Option Path). path_drawn o at (take k vs)) (p.still h);

@@ -7,7 +7,7 @@ use Rattle.subsetter_cffdata.specs.declared.dicts.operator.OperatorType.{Operato
 use Rattle.subsetter_cffdata.specs.declared.dicts.operator.OperatorType.TheVariants.{OneByteOperator, TwoByteOperator}
 use Rattle.subsetter_blend.specs.declared.writing.placing.Position.{Position}
 use Rattle.subsetter_blend.specs.Drawing.{event_drawn}
-use Rattle.subsetter_blend.specs.Drawn.{Segment, point_behind}
+use Rattle.subsetter_blend.specs.Drawn.{Segment, point_after}
 use Rattle.subsetter_blend.specs.Hint.{is_hint}
 use Rattle.subsetter_blend.specs.Writing.Marks.{Mark, Edge, Masked, Draws, type_masks, marks, event_marks}
 use Rattle.subsetter_blend.specs.Writing.Split.{one_byte_piece, piece_type, moved_by, sum_before, front_of, rest_of}
@@ -119,8 +119,8 @@ type_says (OneByteOperator (c ∷ b ∷ bytes)) k vs mask d1 d2 still = sym (map
 type_says (TwoByteOperator code) k vs mask d1 d2 still = sym (map-append (λ s. Draws s) d1 d2)
 
 pub says_parted : (k : ℕ) (e : Event) (at : Position) → (is_hint e.operator.0 ≡ true → event_drawn (front_of k e) at ≡ [])
-    → event_drawn e at ≡ event_drawn (front_of k e) at ++ event_drawn (rest_of k e) (point_behind at (event_drawn (front_of k e) at))
-    → event_marks (front_of k e) at ++ event_marks (rest_of k e) (point_behind at (event_drawn (front_of k e) at)) ≡ event_marks e at
+    → event_drawn e at ≡ event_drawn (front_of k e) at ++ event_drawn (rest_of k e) (point_after at (event_drawn (front_of k e) at))
+    → event_marks (front_of k e) at ++ event_marks (rest_of k e) (point_after at (event_drawn (front_of k e) at)) ≡ event_marks e at
 says_parted k e at still draws =
-    type_says e.operator.0 k e.operands e.mask (event_drawn (front_of k e) at) (event_drawn (rest_of k e) (point_behind at (event_drawn (front_of k e) at))) still
+    type_says e.operator.0 k e.operands e.mask (event_drawn (front_of k e) at) (event_drawn (rest_of k e) (point_after at (event_drawn (front_of k e) at))) still
     ∙ ap (λ (l : List Segment). marks (stems_of false e) (stems_of true e) (type_masks e.operator.0 e.mask) l) (sym draws)

@@ -23,7 +23,7 @@ pub record IsCut {X : Type 0} (read : List ℕ → Option (X × List ℕ)) (byte
   pub is : (n : ℕ) → n ≤ length bytes → read (take n bytes) ≡ cut n bytes (read bytes)
   pub le : (x : X × List ℕ) → read bytes ≡ Some x → length x.1 ≤ length bytes
 
--- ---- what is behind the cut, and what is left behind a first part
+-- ---- what is after the cut, and what is left after a first part
 cut_off : {X : Type 0} (n : ℕ) (bytes : List ℕ) (x : X × List ℕ) → n + length x.1 < length bytes → cut n bytes (Some x) ≡ None
 cut_off n bytes x lt = rw (lt-leb (length bytes) (n + length x.1) lt) refl
 

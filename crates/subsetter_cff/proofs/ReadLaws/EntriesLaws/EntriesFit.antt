@@ -10,7 +10,7 @@ use Rattle.subsetter_cffdata.specs.Numerals.Numbers.{dict_number_from}
 use Rattle.subsetter_cffdata.specs.Dicts.Dict.{Entry, is_operator, operator_from, entry_in, entry_at, limited, entries_in, entries, IsOperator, operand_limit}
 use Rattle.subsetter_cffdata.proofs.RealsLaws.Reals.{all_take}
 use Rattle.subsetter_cff.proofs.ReadLaws.EntriesLaws.ReadNumbers.{FitsNumber, FitsEntry}
-use Rattle.subsetter_cff.proofs.ReadLaws.EntriesLaws.ReadFits.{Reads, nothing, found, choice, then, behind, number_reads}
+use Rattle.subsetter_cff.proofs.ReadLaws.EntriesLaws.ReadFits.{Reads, nothing, found, choice, then, following, number_reads}
 
 -- an entry with all its operands
 pub record Whole (e : Entry) : Type 0 where
@@ -20,7 +20,7 @@ pub record Whole (e : Entry) : Type 0 where
 operator_reads : (b : ℕ) (bytes : List ℕ) → is_operator b ≡ true → Reads IsOperator (operator_from b bytes)
 operator_reads b bytes is =
     choice IsOperator (b == 12) (byte bytes >>= λ second. Some (12 ∷ second.0 ∷ [], second.1)) (Some (b ∷ [], bytes))
-    (λ _. behind IsOperator (byte bytes) (λ second. Some (12 ∷ second.0 ∷ [], second.1)) (λ x. found IsOperator (12 ∷ x.0 ∷ []) x.1 refl))
+    (λ _. following IsOperator (byte bytes) (λ second. Some (12 ∷ second.0 ∷ [], second.1)) (λ x. found IsOperator (12 ∷ x.0 ∷ []) x.1 refl))
     (λ h. found IsOperator (b ∷ []) bytes (is, eqb-false b 12 h))
 
 pub entry_reads : (steps : ℕ) (bytes : List ℕ) → Reads Whole (entry_in steps bytes)

@@ -70,7 +70,7 @@ record IsEntry (bytes : List ℕ) (at : ℕ) (h : EntryHere) (operands : List Nu
 here_of : (bytes : List ℕ) (at : ℕ) (h : EntryHere) (operands : List Number) → IsEntry bytes at h operands → IsEntryHere bytes at h
 here_of bytes at h operands e = record { operands = operands; is = e.is; bare = e.bare; shorter = e.shorter }
 
--- what is said in the first n bytes: by the entry, or else behind it
+-- what is said in the first n bytes: by the entry, or else after it
 first_off : (said : Saying) (bytes : List ℕ) (at : ℕ) (h : EntryHere) (operands : List Number) (n : ℕ) → IsEntry bytes at h operands → n ≤ at → n + h.left < at
     → first_said said (entries (take n (last bytes at))) ≡ None
 first_off said bytes at h operands n e le lt =
@@ -105,13 +105,13 @@ said_here said bytes at h operands v inside shorter is bare says =
       shorter = shorter;
     }
 
-behind_off : (at left n : ℕ) (o : Option Found) → IsShorter o left → n + left < at → None ≡ said_within at n o
-behind_off at left n None s lt = refl
-behind_off at left n (Some f) s lt = off at n f (omega (arith, s, lt))
+after_off : (at left n : ℕ) (o : Option Found) → IsShorter o left → n + left < at → None ≡ said_within at n o
+after_off at left n None s lt = refl
+after_off at left n (Some f) s lt = off at n f (omega (arith, s, lt))
 
-behind_in : (at left n : ℕ) (o : Option Found) → at ≤ n + left → said_within left (n + left - at) o ≡ said_within at n o
-behind_in at left n None fits = refl
-behind_in at left n (Some f) fits =
+after_in : (at left n : ℕ) (o : Option Found) → at ≤ n + left → said_within left (n + left - at) o ≡ said_within at n o
+after_in at left n None fits = refl
+after_in at left n (Some f) fits =
     elim (cases_lt (n + f.left) at) [
       | inl lt ↦ sym (off left (n + left - at) f (omega (arith, lt, fits))) ∙ off at n f lt
       | inr le ↦ sym (held left (n + left - at) f (omega (arith, le, fits))) ∙ held at n f le
@@ -121,22 +121,22 @@ if_shorter : (o : Option Found) (left at : ℕ) → IsShorter o left → left < 
 if_shorter None left at s lt = tt
 if_shorter (Some f) left at s lt = omega (arith, s, lt)
 
-pub said_behind : (said : Saying) (bytes : List ℕ) (at : ℕ) (h : EntryHere) (operands : List Number) (c : Cell) → at ≤ length bytes → h.left < at
+pub said_after : (said : Saying) (bytes : List ℕ) (at : ℕ) (h : EntryHere) (operands : List Number) (c : Cell) → at ≤ length bytes → h.left < at
     → entry_at (last bytes at) ≡ Some (record { operator = operator_of h.operator; operands = operands }, last bytes h.left) → h.bare ≡ is_bare operands
     → said (operator_of h.operator) (only operands) ≡ None → IsCell said bytes h.left c → IsCell said bytes at (record { here = Some h; found = c.found })
-said_behind said bytes at h operands c inside shorter is bare says behind =
+said_after said bytes at h operands c inside shorter is bare says following =
     let e : IsEntry bytes at h operands = record { is = is; bare = bare; shorter = shorter; inside = inside } in
     record {
       here = here_of bytes at h operands e;
       first = λ n le. elim (cases_lt (n + h.left) at) [
-        | inl lt ↦ first_off said bytes at h operands n e le lt ∙ behind_off at h.left n c.found behind.shorter lt
+        | inl lt ↦ first_off said bytes at h operands n e le lt ∙ after_off at h.left n c.found following.shorter lt
         | inr fits ↦
             first_in said bytes at h operands n e le fits
             ∙ ap (λ (x : Option (Option ℕ)). option_or x (first_said said (entries (take (n + h.left - at) (last bytes h.left))))) says
-            ∙ behind.first (n + h.left - at) (omega (arith, le))
-            ∙ behind_in at h.left n c.found fits
+            ∙ following.first (n + h.left - at) (omega (arith, le))
+            ∙ after_in at h.left n c.found fits
       ];
-      shorter = if_shorter c.found h.left at behind.shorter shorter;
+      shorter = if_shorter c.found h.left at following.shorter shorter;
     }
 
 -- ---- by the first token

@@ -80,12 +80,12 @@ first_here wanted bytes here operator rest limit h room same equal =
     let f = found bytes operator rest h in
     rw (room, same) (first_is wanted bytes rest f.entry f.is (ap (λ (o : List ℕ). bytes_eq o wanted) f.same ∙ equal))
 
-first_behind : (wanted bytes rest : List ℕ) (e : Entry) → entry_at bytes ≡ Some (e, rest) → bytes_eq e.operator wanted ≡ false → first_offset wanted (entries bytes) ≡ first_offset wanted (entries rest)
-first_behind wanted bytes rest e is other = rw (entries_are bytes rest e is, other) refl
+first_after : (wanted bytes rest : List ℕ) (e : Entry) → entry_at bytes ≡ Some (e, rest) → bytes_eq e.operator wanted ≡ false → first_offset wanted (entries bytes) ≡ first_offset wanted (entries rest)
+first_after wanted bytes rest e is other = rw (entries_are bytes rest e is, other) refl
 
 pub first_next : (wanted bytes operator rest : List ℕ) → operator_part (entry_at bytes) ≡ Some (operator, rest) → bytes_eq operator wanted ≡ false → first_offset wanted (entries bytes) ≡ first_offset wanted (entries rest)
 first_next wanted bytes operator rest h other =
-    let f = found bytes operator rest h in first_behind wanted bytes rest f.entry f.is (ap (λ (o : List ℕ). bytes_eq o wanted) f.same ∙ other)
+    let f = found bytes operator rest h in first_after wanted bytes rest f.entry f.is (ap (λ (o : List ℕ). bytes_eq o wanted) f.same ∙ other)
 
 pub first_end : (wanted bytes : List ℕ) → operator_part (entry_at bytes) ≡ None → first_offset wanted (entries bytes) ≡ None
 first_end wanted bytes h = rw (entries_step bytes, none_left (entry_at bytes) h) refl

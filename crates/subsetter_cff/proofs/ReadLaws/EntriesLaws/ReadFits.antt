@@ -28,9 +28,9 @@ pub then : {X Y : Type 0} (P : X → Type 0) (Q : Y → Type 0) (o : Option (X �
 then P Q None f l m = nothing Q
 then P Q (Some x) f l m = m x (l.each x refl)
 
-pub behind : {A Y : Type 0} (Q : Y → Type 0) (o : Option A) (f : A → Option (Y × List ℕ)) → ((x : A) → Reads Q (f x)) → Reads Q (o >>= f)
-behind Q None f m = nothing Q
-behind Q (Some x) f m = m x
+pub following : {A Y : Type 0} (Q : Y → Type 0) (o : Option A) (f : A → Option (Y × List ℕ)) → ((x : A) → Reads Q (f x)) → Reads Q (o >>= f)
+following Q None f m = nothing Q
+following Q (Some x) f m = m x
 
 -- ---- numbers
 real_at_plain : (bytes : List ℕ) (x : Decimal × List ℕ) → real_at bytes ≡ Some x → PlainDecimal x.0

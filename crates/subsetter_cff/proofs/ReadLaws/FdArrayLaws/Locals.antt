@@ -10,7 +10,7 @@ use Rattle.subsetter_cffdata.specs.Bytes.{card, part, ReadAgain}
 use Rattle.subsetter_cffdata.specs.Indexes.Index.{offset_at, entries, offsets_limit, index_data, index_body, is_no_count, index_of, index_at}
 use Rattle.subsetter_cffdata.proofs.NumeralsLaws.Cards.{byte_again, part_again}
 use Rattle.subsetter_cffdata.proofs.Options.{step, unless, when}
-use Rattle.subsetter_cff.specs.Read.Cff.{behind_header, name_index, before, name_bytes}
+use Rattle.subsetter_cff.specs.Read.Cff.{past_header, name_index, before, name_bytes}
 
 -- ---- of bytes, those that were read
 pub record Local {X : Type 0} (read : List ℕ → Option (X × List ℕ)) (bytes : List ℕ) (x : X) (rest : List ℕ) : Type 0 where
@@ -115,8 +115,8 @@ named start x names l e = subst (λ t. ReadAgain index_at t x.0) (sym (text_is l
 pub names_again : (bytes names : List ℕ) → name_bytes bytes ≡ Some names → (es : List (Option (List ℕ))) × ReadAgain index_at names es
 unfolding name_bytes name_index
 names_again bytes names e =
-    let a = step (behind_header bytes) _ names e in
-    let b = step (option_and_then index_at (behind_header bytes)) _ names a.1.1 in
-    let c = step (behind_header bytes) index_at b.0 b.1.0 in
+    let a = step (past_header bytes) _ names e in
+    let b = step (option_and_then index_at (past_header bytes)) _ names a.1.1 in
+    let c = step (past_header bytes) index_at b.0 b.1.0 in
     let same = same_Some _ _ (sym a.1.0 ∙ c.1.0) in
     (b.0.0, named a.0 b.0 names (index_local a.0 b.0 (ap index_at same ∙ c.1.1)) (same_Some _ _ b.1.1))

@@ -36,7 +36,7 @@ pub own_with : (bytes : List ℕ) (es : List Entry) (start end : ℕ) (p : Optio
     → unwrap_or p no_private ≡ unwrap_or (private_at bytes es) no_private
 own_with bytes es start end p e h = rw (by_range bytes es (some_range start end) e, h) refl
 
--- ---- a range ends where it begins or behind
+-- ---- a range ends where it begins or after
 abbrev range_of : Option ℕ → Option ℕ → Range
 range_of n s = n >>= λ size. s >>= λ start. some_range start (start + size)
 

@@ -1,9 +1,9 @@
 -- Looking a glyph up in the ranges of FDSelect block by block.
 use Rattle.std.proofs.Common.{◌≡◌, ℕ, zero, suc, ◌+◌, ◌-◌, ◌*◌, ◌/◌, ◌<◌, ◌≤◌, min, Bool, true, false, cond, List, slice_index, Option, Some, None, is_some, refl, ap, arith, ◌∙◌, sym}
 use Rattle.subsetter_cff.specs.Read.FdArray.Ranges.{number_of_range, has_glyph, found_from, AreBounds}
-use Rattle.subsetter_cff.proofs.ReadLaws.FdArrayLaws.RangeLookups.{ends_before, begins_behind, in_none}
+use Rattle.subsetter_cff.proofs.ReadLaws.FdArrayLaws.RangeLookups.{ends_before, begins_after, in_none}
 
--- ---- ranges, and those behind them
+-- ---- ranges, and those after them
 abbrev pub else_next : Option ℕ → Option ℕ → Option ℕ
 else_next (Some x) next = Some x
 else_next None next = next
@@ -25,13 +25,13 @@ split bytes glyph (suc j) (suc n) i le =
     ∙ ap (else_next (found_from bytes glyph j (i + 1))) (at bytes glyph (n - j) (suc n - suc j) (i + 1 + j) (i + suc j) (omega arith) (omega arith)))
 
 -- ---- a block without the glyph
-pub begins_all_behind : (bytes : List ℕ) (count glyph block : ℕ) (least greatest : List ℕ) → AreBounds bytes count least greatest → glyph < slice_index least block
+pub begins_all_after : (bytes : List ℕ) (count glyph block : ℕ) (least greatest : List ℕ) → AreBounds bytes count least greatest → glyph < slice_index least block
     → None ≡ found_from bytes glyph (min (256 * block + 256) count - 256 * block) (256 * block)
-begins_all_behind bytes count glyph block least greatest bounds lt =
+begins_all_after bytes count glyph block least greatest bounds lt =
     sym (in_none bytes glyph (min (256 * block + 256) count - 256 * block) (256 * block) (λ k from to.
     let low = (bounds k (omega arith)).0 in
     let same : slice_index least (k / 256) ≡ slice_index least block = ap (slice_index least) (let e : k / 256 ≡ block = omega arith in e) in
-    begins_behind bytes glyph k (omega (arith, low, same, lt))))
+    begins_after bytes glyph k (omega (arith, low, same, lt))))
 
 pub ends_all_before : (bytes : List ℕ) (count glyph block : ℕ) (least greatest : List ℕ) → AreBounds bytes count least greatest → slice_index greatest block ≤ glyph
     → None ≡ found_from bytes glyph (min (256 * block + 256) count - 256 * block) (256 * block)

@@ -78,8 +78,8 @@ no_and false = refl
 pub ends_before : (bytes : List ℕ) (glyph k : ℕ) → first_of_range bytes (k + 1) ≤ glyph → has_glyph bytes glyph k ≡ false
 ends_before bytes glyph k le = rw (le-ltb glyph (first_of_range bytes (k + 1)) le) (no_and (nat_le (first_of_range bytes k) glyph))
 
-pub begins_behind : (bytes : List ℕ) (glyph k : ℕ) → glyph < first_of_range bytes k → has_glyph bytes glyph k ≡ false
-begins_behind bytes glyph k lt = rw (lt-leb (first_of_range bytes k) glyph lt) refl
+pub begins_after : (bytes : List ℕ) (glyph k : ℕ) → glyph < first_of_range bytes k → has_glyph bytes glyph k ≡ false
+begins_after bytes glyph k lt = rw (lt-leb (first_of_range bytes k) glyph lt) refl
 
 pub has_it : (bytes : List ℕ) (glyph k : ℕ) → first_of_range bytes k ≤ glyph → glyph < first_of_range bytes (k + 1) → has_glyph bytes glyph k ≡ true
 has_it bytes glyph k le lt = rw (le-leb (first_of_range bytes k) glyph le, lt-ltb glyph (first_of_range bytes (k + 1)) lt) refl
@@ -91,12 +91,12 @@ all_end bytes count glyph middle k up within le order =
     let same : first_of_range bytes (k + 1 + (middle - k)) ≡ first_of_range bytes (middle + 1) = ap (first_of_range bytes) (let e : k + 1 + (middle - k) ≡ middle + 1 = omega arith in e) in
     ends_before bytes glyph k (omega (arith, up_to, same, le))
 
--- all ranges from one that begins behind the glyph on
+-- all ranges from one that begins after the glyph on
 pub all_begin : (bytes : List ℕ) (count glyph middle k : ℕ) → Ascend bytes count → middle ≤ k → k < count → glyph < first_of_range bytes middle → has_glyph bytes glyph k ≡ false
 all_begin bytes count glyph middle k up order within lt =
     let up_to = rises bytes count middle (k - middle) up (omega arith) in
     let same : first_of_range bytes (middle + (k - middle)) ≡ first_of_range bytes k = ap (first_of_range bytes) (let e : middle + (k - middle) ≡ k = omega arith in e) in
-    begins_behind bytes glyph k (omega (arith, up_to, same, lt))
+    begins_after bytes glyph k (omega (arith, up_to, same, lt))
 
 below_middle : (bytes : List ℕ) (count glyph middle k : ℕ) → Ascend bytes count → middle < count → first_of_range bytes middle ≤ glyph → k < middle → first_of_range bytes (k + 1) ≤ glyph
 below_middle bytes count glyph middle k up within le order =

@@ -38,8 +38,8 @@ no_range (suc n) glyph (a ∷ b ∷ []) lt = rw (two (a ∷ b ∷ []) (omega ari
 no_range (suc n) glyph (a ∷ b ∷ c ∷ bytes) lt = rw (two (a ∷ b ∷ c ∷ bytes) (omega arith), too_short bytes (omega arith)) refl
 
 -- ---- by their number
-behind : (bytes : List ℕ) (i : ℕ) → drop 3 (drop (3 * i + 2) bytes) ≡ drop (3 * (i + 1) + 2) bytes
-behind bytes i = drop-drop 3 (3 * i + 2) bytes ∙ ap (λ (n : ℕ). drop n bytes) (let e : 3 * i + 2 + 3 ≡ 3 * (i + 1) + 2 = omega arith in e)
+following : (bytes : List ℕ) (i : ℕ) → drop 3 (drop (3 * i + 2) bytes) ≡ drop (3 * (i + 1) + 2) bytes
+following bytes i = drop-drop 3 (3 * i + 2) bytes ∙ ap (λ (n : ℕ). drop n bytes) (let e : 3 * i + 2 + 3 ≡ 3 * (i + 1) + 2 = omega arith in e)
 
 same_number : (bytes : List ℕ) (i : ℕ) → slice_index (drop (3 * i + 2) bytes) 2 ≡ number_of_range bytes i
 same_number bytes i = get_or-drop (3 * i + 2) bytes 2 0 ∙ ap (λ (n : ℕ). slice_index bytes n) (let e : 3 * i + 2 + 2 ≡ 3 * i + 4 = omega arith in e)
@@ -62,4 +62,4 @@ by_number bytes glyph (suc total) (suc n) i le room all =
     let r : 3 * (i + suc n) + 4 ≤ length bytes = room (omega arith) in
     let there : 5 ≤ length (drop (3 * i + 2) bytes) = omega (arith, length-drop (3 * i + 2) bytes) in
     range_there total glyph (drop (3 * i + 2) bytes) there
-    ∙ rw (behind bytes i, same_number bytes i, by_number bytes glyph total n (i + 1) (omega arith) (λ _. omega arith) (next total n i (length bytes) all)) refl
+    ∙ rw (following bytes i, same_number bytes i, by_number bytes glyph total n (i + 1) (omega arith) (λ _. omega arith) (next total n i (length bytes) all)) refl

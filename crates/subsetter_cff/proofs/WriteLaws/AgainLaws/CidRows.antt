@@ -14,7 +14,7 @@ use Rattle.subsetter_type2.specs.Subroutines.{biased_entry}
 use Rattle.subsetter_type2.specs.Token.{token_of, effect_of}
 use Rattle.subsetter_type2.specs.Runs.Machine.{subroutine, act_at, run, outcome}
 use Rattle.subsetter_cff.specs.Read.Strings.{string_of}
-use Rattle.subsetter_cff.specs.Read.Cff.{behind_header, name_index, top_index, string_index, subroutine_index, top_dict, name_bytes, cff_parts, at_offset, char_strings}
+use Rattle.subsetter_cff.specs.Read.Cff.{past_header, name_index, top_index, string_index, subroutine_index, top_dict, name_bytes, cff_parts, at_offset, char_strings}
 use Rattle.subsetter_cff.specs.Read.FdArray.FontDicts.{in_ranges, selected, select_at, font_dicts, font_dict_select, font_dict_number, font_dict_of}
 use Rattle.subsetter_cff.specs.Read.FdArray.Private.{local_subroutines, private_in, private_at, private_of}
 use Rattle.subsetter_cff.specs.Write.Laying.Layout.{strings, charset_bytes, select_bytes, private_bytes, entries_of_font_dict_by, top_entries_by, front, font_dicts_of, cff_table}
@@ -35,14 +35,14 @@ size (Ok bytes) = length bytes
 size (Err e) = 0
 
 answered : size (cff_subset cid_source 1000000 64 some_glyphs) ≡ 179
-unfolding cff_subset counted_parts opened opened_parts opened_cid cff_parts behind_header name_bytes name_index top_index top_dict string_index subroutine_index index_of index_body index_data byte card part entries entries_in entry_at entry_in dict_number_from integer_from short_integer signed32 signed16 real_at text_at real_of unsigned_real char_strings at_offset offset_operand range_operands string_operand as_i32 as_u32 in_i32 font_dicts font_dict_select select_at selected in_ranges font_dict_number font_dict_of private_of private_at private_in local_subroutines string_of parts_of parts_for new_font_dict limited kept_glyph outcome run act_at subroutine biased_entry whole_of token_of effect_of number_at written by_1000 thousand cff_table front top_entries_by strings charset_bytes select_bytes private_bytes entries_of_font_dict_by font_dicts_of index header integer real_text decimal_digits
+unfolding cff_subset counted_parts opened opened_parts opened_cid cff_parts past_header name_bytes name_index top_index top_dict string_index subroutine_index index_of index_body index_data byte card part entries entries_in entry_at entry_in dict_number_from integer_from short_integer signed32 signed16 real_at text_at real_of unsigned_real char_strings at_offset offset_operand range_operands string_operand as_i32 as_u32 in_i32 font_dicts font_dict_select select_at selected in_ranges font_dict_number font_dict_of private_of private_at private_in local_subroutines string_of parts_of parts_for new_font_dict limited kept_glyph outcome run act_at subroutine biased_entry whole_of token_of effect_of number_at written by_1000 thousand cff_table front top_entries_by strings charset_bytes select_bytes private_bytes entries_of_font_dict_by font_dicts_of index header integer real_text decimal_digits
 answered = refl
 
 given_back : (cff_subset cid_source 1000000 64 some_glyphs >>= λ out. cff_subset out 1000000 64 (0 ∷ 1 ∷ [])) ≡ cff_subset cid_source 1000000 64 some_glyphs
-unfolding cff_subset counted_parts opened opened_parts opened_cid cff_parts behind_header name_bytes name_index top_index top_dict string_index subroutine_index index_of index_body index_data byte card part entries entries_in entry_at entry_in dict_number_from integer_from short_integer signed32 signed16 real_at text_at real_of unsigned_real char_strings at_offset offset_operand range_operands string_operand as_i32 as_u32 in_i32 font_dicts font_dict_select select_at selected in_ranges font_dict_number font_dict_of private_of private_at private_in local_subroutines string_of parts_of parts_for new_font_dict limited kept_glyph outcome run act_at subroutine biased_entry whole_of token_of effect_of number_at written by_1000 thousand cff_table front top_entries_by strings charset_bytes select_bytes private_bytes entries_of_font_dict_by font_dicts_of index header integer real_text decimal_digits
+unfolding cff_subset counted_parts opened opened_parts opened_cid cff_parts past_header name_bytes name_index top_index top_dict string_index subroutine_index index_of index_body index_data byte card part entries entries_in entry_at entry_in dict_number_from integer_from short_integer signed32 signed16 real_at text_at real_of unsigned_real char_strings at_offset offset_operand range_operands string_operand as_i32 as_u32 in_i32 font_dicts font_dict_select select_at selected in_ranges font_dict_number font_dict_of private_of private_at private_in local_subroutines string_of parts_of parts_for new_font_dict limited kept_glyph outcome run act_at subroutine biased_entry whole_of token_of effect_of number_at written by_1000 thousand cff_table front top_entries_by strings charset_bytes select_bytes private_bytes entries_of_font_dict_by font_dicts_of index header integer real_text decimal_digits
 given_back = refl
 
 -- in the other order
 other_order : (cff_subset cid_source 1000000 64 some_glyphs >>= λ out. cff_subset out 1000000 64 (1 ∷ 0 ∷ [])) ≡ cff_subset cid_source 1000000 64 (2 ∷ 0 ∷ [])
-unfolding cff_subset counted_parts opened opened_parts opened_cid cff_parts behind_header name_bytes name_index top_index top_dict string_index subroutine_index index_of index_body index_data byte card part entries entries_in entry_at entry_in dict_number_from integer_from short_integer signed32 signed16 real_at text_at real_of unsigned_real char_strings at_offset offset_operand range_operands string_operand as_i32 as_u32 in_i32 font_dicts font_dict_select select_at selected in_ranges font_dict_number font_dict_of private_of private_at private_in local_subroutines string_of parts_of parts_for new_font_dict limited kept_glyph outcome run act_at subroutine biased_entry whole_of token_of effect_of number_at written by_1000 thousand cff_table front top_entries_by strings charset_bytes select_bytes private_bytes entries_of_font_dict_by font_dicts_of index header integer real_text decimal_digits
+unfolding cff_subset counted_parts opened opened_parts opened_cid cff_parts past_header name_bytes name_index top_index top_dict string_index subroutine_index index_of index_body index_data byte card part entries entries_in entry_at entry_in dict_number_from integer_from short_integer signed32 signed16 real_at text_at real_of unsigned_real char_strings at_offset offset_operand range_operands string_operand as_i32 as_u32 in_i32 font_dicts font_dict_select select_at selected in_ranges font_dict_number font_dict_of private_of private_at private_in local_subroutines string_of parts_of parts_for new_font_dict limited kept_glyph outcome run act_at subroutine biased_entry whole_of token_of effect_of number_at written by_1000 thousand cff_table front top_entries_by strings charset_bytes select_bytes private_bytes entries_of_font_dict_by font_dicts_of index header integer real_text decimal_digits
 other_order = refl

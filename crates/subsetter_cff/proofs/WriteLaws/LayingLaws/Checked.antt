@@ -5,7 +5,7 @@ use Rattle.std.specs.List.{concat, list_any}
 use Rattle.std.proofs.lemmas.Bool.{cases_lt, lt-ltb, le-ltb}
 use Rattle.std.proofs.lemmas.Option.{none-some}
 use Rattle.subsetter_base.specs.Bytes.{◌>>=◌}
-use Rattle.subsetter_base.specs.Gives.{Fails, Gives, behind}
+use Rattle.subsetter_base.specs.Gives.{Fails, Gives, following}
 use Rattle.subsetter_base.specs.Refusals.{IsOutOfMemoryOr, first_refusal}
 use Rattle.subsetter_base.specs.declared.error.Error.{Error}
 use Rattle.subsetter_base.specs.declared.error.Error.TheVariants.{OutOfMemory, OverflowError}
@@ -64,21 +64,21 @@ entries_long : (es : List Entry) → any_long (entry_numbers es) ≡ list_any is
 entries_long [] = refl
 entries_long (e ∷ es) = long_append e.operands (entry_numbers es) ∙ ap (λ (b : Bool). b || any_long (entry_numbers es)) (sym (long_is e.operands)) ∙ ap (λ (b : Bool). is_refused e || b) (entries_long es)
 
-by_entry : (b : Bool) (front text : List ℕ) → (limit (cond b false true) >>= λ kept. Ok (front ++ text)) ≡ behind front (cond b (Err OverflowError) (Ok text))
+by_entry : (b : Bool) (front text : List ℕ) → (limit (cond b false true) >>= λ kept. Ok (front ++ text)) ≡ following front (cond b (Err OverflowError) (Ok text))
 by_entry true front text = refl
 by_entry false front text = refl
 
 -- an entry is written where its numbers keep the limit
-pub entry_checked : (front operator : List ℕ) (xs : List Number) → (limit (short xs) >>= λ kept. Ok (front ++ entry_bytes (plain_entry operator xs))) ≡ behind front (written_entry operator xs)
+pub entry_checked : (front operator : List ℕ) (xs : List Number) → (limit (short xs) >>= λ kept. Ok (front ++ entry_bytes (plain_entry operator xs))) ≡ following front (written_entry operator xs)
 unfolding written_entry
 entry_checked front operator xs =
-    by_entry (any_long xs) front (entry_bytes (plain_entry operator xs)) ∙ ap (λ (b : Bool). behind front (cond b (Err OverflowError) (Ok (entry_bytes (plain_entry operator xs))))) (sym (long_is xs))
+    by_entry (any_long xs) front (entry_bytes (plain_entry operator xs)) ∙ ap (λ (b : Bool). following front (cond b (Err OverflowError) (Ok (entry_bytes (plain_entry operator xs))))) (sym (long_is xs))
 
-by_refused : (b : Bool) (front text : List ℕ) → (behind front (cond b (Err OverflowError) (Ok text)) >>= λ out. Ok tt) ≡ limit (cond b false true)
+by_refused : (b : Bool) (front text : List ℕ) → (following front (cond b (Err OverflowError) (Ok text)) >>= λ out. Ok tt) ≡ limit (cond b false true)
 by_refused true front text = refl
 by_refused false front text = refl
 
-pub entries_checked : (front : List ℕ) (es : List Entry) → (behind front (written_entries es) >>= λ out. Ok tt) ≡ limit (short (entry_numbers es))
+pub entries_checked : (front : List ℕ) (es : List Entry) → (following front (written_entries es) >>= λ out. Ok tt) ≡ limit (short (entry_numbers es))
 unfolding written_entries
 entries_checked front es = by_refused (list_any is_refused es) front _ ∙ ap (λ (b : Bool). limit (cond b false true)) (sym (entries_long es))
 

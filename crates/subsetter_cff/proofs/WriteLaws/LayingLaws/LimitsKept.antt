@@ -230,11 +230,11 @@ front_passes : (t : TableParts) (cs : List (List ℕ)) → length t.font_dicts.i
 unfolding front_limits numbers_limits
 front_passes t cs few k =
     let p = parts_view t cs in
-    let behind = short_back p.matrix _ k.short_numbers in
+    let following = short_back p.matrix _ k.short_numbers in
     let room = in_front p nowhere in
     let whole : front_size (strings p) t < 2 ^ 31 = omega (arith, k.offset, place_is t cs) in
     let same : length (front p nowhere) ≡ front_size (strings p) t = ap length (front_is t cs) in
-    goes_on _ _ (goes_on _ _ (short_holds p.matrix (short_front p.matrix _ k.short_numbers)) (short_holds p.box (short_front p.box _ behind)))
+    goes_on _ _ (goes_on _ _ (short_holds p.matrix (short_front p.matrix _ k.short_numbers)) (short_holds p.box (short_front p.box _ following)))
     (goes_on _ _ (offset_holds (length (named_bytes (top_of p)) + 33) (omega (arith, named_in_top p nowhere, room, same, whole)))
     (goes_on _ _ (index_there (strings p) (omega (arith, few_strings p, few, length-map t.font_dicts.items font_dict_view)) (omega (arith, room, same, whole)))
     (offset_holds (front_size (strings p) t) whole)))

@@ -118,9 +118,9 @@ unfolding new_font_dict
 only_is s n is e = rw (keyed_as s None is e, ← is.own) refl
 
 -- ---- one after the other
-pub none_behind : (r : Result (List FontDict) Error) → with_dicts [] r ≡ r
-none_behind (Ok xs) = refl
-none_behind (Err e) = refl
+pub none_following : (r : Result (List FontDict) Error) → with_dicts [] r ≡ r
+none_following (Ok xs) = refl
+none_following (Err e) = refl
 
 moved : (front : List FontDict) (f : FontDict) (r : Result (List FontDict) Error) → with_dicts front (r >>= λ rest. Ok (f ∷ rest)) ≡ with_dicts (front ++ f ∷ []) r
 moved front f (Ok xs) = ap (λ (l : List FontDict). Ok l) (sym (append_assoc front (f ∷ []) xs))
@@ -139,9 +139,9 @@ next_fails cff n ns front e whole same h =
 pub last_dict : (cff : Cff) (front : List FontDict) (whole : Result (List FontDict) Error) → with_dicts front (new_font_dicts cff []) ≡ whole → whole ≡ Ok front
 last_dict cff front whole same = sym same ∙ ap (λ (l : List FontDict). Ok l) (append-nil front)
 
-pub map_behind : {A B : Type 0} (f : A → B) (xs : List A) (x : A) → map f (xs ++ x ∷ []) ≡ map f xs ++ f x ∷ []
-map_behind f [] x = refl
-map_behind f (y ∷ xs) x = ap (λ l. f y ∷ l) (map_behind f xs x)
+pub map_after : {A B : Type 0} (f : A → B) (xs : List A) (x : A) → map f (xs ++ x ∷ []) ≡ map f xs ++ f x ∷ []
+map_after f [] x = refl
+map_after f (y ∷ xs) x = ap (λ l. f y ∷ l) (map_after f xs x)
 
 -- ---- the whole
 module _ (cff : Cff) (texts : List (List ℕ)) where

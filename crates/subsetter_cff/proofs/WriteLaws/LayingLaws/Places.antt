@@ -24,8 +24,8 @@ unfolding index
 same_length d e h =
     omega (arith, ap length (same_header d e h), h, length-append (index_header (d ∷ [])) (d ++ []), length-append (index_header (e ∷ [])) (e ++ []), length-append d [], length-append e [])
 
-same_behind : (xs ys zs : List NewEntry) → length (dict ys) ≡ length (dict zs) → length (dict (xs ++ ys)) ≡ length (dict (xs ++ zs))
-same_behind xs ys zs e =
+same_after : (xs ys zs : List NewEntry) → length (dict ys) ≡ length (dict zs) → length (dict (xs ++ ys)) ≡ length (dict (xs ++ zs))
+same_after xs ys zs e =
     omega (arith, e, ap length (flat_map-append entry_bytes xs ys), ap length (flat_map-append entry_bytes xs zs), length-append (dict xs) (dict ys), length-append (dict xs) (dict zs))
 
 pub length-placed : (o : Offsets) → length (dict (placed_entries o)) ≡ 33
@@ -39,11 +39,11 @@ length-top p o =
     let t2 : Offsets → List NewEntry = λ q. string_entries (strings p) font_name_operator p.font_name ++ t1 q in
     let t3 : Offsets → List NewEntry = λ q. string_entries (strings p) notice_operator p.notice ++ t2 q in
     let t4 : Offsets → List NewEntry = λ q. string_entries (strings p) copyright_operator p.copyright ++ t3 q in
-    same_behind (registry_entry ∷ []) (t4 o) (t4 nowhere)
-    (same_behind (string_entries (strings p) copyright_operator p.copyright) (t3 o) (t3 nowhere)
-    (same_behind (string_entries (strings p) notice_operator p.notice) (t2 o) (t2 nowhere)
-    (same_behind (string_entries (strings p) font_name_operator p.font_name) (t1 o) (t1 nowhere)
-    (same_behind (plain_entry font_matrix_operator p.matrix ∷ plain_entry font_box_operator p.box ∷ []) (placed_entries o) (placed_entries nowhere) (length-placed o ∙ sym (length-placed nowhere))))))
+    same_after (registry_entry ∷ []) (t4 o) (t4 nowhere)
+    (same_after (string_entries (strings p) copyright_operator p.copyright) (t3 o) (t3 nowhere)
+    (same_after (string_entries (strings p) notice_operator p.notice) (t2 o) (t2 nowhere)
+    (same_after (string_entries (strings p) font_name_operator p.font_name) (t1 o) (t1 nowhere)
+    (same_after (plain_entry font_matrix_operator p.matrix ∷ plain_entry font_box_operator p.box ∷ []) (placed_entries o) (placed_entries nowhere) (length-placed o ∙ sym (length-placed nowhere))))))
 
 between : (a x y b : List ℕ) → length x ≡ length y → length (a ++ (x ++ b)) ≡ length (a ++ (y ++ b))
 between a x y b h = omega (arith, h, length-append a (x ++ b), length-append a (y ++ b), length-append x b, length-append y b)
@@ -55,14 +55,14 @@ length-front p o =
     ap (λ (n : ℕ). suc (suc (suc (suc n)))) (between p.names (index (dict (top_entries p o) ∷ [])) (index (dict (top_entries p nowhere) ∷ [])) (index (strings p) ++ index []) top)
 
 -- ---- the parts
-stands_behind : (table before piece after : List ℕ) (n : ℕ) → table ≡ before ++ (piece ++ after) → n ≡ length before → IsAt table n piece
-stands_behind table before piece after n e at = (after, rw (e, at) (drop_at before (piece ++ after) (length before) refl))
+stands_after : (table before piece after : List ℕ) (n : ℕ) → table ≡ before ++ (piece ++ after) → n ≡ length before → IsAt table n piece
+stands_after table before piece after n e at = (after, rw (e, at) (drop_at before (piece ++ after) (length before) refl))
 
 pub charset_stands : (p : Parts) → IsAt (cff_table p) (charset_offset p) (charset_of p)
 unfolding cff_table
-charset_stands p = stands_behind _ (front p (table_offsets p)) (charset_of p) _ (charset_offset p) refl (sym (length-front p (table_offsets p)))
+charset_stands p = stands_after _ (front p (table_offsets p)) (charset_of p) _ (charset_offset p) refl (sym (length-front p (table_offsets p)))
 
--- what stands in front of the private dicts
+-- what stands before the private dicts
 abbrev pub before_privates : Parts → List ℕ
 before_privates p = front p (table_offsets p) ++ charset_of p
 
@@ -77,7 +77,7 @@ pub select_stands : (p : Parts) → IsAt (cff_table p) (fd_select_offset p) (sel
 select_stands p =
     let before = before_privates p ++ privates p.font_dicts in
     let after = font_dicts_of p ++ index p.char_strings in
-    stands_behind _ before (select_of p) after (fd_select_offset p) (privates_in_table p ∙ sym (append_assoc (before_privates p) (privates p.font_dicts) (select_of p ++ after)))
+    stands_after _ before (select_of p) after (fd_select_offset p) (privates_in_table p ∙ sym (append_assoc (before_privates p) (privates p.font_dicts) (select_of p ++ after)))
     (omega (arith, length-before_privates p, length-append (before_privates p) (privates p.font_dicts)))
 
 pub font_dicts_stand : (p : Parts) → IsAt (cff_table p) (fd_array_offset p) (font_dicts_of p)
@@ -87,7 +87,7 @@ font_dicts_stand p =
     let after = font_dicts_of p ++ index p.char_strings in
     let whole : cff_table p ≡ before ++ after =
     privates_in_table p ∙ sym (append_assoc (before_privates p) (privates p.font_dicts) (select_of p ++ after)) ∙ sym (append_assoc first (select_of p) after) in
-    stands_behind _ before (font_dicts_of p) (index p.char_strings) (fd_array_offset p) whole
+    stands_after _ before (font_dicts_of p) (index p.char_strings) (fd_array_offset p) whole
     (omega (arith, length-before_privates p, length-append (before_privates p) (privates p.font_dicts), length-append first (select_of p)))
 
 pub char_strings_stand : (p : Parts) → IsAt (cff_table p) (char_strings_offset p) (index p.char_strings)
@@ -100,5 +100,5 @@ char_strings_stand p =
     let whole : cff_table p ≡ before ++ (chars ++ []) =
     privates_in_table p ∙ sym (append_assoc (before_privates p) (privates p.font_dicts) (select_of p ++ after)) ∙ sym (append_assoc first (select_of p) after)
     ∙ sym (append_assoc second (font_dicts_of p) chars) ∙ ap (λ (l : List ℕ). before ++ l) (sym (append-nil chars)) in
-    stands_behind _ before chars [] (char_strings_offset p) whole
+    stands_after _ before chars [] (char_strings_offset p) whole
     (omega (arith, length-before_privates p, length-append (before_privates p) (privates p.font_dicts), length-append first (select_of p), length-append second (font_dicts_of p)))

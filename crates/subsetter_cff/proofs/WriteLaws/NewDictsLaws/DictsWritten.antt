@@ -4,7 +4,7 @@ use Rattle.std.specs.Prelude.{Result, Ok, Err, OnOk, IfErr}
 use Rattle.std.specs.List.{list_any}
 use Rattle.std.proofs.lemmas.List.{at_drop_more}
 use Rattle.subsetter_base.specs.Bytes.{◌>>=◌}
-use Rattle.subsetter_base.specs.Gives.{Fails, Gives, behind}
+use Rattle.subsetter_base.specs.Gives.{Fails, Gives, following}
 use Rattle.subsetter_base.specs.declared.error.Error.{Error}
 use Rattle.subsetter_base.specs.declared.error.Error.TheVariants.{OverflowError}
 use Rattle.subsetter_cffdata.specs.Dicts.Dict.{entries, dict}
@@ -19,22 +19,22 @@ use Rattle.subsetter_cff.specs.Write.Laying.TableLimits.{limit, short, dict_limi
 use Rattle.subsetter_cff.proofs.WriteLaws.LayingLaws.Checked.{entries_checked}
 use Rattle.subsetter_cff.proofs.ReadLaws.Failing.{fails_on, goes_on}
 
-written_by : (b : Bool) (front text out : List ℕ) → behind front (cond b (Err OverflowError) (Ok text)) ≡ Ok out → out ≡ front ++ text
+written_by : (b : Bool) (front text out : List ℕ) → following front (cond b (Err OverflowError) (Ok text)) ≡ Ok out → out ≡ front ++ text
 written_by true front text out e = absurd cc
 written_by false front text out e = cc
 
-pub private_written : (front out bytes : List ℕ) (f : FontDictParts) → f.private.now ≡ bytes → behind front (rewritten_private bytes) ≡ Ok out → out ≡ front ++ private_bytes (font_dict_view f)
+pub private_written : (front out bytes : List ℕ) (f : FontDictParts) → f.private.now ≡ bytes → following front (rewritten_private bytes) ≡ Ok out → out ≡ front ++ private_bytes (font_dict_view f)
 unfolding rewritten_private written_entries private_bytes
 private_written front out bytes f is e =
     rw is (written_by (list_any is_refused (without subroutines_operator (entries bytes))) front (dict (rewritten_entries (without subroutines_operator (entries bytes)))) out e)
 
-pub private_checked : {X : Type 0} (r : Result X Error) (front out bytes : List ℕ) (f : FontDictParts) → f.private.now ≡ bytes → OnOk r (behind front (rewritten_private bytes) ≡ Ok out) → IfErr r (λ e. Fails e (behind front (rewritten_private bytes)))
+pub private_checked : {X : Type 0} (r : Result X Error) (front out bytes : List ℕ) (f : FontDictParts) → f.private.now ≡ bytes → OnOk r (following front (rewritten_private bytes) ≡ Ok out) → IfErr r (λ e. Fails e (following front (rewritten_private bytes)))
     → Gives (λ (x : X). tt) r (limit (short (entry_numbers (font_dict_view f).private)))
 unfolding rewritten_private
 private_checked (Ok x) front out bytes f is ok err =
-    rw is (sym (goes_on (behind front (written_entries (without subroutines_operator (entries bytes)))) (λ text. Ok tt) _ out (entries_checked front (without subroutines_operator (entries bytes))) ok))
+    rw is (sym (goes_on (following front (written_entries (without subroutines_operator (entries bytes)))) (λ text. Ok tt) _ out (entries_checked front (without subroutines_operator (entries bytes))) ok))
 private_checked (Err e) front out bytes f is ok err =
-    rw is (fails_on (behind front (written_entries (without subroutines_operator (entries bytes)))) (λ text. Ok tt) _ e (entries_checked front (without subroutines_operator (entries bytes))) err)
+    rw is (fails_on (following front (written_entries (without subroutines_operator (entries bytes)))) (λ text. Ok tt) _ e (entries_checked front (without subroutines_operator (entries bytes))) err)
 
 -- ---- font dicts one after the other
 pub dict_fails : (dicts : List FontDictParts) (i : ℕ) (f : FontDictParts) (place : ℕ) (whole : Result (Unit {0}) Error) (e : Error) → i < length dicts → f ≡ get_or dicts i f

@@ -22,7 +22,7 @@ use Rattle.subsetter_cff.specs.Write.Laying.Layout.{rewritten_entries}
 use Rattle.subsetter_cff.specs.Read.Entries.Lookup.{without}
 use Rattle.subsetter_cff.specs.Read.Entries.Operators.{subroutines_operator}
 use Rattle.subsetter_cff.specs.Write.NewDicts.Rewritten.{is_refused, written_entries, written_entry, written_if_there, rewritten_private, IsCopied, Rewrites}
-use Rattle.subsetter_base.specs.Gives.{behind}
+use Rattle.subsetter_base.specs.Gives.{following}
 
 -- ---- an entry
 refused_or : (b c : Bool) (o : Option Error) → o ≡ cond c (Some OverflowError) None → option_or (cond b (Some OverflowError) None) o ≡ cond (b || c) (Some OverflowError) None
@@ -33,18 +33,18 @@ pub refusal_is : (xs : List StoredNumber) → first_refusal (λ x. cond (is_too_
 refusal_is [] = refl
 refusal_is (x ∷ xs) = refused_or (is_too_long (number_of x)) (list_any is_too_long (map number_of xs)) _ (refusal_is xs)
 
--- ---- an entry in front of others
-in_front : (b c : Bool) (front here more : List ℕ) → behind front (cond (b || c) (Err OverflowError) (Ok (here ++ more)))
-    ≡ (behind front (cond b (Err OverflowError) (Ok here)) >>= λ new. behind new (cond c (Err OverflowError) (Ok more)))
+-- ---- an entry before others
+in_front : (b c : Bool) (front here more : List ℕ) → following front (cond (b || c) (Err OverflowError) (Ok (here ++ more)))
+    ≡ (following front (cond b (Err OverflowError) (Ok here)) >>= λ new. following new (cond c (Err OverflowError) (Ok more)))
 in_front true c front here more = refl
 in_front false true front here more = refl
 in_front false false front here more = ap (λ (l : List ℕ). Ok l) (sym (append_assoc front here more))
 
-pub entry_in_front : (front : List ℕ) (e : Entry) (es : List Entry) → behind front (written_entries (e ∷ es)) ≡ (behind front (written_entry e.operator e.operands) >>= λ new. behind new (written_entries es))
+pub entry_in_front : (front : List ℕ) (e : Entry) (es : List Entry) → following front (written_entries (e ∷ es)) ≡ (following front (written_entry e.operator e.operands) >>= λ new. following new (written_entries es))
 unfolding written_entries written_entry
 entry_in_front front e es = in_front (is_refused e) (list_any is_refused es) front (entry_bytes (plain_entry e.operator e.operands)) (dict (rewritten_entries es))
 
-pub no_entries : (front : List ℕ) → behind front (written_entries []) ≡ Ok front
+pub no_entries : (front : List ℕ) → following front (written_entries []) ≡ Ok front
 unfolding written_entries
 no_entries front = ap (λ (l : List ℕ). Ok l) (append-nil front)
 
@@ -79,36 +79,36 @@ none_left (Some e) h = absurd (none-some (e.0.operator, e.1) (sym h))
 
 -- an entry of subroutines is left out
 pub left_out : (front bytes operator rest : List ℕ) → operator_part (entry_at bytes) ≡ Some (operator, rest) → bytes_eq operator subroutines_operator ≡ true
-    → behind front (written_entries (without subroutines_operator (entries bytes))) ≡ behind front (written_entries (without subroutines_operator (entries rest)))
+    → following front (written_entries (without subroutines_operator (entries bytes))) ≡ following front (written_entries (without subroutines_operator (entries rest)))
 left_out front bytes operator rest h out =
     let f = found bytes operator rest h in
     rw (entries_are bytes rest f.entry f.is, f.same, out) refl
 
 taken_as : (front bytes rest : List ℕ) (e : Entry) → entry_at bytes ≡ Some (e, rest) → bytes_eq e.operator subroutines_operator ≡ false
-    → (behind front (written_if_there e.operator (operands_at operand_limit bytes)) >>= λ new. behind new (written_entries (without subroutines_operator (entries rest))))
-    ≡ behind front (written_entries (without subroutines_operator (entries bytes)))
+    → (following front (written_if_there e.operator (operands_at operand_limit bytes)) >>= λ new. following new (written_entries (without subroutines_operator (entries rest))))
+    ≡ following front (written_entries (without subroutines_operator (entries bytes)))
 unfolding operands_at
 taken_as front bytes rest e is out =
     rw (entries_are bytes rest e is, is, out) (sym (entry_in_front front (limited e) (without subroutines_operator (entries rest))))
 
 -- any other is written
 pub taken : (front bytes operator rest : List ℕ) → operator_part (entry_at bytes) ≡ Some (operator, rest) → bytes_eq operator subroutines_operator ≡ false
-    → (behind front (written_if_there operator (operands_at operand_limit bytes)) >>= λ new. behind new (written_entries (without subroutines_operator (entries rest))))
-    ≡ behind front (written_entries (without subroutines_operator (entries bytes)))
+    → (following front (written_if_there operator (operands_at operand_limit bytes)) >>= λ new. following new (written_entries (without subroutines_operator (entries rest))))
+    ≡ following front (written_entries (without subroutines_operator (entries bytes)))
 taken front bytes operator rest h out =
     let f = found bytes operator rest h in
-    ap (λ (o : List ℕ). behind front (written_if_there o (operands_at operand_limit bytes)) >>= λ new. behind new (written_entries (without subroutines_operator (entries rest)))) (sym f.same)
+    ap (λ (o : List ℕ). following front (written_if_there o (operands_at operand_limit bytes)) >>= λ new. following new (written_entries (without subroutines_operator (entries rest)))) (sym f.same)
     ∙ taken_as front bytes rest f.entry f.is (ap (λ (l : List ℕ). bytes_eq l subroutines_operator) f.same ∙ out)
 
-pub at_end : (front bytes : List ℕ) → operator_part (entry_at bytes) ≡ None → behind front (written_entries (without subroutines_operator (entries bytes))) ≡ Ok front
+pub at_end : (front bytes : List ℕ) → operator_part (entry_at bytes) ≡ None → following front (written_entries (without subroutines_operator (entries bytes))) ≡ Ok front
 at_end front bytes h = rw (entries_step bytes, none_left (entry_at bytes) h) (no_entries front)
 
 -- the same, as the parser says it: the buffer's room, and the operands that it shows
 pub taken_by : (front bytes operator rest : List ℕ) (limit : ℕ) (xs : List Number) → operator_part (entry_at bytes) ≡ Some (operator, rest) → bytes_eq operator subroutines_operator ≡ false → limit ≡ operand_limit → Some xs ≡ operands_at limit bytes
-    → (behind front (written_entry operator xs) >>= λ new. behind new (written_entries (without subroutines_operator (entries rest))))
-    ≡ behind front (written_entries (without subroutines_operator (entries bytes)))
+    → (following front (written_entry operator xs) >>= λ new. following new (written_entries (without subroutines_operator (entries rest))))
+    ≡ following front (written_entries (without subroutines_operator (entries bytes)))
 taken_by front bytes operator rest limit xs h out room shown =
-    ap (λ (o : Option (List Number)). behind front (written_if_there operator o) >>= λ new. behind new (written_entries (without subroutines_operator (entries rest)))) (shown ∙ ap (λ (n : ℕ). operands_at n bytes) room)
+    ap (λ (o : Option (List Number)). following front (written_if_there operator o) >>= λ new. following new (written_entries (without subroutines_operator (entries rest)))) (shown ∙ ap (λ (n : ℕ). operands_at n bytes) room)
     ∙ taken front bytes operator rest h out
 
 -- ---- entries that stand as they are written
@@ -118,13 +118,13 @@ plain_written operator bytes rest e = rw e.accepted refl
 
 -- such an entry is copied
 plain_taken : (front bytes operator rest : List ℕ) (e : IsEntryAndRest operand_limit operator bytes rest) → operator_part (entry_at bytes) ≡ Some (operator, rest) → bytes_eq operator subroutines_operator ≡ false
-    → behind (front ++ entry_bytes (plain_entry operator e.numbers)) (written_entries (without subroutines_operator (entries rest))) ≡ behind front (written_entries (without subroutines_operator (entries bytes)))
+    → following (front ++ entry_bytes (plain_entry operator e.numbers)) (written_entries (without subroutines_operator (entries rest))) ≡ following front (written_entries (without subroutines_operator (entries bytes)))
 plain_taken front bytes operator rest e h out =
-    ap (λ (r : Result (List ℕ) Error). behind front r >>= λ new. behind new (written_entries (without subroutines_operator (entries rest)))) (sym (plain_written operator bytes rest e))
+    ap (λ (r : Result (List ℕ) Error). following front r >>= λ new. following new (written_entries (without subroutines_operator (entries rest)))) (sym (plain_written operator bytes rest e))
     ∙ taken_by front bytes operator rest operand_limit e.numbers h out refl (plain_operands operator bytes rest e)
 
 pub copied_none : (bytes : List ℕ) → IsCopied bytes bytes
-copied_none bytes = record { text = []; is = refl; copies = λ front. ap (λ (l : List ℕ). behind l (rewritten_private bytes)) (append-nil front) }
+copied_none bytes = record { text = []; is = refl; copies = λ front. ap (λ (l : List ℕ). following l (rewritten_private bytes)) (append-nil front) }
 
 pub copied_more : (bytes rest operator more : List ℕ) → IsCopied bytes rest → plain_at rest ≡ Some (operator, more) → bytes_eq operator subroutines_operator ≡ false → IsCopied bytes more
 unfolding rewritten_private
@@ -135,7 +135,7 @@ copied_more bytes rest operator more c h out =
       text = c.text ++ text;
       is = c.is ∙ ap (λ (l : List ℕ). c.text ++ l) e.is ∙ sym (append_assoc c.text text more);
       copies = λ front.
-          ap (λ (l : List ℕ). behind l (written_entries (without subroutines_operator (entries more)))) (sym (append_assoc front c.text text))
+          ap (λ (l : List ℕ). following l (written_entries (without subroutines_operator (entries more)))) (sym (append_assoc front c.text text))
           ∙ plain_taken (front ++ c.text) rest operator more e (plain_operator rest operator more h) out
           ∙ c.copies front;
     }
@@ -144,12 +144,12 @@ pub copied_shorter : (bytes rest : List ℕ) → IsCopied bytes rest → length 
 copied_shorter bytes rest c = omega (arith, ap length c.is, length-append c.text rest)
 
 -- they are written as a part of the bytes
-pub copied_from : (old bytes rest now : List ℕ) → IsCopied bytes rest → now ≡ old ++ take (length bytes - length rest) bytes → behind now (rewritten_private rest) ≡ behind old (rewritten_private bytes)
+pub copied_from : (old bytes rest now : List ℕ) → IsCopied bytes rest → now ≡ old ++ take (length bytes - length rest) bytes → following now (rewritten_private rest) ≡ following old (rewritten_private bytes)
 copied_from old bytes rest now c written =
-    ap (λ (l : List ℕ). behind l (rewritten_private rest)) (written ∙ ap (λ (l : List ℕ). old ++ l) (front_of bytes c.text rest c.is)) ∙ c.copies old
+    ap (λ (l : List ℕ). following l (rewritten_private rest)) (written ∙ ap (λ (l : List ℕ). old ++ l) (front_of bytes c.text rest c.is)) ∙ c.copies old
 
 -- a rest that is written on, seen from further in front
-pub rewrites_from : (old now bytes rest new : List ℕ) (more : Option (List ℕ)) → behind now (rewritten_private rest) ≡ behind old (rewritten_private bytes) → length rest ≤ length bytes → Rewrites now rest new more → Rewrites old bytes new more
+pub rewrites_from : (old now bytes rest new : List ℕ) (more : Option (List ℕ)) → following now (rewritten_private rest) ≡ following old (rewritten_private bytes) → length rest ≤ length bytes → Rewrites now rest new more → Rewrites old bytes new more
 rewrites_from old now bytes rest new None same le r = sym same ∙ r
 rewrites_from old now bytes rest new (Some left) same le r = (r.0 ∙ same, let less = r.1 in omega arith)
 

@@ -17,7 +17,7 @@ operands_are : (xs : List StoredNumber) → flat_map (λ x. number (number_of x)
 operands_are [] = refl
 operands_are (x ∷ xs) = ap (λ (l : List ℕ). number (number_of x) ++ l) (operands_are xs)
 
--- numbers and then an operator, behind what was written before
+-- numbers and then an operator, after what was written before
 pub written_entry_is : (old operator : List ℕ) (xs : List StoredNumber) → (old ++ flat_map (λ x. number (number_of x)) xs) ++ operator ≡ old ++ entry_bytes (plain_entry operator (map number_of xs))
 written_entry_is old operator xs = append_assoc old _ operator ∙ ap (λ (l : List ℕ). old ++ (l ++ operator)) (operands_are xs)
 

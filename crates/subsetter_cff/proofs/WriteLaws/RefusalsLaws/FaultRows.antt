@@ -12,20 +12,20 @@ use Rattle.subsetter_cffdata.specs.Dicts.Operands.{offset_operand, string_operan
 use Rattle.subsetter_type2.specs.Token.{token_of, effect_of}
 use Rattle.subsetter_type2.specs.Runs.Machine.{act_at, run, outcome}
 use Rattle.subsetter_cff.specs.Read.Strings.{string_of, string_at}
-use Rattle.subsetter_cff.specs.Read.Cff.{behind_header, name_index, top_index, string_index, subroutine_index, top_dict, name_bytes, cff_parts, at_offset, char_strings}
+use Rattle.subsetter_cff.specs.Read.Cff.{past_header, name_index, top_index, string_index, subroutine_index, top_dict, name_bytes, cff_parts, at_offset, char_strings}
 use Rattle.subsetter_cff.specs.Read.FdArray.Private.{private_at, private_of}
 use Rattle.subsetter_cff.specs.Read.Entries.Operators.{copyright_operator}
 use Rattle.subsetter_cff.specs.Read.Opened.{opened_parts, opened}
 use Rattle.subsetter_cff.specs.Write.Plain.{kept_glyph, parts_for, counted_parts, parts_of, cff_subset}
 use Rattle.subsetter_cff.specs.Read.Fault.{NamesNoString}
 
--- the table of 27 bytes with two bytes in front of the operator of Copyright
+-- the table of 27 bytes with two bytes before the operator of Copyright
 abbrev with_copyright : ℕ → ℕ → List ℕ
 with_copyright a b = 1 ∷ 0 ∷ 4 ∷ 1 ∷ 0 ∷ 1 ∷ 1 ∷ 1 ∷ 2 ∷ 0x41 ∷ 0 ∷ 1 ∷ 1 ∷ 1 ∷ 7 ∷ a ∷ b ∷ 12 ∷ 0 ∷ 0xA4 ∷ 17 ∷ 0 ∷ 0 ∷ 0 ∷ 0 ∷ 0 ∷ 1 ∷ 1 ∷ 1 ∷ 2 ∷ 0x0E ∷ []
 
 -- two operands, where one is demanded
 two_operands : cff_subset (with_copyright 0x8B 0x8B) 1000000 64 (0 ∷ []) ≡ Err MalformedFont
-unfolding cff_subset opened opened_parts cff_parts behind_header name_bytes name_index top_index top_dict string_index subroutine_index index_of index_body index_data byte card part entries entries_in entry_at entry_in dict_number_from integer_from short_integer char_strings at_offset offset_operand string_operand as_i32 as_u32 in_i32
+unfolding cff_subset opened opened_parts cff_parts past_header name_bytes name_index top_index top_dict string_index subroutine_index index_of index_body index_data byte card part entries entries_in entry_at entry_in dict_number_from integer_from short_integer char_strings at_offset offset_operand string_operand as_i32 as_u32 in_i32
 two_operands = refl
 
 abbrev copyright_twice : List Entry
@@ -42,7 +42,7 @@ none_is_named f = none-some f.number (ap string_operand (same_Some _ _ f.operand
 
 -- string 391, where there are none
 no_string : cff_subset (with_copyright 0xF8 0x1B) 1000000 64 (0 ∷ []) ≡ Err SubsetError
-unfolding cff_subset opened opened_parts cff_parts behind_header name_bytes name_index top_index top_dict string_index subroutine_index index_of index_body index_data byte card part entries entries_in entry_at entry_in dict_number_from integer_from short_integer char_strings at_offset offset_operand string_operand string_of as_i32 as_u32 in_i32 parts_of parts_for counted_parts kept_glyph private_of private_at outcome run act_at token_of effect_of
+unfolding cff_subset opened opened_parts cff_parts past_header name_bytes name_index top_index top_dict string_index subroutine_index index_of index_body index_data byte card part entries entries_in entry_at entry_in dict_number_from integer_from short_integer char_strings at_offset offset_operand string_operand string_of as_i32 as_u32 in_i32 parts_of parts_for counted_parts kept_glyph private_of private_at outcome run act_at token_of effect_of
 no_string = refl
 
 -- version 2, with fewer than three bytes: both faults stand

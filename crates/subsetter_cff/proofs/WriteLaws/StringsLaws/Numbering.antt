@@ -18,9 +18,9 @@ numbered (Some i) = refl
 pub number_is : (texts : List (List ℕ)) (s : List ℕ) → unwrap_or (option_map (λ i. standard_strings + i) (index_by bytes_eq texts s)) standard_strings ≡ standard_strings + unwrap_or (index_by bytes_eq texts s) 0
 number_is texts s = numbered (index_by bytes_eq texts s)
 
-pub behind_strings : (found xs ys : List (List ℕ)) → with_strings found (xs ++ ys) ≡ with_strings (with_strings found xs) ys
-behind_strings found [] ys = refl
-behind_strings found (x ∷ xs) ys = behind_strings (with_value bytes_eq found x) xs ys
+pub past_strings : (found xs ys : List (List ℕ)) → with_strings found (xs ++ ys) ≡ with_strings (with_strings found xs) ys
+past_strings found [] ys = refl
+past_strings found (x ∷ xs) ys = past_strings (with_value bytes_eq found x) xs ys
 
 longer : (b : Bool) (xs : List (List ℕ)) (x : List ℕ) → length (cond b xs (xs ++ x ∷ [])) ≤ length xs + 1
 longer true xs x = omega arith
@@ -36,7 +36,7 @@ unfolding strings
 all_numbered p t0 t1 t2 t3 t4 t5 t6 a b c d e0 e1 e2 e3 e4 e5 e6 is =
     let first = with_strings [] (codes "Adobe" ∷ codes "Identity" ∷ []) in
     let whole : with_strings [] (codes "Adobe" ∷ codes "Identity" ∷ (a ++ (b ++ (c ++ d)))) ≡ with_strings (with_strings (with_strings (with_strings first a) b) c) d =
-    behind_strings first a (b ++ (c ++ d)) ∙ behind_strings (with_strings first a) b (c ++ d) ∙ behind_strings (with_strings (with_strings first a) b) c d in
+    past_strings first a (b ++ (c ++ d)) ∙ past_strings (with_strings first a) b (c ++ d) ∙ past_strings (with_strings (with_strings first a) b) c d in
     rw (e6, e5, e4, e3, e2, e1, e0, is) (sym whole)
 
 dicts_same : (fs : List FontDictParts) → flat_map (λ (f : FontDict). custom_string f.name) (map font_dict_view fs) ≡ dict_texts fs

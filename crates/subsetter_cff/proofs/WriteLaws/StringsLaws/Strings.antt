@@ -23,10 +23,10 @@ pub record Has (xs : List (List ℕ)) (x : List ℕ) : Type 0 where
 same_bytes : (x : List ℕ) → bytes_eq x x ≡ true
 same_bytes x = (bytes_eq-Decides x x).1 refl
 
-found_behind : (y : List ℕ) (ys : List (List ℕ)) (x : List ℕ) (i : ℕ) (o : Option ℕ) → ((j : ℕ) → o ≡ Some j → slice_get ys j ≡ Some x)
+found_after : (y : List ℕ) (ys : List (List ℕ)) (x : List ℕ) (i : ℕ) (o : Option ℕ) → ((j : ℕ) → o ≡ Some j → slice_get ys j ≡ Some x)
     → option_map (λ i. i + 1) o ≡ Some i → slice_get (y ∷ ys) i ≡ Some x
-found_behind y ys x i None h e = absurd (none-some i e)
-found_behind y ys x i (Some j) h e = let step : suc j ≡ i = omega (arith, same_Some _ _ e) in rw (← step) (h j refl)
+found_after y ys x i None h e = absurd (none-some i e)
+found_after y ys x i (Some j) h e = let step : suc j ≡ i = omega (arith, same_Some _ _ e) in rw (← step) (h j refl)
 
 -- at its place stands the string
 pub place_found : (xs : List (List ℕ)) (x : List ℕ) (i : ℕ) → index_by bytes_eq xs x ≡ Some i → slice_get xs i ≡ Some x
@@ -34,7 +34,7 @@ place_found [] x i e = absurd (none-some i e)
 place_found (y ∷ ys) x i e =
     elim (cases_Bool (bytes_eq y x)) [
       | inl same ↦ (let zero : 0 ≡ i = same_Some _ _ (rw same at e) in rw (← zero) (ap Some ((bytes_eq-Decides y x).0 same)))
-      | inr other ↦ found_behind y ys x i (index_by bytes_eq ys x) (λ j h. place_found ys x j h) (rw other at e)
+      | inr other ↦ found_after y ys x i (index_by bytes_eq ys x) (λ j h. place_found ys x j h) (rw other at e)
     ]
 
 stays_step : (b : Bool) (o o' : Option ℕ) (i : ℕ) → ((j : ℕ) → o ≡ Some j → o' ≡ Some j) → cond b (Some 0) (option_map (λ i. i + 1) o) ≡ Some i → cond b (Some 0) (option_map (λ i. i + 1) o') ≡ Some i
@@ -77,12 +77,12 @@ grows : (b : Bool) (xs front : List (List ℕ)) (s : List ℕ) → (more : List 
 grows true xs front s h = h
 grows false xs front s h = (h.0 ++ s ∷ [], ap (λ (l : List (List ℕ)). l ++ s ∷ []) h.1 ∙ append_assoc front h.0 (s ∷ []))
 
-stay_behind : (found front more : List (List ℕ)) → (rest : List (List ℕ)) × (found ≡ front ++ rest) → (rest : List (List ℕ)) × (with_strings found more ≡ front ++ rest)
-stay_behind found front [] h = h
-stay_behind found front (s ∷ more) h = stay_behind (with_value bytes_eq found s) front more (grows (is_some (index_by bytes_eq found s)) found front s h)
+stay_after : (found front more : List (List ℕ)) → (rest : List (List ℕ)) × (found ≡ front ++ rest) → (rest : List (List ℕ)) × (with_strings found more ≡ front ++ rest)
+stay_after found front [] h = h
+stay_after found front (s ∷ more) h = stay_after (with_value bytes_eq found s) front more (grows (is_some (index_by bytes_eq found s)) found front s h)
 
 pub stay_first : (found more : List (List ℕ)) → (rest : List (List ℕ)) × (with_strings found more ≡ found ++ rest)
-stay_first found more = stay_behind found found more ([], sym (append-nil found))
+stay_first found more = stay_after found found more ([], sym (append-nil found))
 
 pub get_at : {A : Type 0} (xs : List A) (i : ℕ) → i < length xs → (x : A) × (slice_get xs i ≡ Some x)
 get_at [] i lt = absurd (omega arith)

@@ -30,7 +30,7 @@ abbrev pub is_bare : List Number → Bool
 is_bare [] = true
 is_bare (x ∷ more) = false
 
--- the entry that begins there: its operator, whether it has no operands, and how many bytes are left behind it
+-- the entry that begins there: its operator, whether it has no operands, and how many bytes are left after it
 pub record IsEntryHere (bytes : List ℕ) (at : ℕ) (h : EntryHere) : Type 0 where
   pub operands : List Number
   pub is : entry_at (last bytes at) ≡ Some (record { operator = operator_of h.operator; operands = operands }, last bytes h.left)

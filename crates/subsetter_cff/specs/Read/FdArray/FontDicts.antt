@@ -27,7 +27,7 @@ select_at glyphs bytes = byte bytes >>= λ format.
 unfoldable pub font_dict_select : Cff → Option FontDictSelect
 font_dict_select cff = char_strings cff >>= λ all. at_offset cff font_dict_select_operator >>= select_at (length all)
 
--- of n ranges, each a first glyph and a font dict, and behind them the first glyph that is in none
+-- of n ranges, each a first glyph and a font dict, and after them the first glyph that is in none
 unfoldable pub in_ranges : ℕ → ℕ → List ℕ → Option ℕ
 in_ranges zero glyph bytes = None
 in_ranges (suc n) glyph bytes = do

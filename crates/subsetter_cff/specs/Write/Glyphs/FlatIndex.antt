@@ -1,4 +1,4 @@
--- An INDEX of items that stand one behind the other.
+-- An INDEX of items that stand one after the other.
 use Rattle.std.specs.Prelude.{◌≡◌, ℕ, ◌+◌, ◌==◌, if◌then◌else◌, List, [], ◌∷◌, ◌++◌, length}
 use Rattle.std.specs.Int.{bytes_high_first}
 use Rattle.std.specs.List.{concat}
@@ -20,6 +20,6 @@ single_header size =
 abbrev pub flat_index : List ℕ → List ℕ → List ℕ
 flat_index text ends = flat_header (length text) ends ++ text
 
--- it is the INDEX of the items, where each end is the offset behind one of them
+-- it is the INDEX of the items, where each end is the offset after one of them
 abbrev pub FlatIsIndex : Type 0
 FlatIsIndex = (items : List (List ℕ)) → flat_index (concat items) (offsets 1 items) ≡ index items

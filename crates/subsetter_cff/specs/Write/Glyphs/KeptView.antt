@@ -1,11 +1,11 @@
--- Kept glyphs in memory: the flattened charstrings one behind the other.
+-- Kept glyphs in memory: the flattened charstrings one after the other.
 use Rattle.std.specs.Prelude.{◌≡◌, ℕ, ◌+◌, List, [], ◌∷◌, ◌++◌, length, map, Result, Ok}
 use Rattle.std.specs.List.{concat}
 use Rattle.subsetter_base.specs.Bytes.{◌>>=◌}
 use Rattle.std.specs.Option.{ok_or}
 use Rattle.subsetter_base.specs.declared.error.Error.{Error}
 use Rattle.subsetter_base.specs.declared.error.Error.TheVariants.{MalformedFont}
-use Rattle.subsetter_base.specs.Gives.{behind}
+use Rattle.subsetter_base.specs.Gives.{following}
 use Rattle.subsetter_type2.specs.Flat.{flat_form}
 use Rattle.subsetter_cffdata.specs.Indexes.Index.{offsets}
 use Rattle.subsetter_cff.specs.declared.write.glyphs.kept_glyphs.Kept.{Kept}
@@ -46,13 +46,13 @@ pub record AreAllKept (cff : Cff) (tokens depth : ℕ) (glyphs : List ℕ) (k : 
   pub are : kept_glyphs cff tokens depth glyphs ≡ Ok kept
   pub shown : AreKept kept k
 
--- a glyph whose charstring stands behind others
-unfoldable pub kept_behind : List ℕ → Cff → ℕ → ℕ → ℕ → Result KeptGlyph Error
-kept_behind front cff tokens depth glyph = do
+-- a glyph whose charstring stands after others
+unfoldable pub kept_past : List ℕ → Cff → ℕ → ℕ → ℕ → Result KeptGlyph Error
+kept_past front cff tokens depth glyph = do
   number ← ok_or (source_number cff glyph) MalformedFont
   private ← ok_or (private_of cff glyph) MalformedFont
   charstring ← ok_or (char_string cff glyph) MalformedFont
-  bytes ← behind front (flat_form (library cff private) tokens depth charstring)
+  bytes ← following front (flat_form (library cff private) tokens depth charstring)
   Ok (record { number = number; bytes = bytes })
 
 -- one glyph more was kept
@@ -61,6 +61,6 @@ pub record KeepsNext (cff : Cff) (tokens depth glyph : ℕ) (old new : KeptGlyph
   pub is : kept_glyph cff tokens depth glyph ≡ Ok one
   pub put : IsPut old new one
 
--- glyphs in front of what is answered
+-- glyphs before what is answered
 abbrev pub with_kept : List KeptGlyph → Result (List KeptGlyph) Error → Result (List KeptGlyph) Error
 with_kept front read = read >>= λ more. Ok (front ++ more)

@@ -85,7 +85,7 @@ offset_entry operator place = record { operator = operator; operands = Long plac
 abbrev pub registry_entry : NewEntry
 registry_entry = plain_entry registry_operator (integer 391 ∷ integer 392 ∷ integer 0 ∷ [])
 
--- ---- the parts behind the top dict, as bytes
+-- ---- the parts after the top dict, as bytes
 -- Glyph 0 isn't in the charset. The others have their own number as CID, in one range of format 2 (section 13 "Charsets").
 unfoldable pub charset_bytes : ℕ → List ℕ
 charset_bytes glyphs = if nat_lt glyphs 2 then 0 ∷ [] else 2 ∷ (to_be_bytes w16 1 ++ to_be_bytes w16 (glyphs - 2))
@@ -115,7 +115,7 @@ entries_of_font_dict_by matrix size place name = plain_entry font_matrix_operato
 abbrev pub entries_of_font_dict : List (List ℕ) → ℕ → FontDict → List NewEntry
 entries_of_font_dict strings place f = entries_of_font_dict_by f.matrix (length (private_bytes f)) place (option_map (number_of strings) f.name)
 
--- font dicts whose private dicts stand one behind the other from a place on
+-- font dicts whose private dicts stand one after the other from a place on
 abbrev pub font_dicts_from : List (List ℕ) → ℕ → List FontDict → List (List ℕ)
 font_dicts_from strings place [] = []
 font_dicts_from strings place (f ∷ fs) = dict (entries_of_font_dict strings place f) ∷ font_dicts_from strings (place + length (private_bytes f)) fs
@@ -197,8 +197,8 @@ char_strings_offset p = fd_array_offset p + length (font_dicts_of p)
 abbrev pub table_offsets : Parts → Offsets
 table_offsets p = record { charset = charset_offset p; char_strings = char_strings_offset p; font_dicts = fd_array_offset p; select = fd_select_offset p }
 
-abbrev pub behind_front : Parts → List ℕ
-behind_front p = charset_of p ++ (privates p.font_dicts ++ (select_of p ++ (font_dicts_of p ++ index p.char_strings)))
+abbrev pub past_front : Parts → List ℕ
+past_front p = charset_of p ++ (privates p.font_dicts ++ (select_of p ++ (font_dicts_of p ++ index p.char_strings)))
 
 unfoldable pub cff_table : Parts → List ℕ
-cff_table p = front p (table_offsets p) ++ behind_front p
+cff_table p = front p (table_offsets p) ++ past_front p

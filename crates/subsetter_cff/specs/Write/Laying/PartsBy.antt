@@ -35,7 +35,7 @@ made_dict top dict = do
 abbrev pub only_font_dict : Private → FontDict
 only_font_dict private = record { matrix = unit_matrix; private = own_entries private; name = None }
 
--- font dicts behind others
+-- font dicts after others
 abbrev pub with_dicts : List FontDict → Result (List FontDict) Error → Result (List FontDict) Error
 with_dicts front read = read >>= λ more. Ok (front ++ more)
 

@@ -1,4 +1,4 @@
--- A new table, by its strings as they are numbered and its charstrings one behind the other.
+-- A new table, by its strings as they are numbered and its charstrings one after the other.
 use Rattle.std.specs.Prelude.{◌≡◌, ℕ, ◌+◌, List, [], ◌++◌, length, map}
 use Rattle.subsetter_cffdata.specs.Indexes.Index.{index}
 use Rattle.subsetter_cffdata.specs.Indexes.Owned.{views, FitIndex}
@@ -24,7 +24,7 @@ pub record ArePieces (texts : List (List ℕ)) (t : TableParts) (glyphs size : �
   pub font_dicts_size : x.font_dicts_size ≡ length (index (font_dicts_from texts (size + length (charset_bytes glyphs)) (new_dicts t)))
   pub fits : FitIndex (views x.font_dicts.items)
 
--- the places of pieces behind a front of a size
+-- the places of pieces after a front of a size
 abbrev pub offsets_by : ℕ → ℕ → ℕ → ℕ → ℕ → Offsets
 offsets_by size charset private select dicts = record {
   charset = size;
@@ -43,7 +43,7 @@ laid_by texts t glyphs chars =
 abbrev pub table_by : TableParts → List ℕ
 table_by t = laid_by (strings (parts_view t [])) t (length t.ends.items) (flat_index t.char_strings.items t.ends.items)
 
--- the two pieces, one behind the other
+-- the two pieces, one after the other
 abbrev pub table_bytes : CffPieces → List ℕ
 table_bytes t = t.front.items ++ t.char_strings.items
 

@@ -48,27 +48,27 @@ dict_limits place f = do
   end ← limit (is_offset (place + length (private_bytes f)))
   limit (short f.matrix)
 
--- of font dicts whose private dicts stand one behind the other from a place on
+-- of font dicts whose private dicts stand one after the other from a place on
 abbrev pub dicts_limits : ℕ → List FontDict → Result (Unit {0}) Error
 dicts_limits place [] = Ok tt
 dicts_limits place (f ∷ fs) = dict_limits place f >>= λ first. dicts_limits (place + length (private_bytes f)) fs
 
--- of what stands behind a front of a size
+-- of what stands after a front of a size
 unfoldable pub pieces_limits : List (List ℕ) → TableParts → ℕ → ℕ → Result (Unit {0}) Error
 pieces_limits texts t glyphs size = do
   place ← limit (is_offset (size + length (charset_bytes glyphs)))
   dicts ← dicts_limits (size + length (charset_bytes glyphs)) (new_dicts t)
   limit (has_index (font_dicts_from texts (size + length (charset_bytes glyphs)) (new_dicts t)))
 
--- of the places of pieces behind a front of a size
+-- of the places of pieces after a front of a size
 unfoldable pub offset_limits : ℕ → ℕ → ℕ → ℕ → ℕ → Result (Unit {0}) Error
 offset_limits size charset private select dicts = do
   privates ← limit (is_offset (size + charset))
-  behind_privates ← limit (is_offset (size + charset + private))
-  behind_select ← limit (is_offset (size + charset + private + select))
+  after_privates ← limit (is_offset (size + charset + private))
+  after_select ← limit (is_offset (size + charset + private + select))
   limit (is_offset (size + charset + private + select + dicts))
 
--- of what stands behind the front
+-- of what stands after the front
 unfoldable pub laid_limits : List (List ℕ) → TableParts → ℕ → ℕ → Result (Unit {0}) Error
 laid_limits texts t glyphs size =
     let charset = length (charset_bytes glyphs) in

@@ -1,7 +1,7 @@
 -- DICT entries of the source as they are written again.
 use Rattle.std.specs.Prelude.{◌≡◌, ℕ, ◌<◌, Bool, if◌then◌else◌, List, [], ◌++◌, length, Option, Some, None, Result, Ok, Err}
 use Rattle.std.specs.List.{list_any}
-use Rattle.subsetter_base.specs.Gives.{behind}
+use Rattle.subsetter_base.specs.Gives.{following}
 use Rattle.subsetter_base.specs.declared.error.Error.{Error}
 use Rattle.subsetter_base.specs.declared.error.Error.TheVariants.{OverflowError}
 use Rattle.subsetter_cffdata.specs.Numerals.Numbers.{Number, is_too_long}
@@ -32,13 +32,13 @@ written_if_there operator (Some xs) = written_entry operator xs
 unfoldable pub rewritten_private : List ℕ → Result (List ℕ) Error
 rewritten_private bytes = written_entries (without subroutines_operator (entries bytes))
 
--- entries in front of a rest are written as they stand
+-- entries before a rest are written as they stand
 pub record IsCopied (bytes rest : List ℕ) : Type 0 where
   pub text : List ℕ
   pub is : bytes ≡ text ++ rest
-  pub copies : (front : List ℕ) → behind (front ++ text) (rewritten_private rest) ≡ behind front (rewritten_private bytes)
+  pub copies : (front : List ℕ) → following (front ++ text) (rewritten_private rest) ≡ following front (rewritten_private bytes)
 
--- what is written now, behind a front, is a private dict's first entry where another rest follows it, else the whole dict
+-- what is written now, after a front, is a private dict's first entry where another rest follows it, else the whole dict
 abbrev pub Rewrites : List ℕ → List ℕ → List ℕ → Option (List ℕ) → Type 0
-Rewrites front bytes now None = behind front (rewritten_private bytes) ≡ Ok now
-Rewrites front bytes now (Some rest) = (behind now (rewritten_private rest) ≡ behind front (rewritten_private bytes)) × (length rest < length bytes)
+Rewrites front bytes now None = following front (rewritten_private bytes) ≡ Ok now
+Rewrites front bytes now (Some rest) = (following now (rewritten_private rest) ≡ following front (rewritten_private bytes)) × (length rest < length bytes)

@@ -40,7 +40,7 @@ pub record IsLaidOut (cff : Cff) (tokens depth : ℕ) (glyphs : List ℕ) (p : P
 abbrev pub written_indexes : Parts → List (List (List ℕ))
 written_indexes p = (dict (top_entries p (table_offsets p)) ∷ []) ∷ strings p ∷ font_dicts_from (strings p) (privates_offset p) p.font_dicts ∷ p.char_strings ∷ []
 
--- the lengths and offsets of private dicts that stand one behind the other from a place on
+-- the lengths and offsets of private dicts that stand one after the other from a place on
 abbrev pub private_offsets : ℕ → List FontDict → List ℕ
 private_offsets place [] = []
 private_offsets place (f ∷ fs) = length (private_bytes f) ∷ place ∷ private_offsets (place + length (private_bytes f)) fs

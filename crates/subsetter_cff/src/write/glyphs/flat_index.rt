@@ -1,4 +1,4 @@
-//! Writing an INDEX whose items are one behind the other (Technical Note 5176, section 5 "INDEX Data").
+//! Writing an INDEX whose items are one after the other (Technical Note 5176, section 5 "INDEX Data").
 
 ghost use Rattle.std.specs.Prelude.{◌≡◌, ◌≤◌, ◌<◌, ◌+◌, ◌*◌, ◌^◌, ◌++◌, length, nat_lt, OnOk, IfOk, IfErr};
 ghost use Rattle.subsetter_base.specs.Gives.{Gives};
@@ -11,7 +11,7 @@ use subsetter_base::error::Error;
 use subsetter_base::write::Writer;
 use subsetter_cffdata::indexes::index::{put_front, put_number, size_of_offset};
 
-/// Writes the offset behind each item.
+/// Writes the offset after each item.
 fn put_ends(size: u8, ends: &[usize], w: &mut Writer) -> Result<(), Error>
     requires { size ≤ 4 }
     ensures ok { OnOk result (w.new ≡ w.old ++ numbers size ends.now) }
@@ -23,7 +23,7 @@ fn put_ends(size: u8, ends: &[usize], w: &mut Writer) -> Result<(), Error>
     Ok(())
 }
 
-/// So many bytes of data are too many: the offset behind them has 32 bits.
+/// So many bytes of data are too many: the offset after them has 32 bits.
 const MAX_DATA: usize = 4294967295;
 
 /// The length of data together with one. Data of 4 GiB is `OverflowError`. It takes no memory.
@@ -38,7 +38,7 @@ fn total_of(size_of_data: usize) -> Result<u32, Error>
     Ok(size_of_data as u32 + 1)
 }
 
-/// Writes what is before the data of an INDEX: the data has a length, and each end is the offset behind an item, from 1
+/// Writes what is before the data of an INDEX: the data has a length, and each end is the offset after an item, from 1
 /// on. Data of 4 GiB is `OverflowError`.
 #[tactic(auto, unfolding(crate::specs::Write::Glyphs::FlatIndex::flat_header))]
 pub fn write_flat_header(size_of_data: usize, ends: &[usize], w: &mut Writer) -> Result<(), Error>

@@ -6,7 +6,7 @@ ghost use Rattle.subsetter_base.specs.Bytes.{IsBytes};
 ghost use Rattle.subsetter_base.specs.Within.{GivesWithin, FailsWithin};
 ghost use Rattle.subsetter_base.specs.declared.error.Error.TheVariants.{OutOfMemory};
 ghost use Rattle.subsetter_cff.specs.Read.Cff.{char_string};
-ghost use Rattle.subsetter_cff.specs.Write.Glyphs.KeptView.{kept_view, kept_behind, texts_size, AreKept, IsPut, AreAllKept, KeepsNext};
+ghost use Rattle.subsetter_cff.specs.Write.Glyphs.KeptView.{kept_view, kept_past, texts_size, AreKept, IsPut, AreAllKept, KeepsNext};
 ghost use Rattle.subsetter_cff.specs.Write.Plain.{source_number, kept_glyph, kept_glyphs};
 ghost use Rattle.subsetter_cff.specs.Read.FdArray.Private.{private_of};
 ghost use Rattle.subsetter_cff.specs.Read.FdArray.PrivateView.{private_view};
@@ -22,12 +22,12 @@ use subsetter_type2::limits::Limits;
 use subsetter_type2::runs::fixed_stack::FixedStack;
 use subsetter_type2::subroutines::SubroutineHandler;
 
-/// A glyph that is kept, behind others.
+/// A glyph that is kept, after others.
 #[derive(Drop)]
 pub struct Kept {
     /// The number of its font dict in the source.
     pub number: u8,
-    /// Its flattened charstring, behind those of the others.
+    /// Its flattened charstring, after those of the others.
     pub bytes: Vec<u8>,
 }
 
@@ -36,7 +36,7 @@ pub struct Kept {
 pub struct KeptGlyphs {
     /// The numbers of their font dicts in the source.
     pub numbers: Vec<u8>,
-    /// Their flattened charstrings, one behind the other.
+    /// Their flattened charstrings, one after the other.
     pub char_strings: Vec<u8>,
     /// Where each charstring ends, as an INDEX counts: from 1 on.
     pub ends: Vec<usize>,
@@ -76,8 +76,8 @@ fn find_char_string<'a>(source: &Table<'a>, glyph: u16) -> Option<&'a [u8]>
     source.char_strings.get(u32::from(glyph))
 }
 
-/// Flattens a glyph behind others. `OverflowError` where all of these pass the bound on bytes.
-#[tactic(auto, unfolding(crate::specs::Write::Glyphs::KeptView::kept_behind))]
+/// Flattens a glyph after others. `OverflowError` where all of these pass the bound on bytes.
+#[tactic(auto, unfolding(crate::specs::Write::Glyphs::KeptView::kept_past))]
 fn keep_glyph<'a>(
     source: &Table<'a>,
     limits: Limits,
@@ -86,14 +86,14 @@ fn keep_glyph<'a>(
     rests: &mut FixedStack<&'a [u8], 64>,
 ) -> Result<Kept, Error>
     requires { IsSource source.now }
-    ensures { GivesWithin kept_view limits.bytes (λ k. length k.bytes) result (kept_behind char_strings.items (cff_of source.now) limits.tokens limits.depth glyph) }
+    ensures { GivesWithin kept_view limits.bytes (λ k. length k.bytes) result (kept_past char_strings.items (cff_of source.now) limits.tokens limits.depth glyph) }
 {
     let number = source_number(source, glyph).ok_or(Error::MalformedFont)?;
     let private = find_private(source, glyph, number).ok_or(Error::MalformedFont)?;
     let char_string = find_char_string(source, glyph).ok_or(Error::MalformedFont)?;
     let global = SubroutineHandler::new(source.front.subroutines);
     let local = SubroutineHandler::new(private.subroutines);
-    let bytes = Decompiler::with_limits(global, local, limits).flatten_behind(
+    let bytes = Decompiler::with_limits(global, local, limits).flatten_after(
         char_strings,
         char_string,
         rests,

@@ -14,7 +14,7 @@ ghost use Rattle.subsetter_cff.specs.Write.NewDicts.TopDictView.{top_dict_of, of
 use crate::write::glyphs::flat_index::{single_size, write_single_header};
 use crate::write::laying::slice_index::write_index;
 use crate::write::laying::table::{TableParts, name_number};
-use crate::write::new_dicts::dicts::offset_behind;
+use crate::write::new_dicts::dicts::offset_after;
 use crate::write::new_dicts::top_dict::{
     OFFSETS_SIZE, Offsets, TopDict, write_named, write_offsets,
 };
@@ -29,7 +29,7 @@ const DRAFT_ROOM: usize = 384;
 /// A front before its offsets are known: as their offsets have five bytes each, its size is.
 #[derive(Drop)]
 pub struct FrontDraft {
-    /// The entries of the top dict without offsets, and behind them the String INDEX and the Global Subr INDEX.
+    /// The entries of the top dict without offsets, and after them the String INDEX and the Global Subr INDEX.
     pub text: Writer,
     /// How many bytes these entries have.
     pub named: usize,
@@ -97,7 +97,7 @@ fn sum_front(names: usize, top: usize, tail: usize) -> Result<usize, Error>
     ensures small { IfOk result (λ n. n < 2 ^ 31) }
     ensures checked { Gives (λ _. tt) result (limit (is_offset (4 + (names + (top + tail))))) }
 {
-    offset_behind(4, names.saturating_add(top.saturating_add(tail)))
+    offset_after(4, names.saturating_add(top.saturating_add(tail)))
 }
 
 /// The front but for its offsets. A real that is too long, an INDEX that is too large, and a front that passes 2147483647
@@ -113,7 +113,7 @@ pub fn draft_front(
 {
     let mut text = draft_top(alloc, table, remapper)?;
     let named = text.len();
-    let top = offset_behind(named, OFFSETS_SIZE)?;
+    let top = offset_after(named, OFFSETS_SIZE)?;
     put_tail(remapper, &mut text)?;
     let tail = text.len() - named;
     let size = sum_front(table.names.len(), single_size(top as u32), tail)?;

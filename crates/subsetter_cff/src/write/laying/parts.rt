@@ -71,7 +71,7 @@ fn new_font_dict<'a>(source: &Table<'a>, number: u8) -> Result<FontDictParts<'a>
 }
 
 /// The font dicts that are written for those of these numbers.
-#[tactic(auto, using(crate::proofs::WriteLaws::LayingLaws::PartsMade::none_behind))]
+#[tactic(auto, using(crate::proofs::WriteLaws::LayingLaws::PartsMade::none_following))]
 fn new_font_dicts<'a>(
     alloc: Global,
     source: &Table<'a>,

@@ -14,7 +14,7 @@ use crate::write::glyphs::flat_index::{header_room, write_flat_header};
 use crate::write::laying::front::{FrontDraft, draft_front, write_front};
 use crate::write::laying::table::{TableParts, number_strings};
 use crate::write::new_dicts::dicts::{
-    offset_behind, put_index, select_size, size_index, write_dicts, write_select,
+    offset_after, put_index, select_size, size_index, write_dicts, write_select,
 };
 use crate::write::new_dicts::top_dict::Offsets;
 use crate::write::strings::sid_remapper::SidRemapper;
@@ -37,16 +37,16 @@ pub struct Pieces {
     pub font_dicts_size: usize,
 }
 
-/// A new table, in two pieces: the second one is large, and needn't be copied behind the first.
+/// A new table, in two pieces: the second one is large, and needn't be copied after the first.
 #[derive(Drop)]
 pub struct CffPieces {
     /// What is before the charstrings' data.
     pub front: Vec<u8>,
-    /// The charstrings, one behind the other.
+    /// The charstrings, one after the other.
     pub char_strings: Vec<u8>,
 }
 
-/// The pieces behind a front of a size.
+/// The pieces after a front of a size.
 #[tactic(auto, unfolding(crate::specs::Write::Laying::TableLimits::pieces_limits))]
 fn write_pieces(
     alloc: Global,
@@ -60,7 +60,7 @@ fn write_pieces(
 {
     let charset = charset_size(glyphs);
     let select = select_size(table, glyphs);
-    let place = offset_behind(size, charset)?;
+    let place = offset_after(size, charset)?;
     let made = write_dicts(alloc, place, remapper, &table.font_dicts)?;
     let font_dicts_size = size_index(&made.dicts)?;
     Ok(Pieces {
@@ -72,17 +72,17 @@ fn write_pieces(
     })
 }
 
-/// Where the pieces stand behind a front of a size.
+/// Where the pieces stand after a front of a size.
 #[tactic(auto, unfolding(crate::specs::Write::Laying::TableLimits::offset_limits))]
 fn find_offsets(size: usize, pieces: &Pieces) -> Result<Offsets, Error>
     ensures offsets { IfOk result AreOffsets }
     ensures value { IfOk result (λ o. offsets_of o ≡ offsets_by size pieces.now.charset (length pieces.now.privates) pieces.now.select pieces.now.font_dicts_size) }
     ensures checked { Gives (λ _. tt) result (offset_limits size pieces.now.charset (length pieces.now.privates) pieces.now.select pieces.now.font_dicts_size) }
 {
-    let privates = offset_behind(size, pieces.charset)?;
-    let select = offset_behind(privates, pieces.privates.len())?;
-    let font_dicts = offset_behind(select, pieces.select)?;
-    let char_strings = offset_behind(font_dicts, pieces.font_dicts_size)?;
+    let privates = offset_after(size, pieces.charset)?;
+    let select = offset_after(privates, pieces.privates.len())?;
+    let font_dicts = offset_after(select, pieces.select)?;
+    let char_strings = offset_after(font_dicts, pieces.font_dicts_size)?;
     Ok(Offsets {
         charset: size as u32,
         char_strings: char_strings as u32,

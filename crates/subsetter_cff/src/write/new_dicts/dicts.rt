@@ -38,15 +38,15 @@ const OFFSETS: usize = 2147483648;
 /// Font dicts and their private dicts.
 #[derive(Drop)]
 pub struct WrittenDicts {
-    /// The private dicts, one behind the other.
+    /// The private dicts, one after the other.
     pub privates: Writer,
     /// The font dicts.
     pub dicts: Vec<Vec<u8>>,
 }
 
-/// The offset behind a piece. An offset is at most 2147483647: a greater one is `OverflowError`.
+/// The offset after a piece. An offset is at most 2147483647: a greater one is `OverflowError`.
 #[tactic(auto, using(crate::proofs::WriteLaws::LayingLaws::Offsets::offset_kept, crate::proofs::WriteLaws::LayingLaws::Offsets::offset_broken))]
-pub fn offset_behind(place: usize, size: usize) -> Result<usize, Error>
+pub fn offset_after(place: usize, size: usize) -> Result<usize, Error>
     ensures value { IfOk result (λ n. n ≡ place + size) }
     ensures small { OnOk result (place + size < 2 ^ 31) }
     ensures checked { Gives (λ _. tt) result (limit (is_offset (place + size))) }
@@ -95,7 +95,7 @@ fn font_dict_text(
     Ok(w.finish())
 }
 
-/// Puts a font dict behind others, whose private dicts stand from a place on.
+/// Puts a font dict after others, whose private dicts stand from a place on.
 #[tactic(auto, using(crate::proofs::WriteLaws::NewDictsLaws::DictsWritten::size_is), unfolding(crate::specs::Write::Laying::TableLimits::dict_limits))]
 fn put_dict(
     alloc: Global,
@@ -110,7 +110,7 @@ fn put_dict(
 {
     let start = made.privates.len();
     write_private(dict, &mut made.privates)?;
-    offset_behind(place, made.privates.len())?;
+    offset_after(place, made.privates.len())?;
     let size = made.privates.len() - start;
     let text = font_dict_text(alloc, remapper, dict, size, place + start)?;
     made.dicts.push(text)?;
@@ -139,7 +139,7 @@ pub fn write_dicts(
     Ok(made)
 }
 
-/// Whether the private dicts are longer than a bound on bytes. They are written, one behind the other, until they are; a real
+/// Whether the private dicts are longer than a bound on bytes. They are written, one after the other, until they are; a real
 /// that is too long ends that, and is told where the table is written.
 fn privates_pass(alloc: Global, dicts: &[FontDictParts<'_>], most: u32) -> Result<bool, Error>
     ensures past { IfOk result (λ b. b ≡ true → most < length (privates (map font_dict_view dicts.now))) }

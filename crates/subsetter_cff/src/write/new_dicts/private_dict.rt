@@ -3,7 +3,7 @@
 ghost use Rattle.std.specs.Prelude.{◌≡◌, drop, Some, OnOk, IfOk, IfErr};
 ghost use Rattle.std.specs.Option.{option_copied};
 ghost use Rattle.std.specs.Str.{bytes_eq};
-ghost use Rattle.subsetter_base.specs.Gives.{Fails, behind};
+ghost use Rattle.subsetter_base.specs.Gives.{Fails, following};
 ghost use Rattle.subsetter_cffdata.specs.Dicts.Dict.{entry_at, operand_limit};
 ghost use Rattle.subsetter_cffdata.specs.Dicts.Operands.{operands_at};
 ghost use Rattle.subsetter_cffdata.specs.Dicts.ParserView.{left, shown};
@@ -56,7 +56,7 @@ fn write_shown(
     requires entry { operator_part (entry_at bytes.now) ≡ Some (operator_of operator, left parser.now) }
     requires shown { Some (shown parser.now) ≡ operands_at operand_limit bytes.now }
     ensures ok { OnOk result (Rewrites w.old bytes.now w.new (Some (left parser.now))) }
-    ensures err { IfErr result (λ e. Fails e (behind w.old (rewritten_private bytes.now))) }
+    ensures err { IfErr result (λ e. Fails e (following w.old (rewritten_private bytes.now))) }
 {
     if is_subroutines(&operator) {
         return Ok(());
@@ -77,7 +77,7 @@ fn bytes_from(bytes: &[u8], at: usize) -> &[u8]
 #[inline(never)]
 fn write_long_entry<'a>(w: &mut Writer, bytes: &'a [u8]) -> Result<Option<&'a [u8]>, Error>
     ensures ok { IfOk result (λ rest. Rewrites w.old bytes.now w.new (option_copied rest)) }
-    ensures err { IfErr result (λ e. Fails e (behind w.old (rewritten_private bytes.now))) }
+    ensures err { IfErr result (λ e. Fails e (following w.old (rewritten_private bytes.now))) }
 {
     let mut operands = [Number::zero(); 48];
     let mut parser = DictionaryParser::new(bytes, &mut operands);
@@ -92,7 +92,7 @@ fn write_long_entry<'a>(w: &mut Writer, bytes: &'a [u8]) -> Result<Option<&'a [u
 /// read. A real that is too long is `OverflowError`. Nearly every entry with a real has one operand.
 fn write_entry<'a>(w: &mut Writer, bytes: &'a [u8]) -> Result<Option<&'a [u8]>, Error>
     ensures ok { IfOk result (λ rest. Rewrites w.old bytes.now w.new (option_copied rest)) }
-    ensures err { IfErr result (λ e. Fails e (behind w.old (rewritten_private bytes.now))) }
+    ensures err { IfErr result (λ e. Fails e (following w.old (rewritten_private bytes.now))) }
 {
     let mut operands = [Number::zero(); 2];
     let mut parser = DictionaryParser::new(bytes, &mut operands);
@@ -110,7 +110,7 @@ fn write_entry<'a>(w: &mut Writer, bytes: &'a [u8]) -> Result<Option<&'a [u8]>, 
 /// no further entry can be read. A real that is too long is `OverflowError`.
 fn write_run<'a>(w: &mut Writer, bytes: &'a [u8]) -> Result<Option<&'a [u8]>, Error>
     ensures ok { IfOk result (λ rest. Rewrites w.old bytes.now w.new (option_copied rest)) }
-    ensures err { IfErr result (λ e. Fails e (behind w.old (rewritten_private bytes.now))) }
+    ensures err { IfErr result (λ e. Fails e (following w.old (rewritten_private bytes.now))) }
 {
     let rest = skip_plain(bytes);
     let end = bytes.len() - rest.len();
@@ -121,8 +121,8 @@ fn write_run<'a>(w: &mut Writer, bytes: &'a [u8]) -> Result<Option<&'a [u8]>, Er
 
 /// Writes the entries of a private dict without those that lead to subroutines. A real that is too long is `OverflowError`.
 pub fn rewrite_private_dict(w: &mut Writer, private_dict: &[u8]) -> Result<(), Error>
-    ensures ok { OnOk result (behind w.old (rewritten_private private_dict.now) ≡ Ok w.new) }
-    ensures err { IfErr result (λ e. Fails e (behind w.old (rewritten_private private_dict.now))) }
+    ensures ok { OnOk result (following w.old (rewritten_private private_dict.now) ≡ Ok w.new) }
+    ensures err { IfErr result (λ e. Fails e (following w.old (rewritten_private private_dict.now))) }
 {
     let mut left = private_dict;
     while let Some(rest) = write_run(w, left)? {

@@ -151,11 +151,11 @@ module _ (s : Store) (outer inner : ℕ) where
   abbrev data_at : ℕ → Option ℕ
   data_at count = cond (nat_lt outer count) (nullable_offset s.bytes (8 + outer * 4)) None
 
-  abbrev row_behind : ℕ → Option Row
-  row_behind at = row_in s.bytes at inner
+  abbrev row_after : ℕ → Option Row
+  row_after at = row_in s.bytes at inner
 
   abbrev after_data_count : ℕ → Option Row
-  after_data_count count = data_at count >>= row_behind
+  after_data_count count = data_at count >>= row_after
 
   item_in_turn : item_row s outer inner ≡ (number s.bytes 6 2 >>= after_data_count)
   unfolding item_row
@@ -173,7 +173,7 @@ module _ (s : Store) (outer inner : ℕ) where
   item_steps : (r : Row) → item_row s outer inner ≡ Some r → ItemSteps r
   item_steps r h =
       let a = bind_some (number s.bytes 6 2) after_data_count r (sym item_in_turn ∙ h) in
-      let b = bind_some (data_at a.0) row_behind r a.2 in
+      let b = bind_some (data_at a.0) row_after r a.2 in
       let c = if_some (nat_lt outer a.0) (nullable_offset s.bytes (8 + outer * 4)) b.0 b.1 in
       let o = offset_some s.bytes (8 + outer * 4) b.0 c.1 in
       record { count = a.0; count_is = a.1; there = ltb-true outer a.0 c.0; at = b.0; at_is = o.0; not_null = o.1; row_is = b.2 }
@@ -182,7 +182,7 @@ module _ (s : Store) (outer inner : ℕ) where
   no_item_row h =
       elim (bind_none (number s.bytes 6 2) after_data_count (sym item_in_turn ∙ h)) [
         | inl k ↦ cut_data_count (number-short s.bytes 6 2 k)
-        | inr a ↦ elim (bind_none (data_at a.0) row_behind a.2) [
+        | inr a ↦ elim (bind_none (data_at a.0) row_after a.2) [
           | inl k ↦ elim (if_none (nat_lt outer a.0) (nullable_offset s.bytes (8 + outer * 4)) k) [
             | inl l ↦ no_data a.0 a.1 (ltb-false outer a.0 l)
             | inr l ↦ elim (offset_none s.bytes (8 + outer * 4) l.1) [

@@ -1,5 +1,5 @@
 -- An item variation store is refused exactly where it has a fault.
---   offset_some, offset_none, tail_some, tail_none   offsets, and the bytes behind them
+--   offset_some, offset_none, tail_some, tail_none   offsets, and the bytes after them
 --   store_steps, store_refused, other_store, store_clean
 use Rattle.std.proofs.Common.{◌≡◌, ◌≢◌, ℕ, ◌+◌, ◌*◌, ◌<◌, ◌≤◌, cond, List, length, drop, Option, Some, None, refl, sym, ap, subst, ◌∙◌, ◌⊎◌, inl, inr, arith}
 use Rattle.std.specs.Prelude.{◌==◌, nat_le}

@@ -9,7 +9,7 @@ use Rattle.subsetter_base.specs.declared.error.Error.TheVariants.{MalformedFont,
 use Rattle.subsetter_base.proofs.Results.{done, failed_is, bind_ok, bind_err, named_ok, named_err}
 use Rattle.subsetter_points.specs.Simple.{after}
 use Rattle.subsetter_variation.specs.Glyphs.Movement.{spent}
-use Rattle.subsetter_variation.proofs.GlyphsLaws.GvarFaults.{behind, behind_error, behind_named, behind_missing, spent_refused, too_few}
+use Rattle.subsetter_variation.proofs.GlyphsLaws.GvarFaults.{following, after_error, after_named, after_missing, spent_refused, too_few}
 use Rattle.subsetter_instance.specs.declared.glyphs.components.Arguments.{Arguments}
 use Rattle.subsetter_instance.specs.declared.glyphs.components.Arguments.TheVariants.{Offset, Points}
 use Rattle.subsetter_instance.specs.declared.glyphs.components.Component.{Component}
@@ -51,11 +51,11 @@ components_refused (suc steps) rest e h =
 components_stop : (steps : ℕ) (rest : List ℕ) (e : Error) → HasComponentFault steps rest e → components_at steps rest ≡ Err e
 unfolding components_at
 components_stop _ _ _ (no_step rest) = refl
-components_stop _ _ _ (cut_component steps rest none) = behind_missing (component_at rest) MalformedFont (next steps) none
+components_stop _ _ _ (cut_component steps rest none) = after_missing (component_at rest) MalformedFont (next steps) none
 components_stop _ _ e (later_component steps rest c is more f) =
-    behind_named (component_at rest) MalformedFont (next steps) c is
+    after_named (component_at rest) MalformedFont (next steps) c is
     ∙ ap (λ b. cond b (components_at steps c.1 >>= in_front c.0) (alone c.0 steps)) more
-    ∙ behind_error (components_at steps c.1) (in_front c.0) e (components_stop steps c.1 e f)
+    ∙ after_error (components_at steps c.1) (in_front c.0) e (components_stop steps c.1 e f)
 
 -- ---- a composite glyph before its components
 
@@ -91,13 +91,13 @@ module _ (s : Source) (at : List ℤ) (steps g : ℕ) (bytes : List ℕ) (m : Lo
 
   pub composite_stops : (e : Error) → HasCompositeFault s at steps g bytes e → composite s at steps g bytes m ≡ Err e
   unfolding composite
-  composite_stops _ (few_steps_for_glyph few) = behind_error (spent 5 steps) header_read OverflowError (too_few 5 steps few)
-  composite_stops _ (no_header left took none) = behind (spent 5 steps) header_read left took ∙ behind_missing (after 10 bytes) MalformedFont (body_read left) none
+  composite_stops _ (few_steps_for_glyph few) = after_error (spent 5 steps) header_read OverflowError (too_few 5 steps few)
+  composite_stops _ (no_header left took none) = following (spent 5 steps) header_read left took ∙ after_missing (after 10 bytes) MalformedFont (body_read left) none
   composite_stops e (in_components left body took is f) =
-      behind (spent 5 steps) header_read left took ∙ behind_named (after 10 bytes) MalformedFont (body_read left) body is ∙ behind_error (components_at left body) offset_by e (components_stop left body e f)
+      following (spent 5 steps) header_read left took ∙ after_named (after 10 bytes) MalformedFont (body_read left) body is ∙ after_error (components_at left body) offset_by e (components_stop left body e f)
   composite_stops e (in_offset_variations left body cs t took is cs_are varies f) =
-      behind (spent 5 steps) header_read left took ∙ behind_named (after 10 bytes) MalformedFont (body_read left) body is ∙ behind (components_at left body) offset_by cs cs_are
-      ∙ behind_error (moved s.gvar g (default_offsets cs.0) at cs.1) (made cs.0) e (variation_stops s.gvar t g (default_offsets cs.0) at cs.1 e varies f)
+      following (spent 5 steps) header_read left took ∙ after_named (after 10 bytes) MalformedFont (body_read left) body is ∙ following (components_at left body) offset_by cs cs_are
+      ∙ after_error (moved s.gvar g (default_offsets cs.0) at cs.1) (made cs.0) e (variation_stops s.gvar t g (default_offsets cs.0) at cs.1 e varies f)
 
 -- ---- a component where it is put
 
@@ -167,28 +167,28 @@ module _ (c : Component) (x y : ℤ) (before part : Unfolded) where
   shift_stops : (a : Arguments) → c.arguments ≡ a → (e : Error) → shift_by a (is_scaled c.flags c.matrix) x y before (transformed_xs c.matrix part.xs part.ys) (transformed_ys c.matrix part.xs part.ys) ≡ Err e → placed c x y before part ≡ Err e
   unfolding placed
   shift_stops a is e h =
-      behind_error (shift_by c.arguments (is_scaled c.flags c.matrix) x y before (transformed_xs c.matrix part.xs part.ys) (transformed_ys c.matrix part.xs part.ys)) by_shift e
+      after_error (shift_by c.arguments (is_scaled c.flags c.matrix) x y before (transformed_xs c.matrix part.xs part.ys) (transformed_ys c.matrix part.xs part.ys)) by_shift e
       (ap (λ k. shift_by k (is_scaled c.flags c.matrix) x y before (transformed_xs c.matrix part.xs part.ys) (transformed_ys c.matrix part.xs part.ys)) is ∙ h)
 
   pub part_stops : (steps : ℕ) (e : Error) → HasPlacingFault c x y before part e → with_part c x y before part steps ≡ Err e
   unfolding with_part matched
   part_stops steps _ (scaled_offset a b is t) =
-      behind_error (placed c x y before part) (λ p. in_range_or_fault p steps >>= λ near. joined_or_fault before near.0 near.1) Unimplemented
+      after_error (placed c x y before part) (λ p. in_range_or_fault p steps >>= λ near. joined_or_fault before near.0 near.1) Unimplemented
       (shift_stops (Offset a b) is Unimplemented (ap (λ k. cond k (Err Unimplemented) (done {A = ℤ × ℤ} (x, y))) t))
   part_stops steps _ (no_parent parent child is none) =
-      behind_error (placed c x y before part) (λ p. in_range_or_fault p steps >>= λ near. joined_or_fault before near.0 near.1) MalformedFont
-      (shift_stops (Points parent child) is MalformedFont (behind_missing (parent_point parent) MalformedFont (λ p. ok_or (child_point child) MalformedFont >>= λ q. Ok (p.0 -ℤ q.0, p.1 -ℤ q.1)) none))
+      after_error (placed c x y before part) (λ p. in_range_or_fault p steps >>= λ near. joined_or_fault before near.0 near.1) MalformedFont
+      (shift_stops (Points parent child) is MalformedFont (after_missing (parent_point parent) MalformedFont (λ p. ok_or (child_point child) MalformedFont >>= λ q. Ok (p.0 -ℤ q.0, p.1 -ℤ q.1)) none))
   part_stops steps _ (no_child parent child p is there none) =
-      behind_error (placed c x y before part) (λ p. in_range_or_fault p steps >>= λ near. joined_or_fault before near.0 near.1) MalformedFont
+      after_error (placed c x y before part) (λ p. in_range_or_fault p steps >>= λ near. joined_or_fault before near.0 near.1) MalformedFont
       (shift_stops (Points parent child) is MalformedFont
-      (behind_named (parent_point parent) MalformedFont (λ p. ok_or (child_point child) MalformedFont >>= λ q. Ok (p.0 -ℤ q.0, p.1 -ℤ q.1)) p there ∙ behind_missing (child_point child) MalformedFont (λ q. Ok (p.0 -ℤ q.0, p.1 -ℤ q.1)) none))
+      (after_named (parent_point parent) MalformedFont (λ p. ok_or (child_point child) MalformedFont >>= λ q. Ok (p.0 -ℤ q.0, p.1 -ℤ q.1)) p there ∙ after_missing (child_point child) MalformedFont (λ q. Ok (p.0 -ℤ q.0, p.1 -ℤ q.1)) none))
   part_stops steps _ (far_component p is far) =
-      behind (placed c x y before part) (λ p. in_range_or_fault p steps >>= λ near. joined_or_fault before near.0 near.1) p is ∙ behind_error (in_range_or_fault p steps) (λ near. joined_or_fault before near.0 near.1) OverflowError (far_stops p steps far)
+      following (placed c x y before part) (λ p. in_range_or_fault p steps >>= λ near. joined_or_fault before near.0 near.1) p is ∙ after_error (in_range_or_fault p steps) (λ near. joined_or_fault before near.0 near.1) OverflowError (far_stops p steps far)
   part_stops steps _ (many_points p is near many) =
-      behind (placed c x y before part) (λ p. in_range_or_fault p steps >>= λ near. joined_or_fault before near.0 near.1) p is ∙ behind (in_range_or_fault p steps) (λ near. joined_or_fault before near.0 near.1) (p, steps) (near_is p steps near)
+      following (placed c x y before part) (λ p. in_range_or_fault p steps >>= λ near. joined_or_fault before near.0 near.1) p is ∙ following (in_range_or_fault p steps) (λ near. joined_or_fault before near.0 near.1) (p, steps) (near_is p steps near)
       ∙ many_stop (nat_lt (length before.on + length p.on) 65536) p steps refl many
 
--- ---- one component behind the other
+-- ---- one component after the other
 
 abbrev pub joined_next : Child → Component → List Component → ℕ → List ℤ → List ℤ → Unfolded × ℕ → Unfolded × ℕ → Result (Unfolded × ℕ) Error
 joined_next child c cs k xs ys all part = with_component c (slice_index_or xs k (pos 0)) (slice_index_or ys k (pos 0)) all.0 part.0 part.1 >>= joined child cs (k + 1) xs ys
@@ -224,14 +224,14 @@ joined_refused child (c ∷ cs) k xs ys all e h =
       more = t.more;
       are = ap (λ l. c ∷ l) t.are;
       to = t.to;
-      to_is = behind (child all.1 c.glyph) (joined_next child c t.before k xs ys all) part part_is
-          ∙ behind (with_component c (slice_index_or xs k (pos 0)) (slice_index_or ys k (pos 0)) all.0 part.0 part.1) (joined child t.before (k + 1) xs ys) on on_is ∙ t.to_is;
+      to_is = following (child all.1 c.glyph) (joined_next child c t.before k xs ys all) part part_is
+          ∙ following (with_component c (slice_index_or xs k (pos 0)) (slice_index_or ys k (pos 0)) all.0 part.0 part.1) (joined child t.before (k + 1) xs ys) on on_is ∙ t.to_is;
       index = t.index;
       index_is = let is = t.index_is in omega arith;
       why = t.why;
     }
 
--- behind the components that are put
+-- after the components that are put
 pub joined_front : (child : Child) (before rest : List Component) (k : ℕ) (xs ys : List ℤ) (all to : Unfolded × ℕ) → joined child before k xs ys all ≡ Ok to → joined child (before ++ rest) k xs ys all ≡ joined child rest (k + length before) xs ys to
 unfolding joined
 joined_front child [] rest k xs ys all to h =
@@ -242,6 +242,6 @@ joined_front child (c ∷ before) rest k xs ys all to h =
     let a = bind_ok (child all.1 c.glyph) (joined_next child c before k xs ys all) to h in
     let b = bind_ok (with_component c (slice_index_or xs k (pos 0)) (slice_index_or ys k (pos 0)) all.0 a.0.0 a.0.1) (joined child before (k + 1) xs ys) to a.2 in
     let same : (k + 1) + length before ≡ k + length (c ∷ before) = omega arith in
-    behind (child all.1 c.glyph) (joined_next child c (before ++ rest) k xs ys all) a.0 a.1
-    ∙ behind (with_component c (slice_index_or xs k (pos 0)) (slice_index_or ys k (pos 0)) all.0 a.0.0 a.0.1) (joined child (before ++ rest) (k + 1) xs ys) b.0 b.1
+    following (child all.1 c.glyph) (joined_next child c (before ++ rest) k xs ys all) a.0 a.1
+    ∙ following (with_component c (slice_index_or xs k (pos 0)) (slice_index_or ys k (pos 0)) all.0 a.0.0 a.0.1) (joined child (before ++ rest) (k + 1) xs ys) b.0 b.1
     ∙ joined_front child before rest (k + 1) xs ys b.0 to b.2 ∙ ap (λ n. joined child rest n xs ys to) same

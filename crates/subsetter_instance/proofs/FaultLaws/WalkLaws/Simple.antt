@@ -11,7 +11,7 @@ use Rattle.subsetter_points.specs.Simple.{parts}
 use Rattle.subsetter_variation.specs.Glyphs.GvarFault.{HasVariationFault}
 use Rattle.subsetter_variation.specs.Glyphs.Movement.{Outline, spent}
 use Rattle.subsetter_variation.specs.Glyphs.Tuples.{Gvar}
-use Rattle.subsetter_variation.proofs.GlyphsLaws.GvarFaults.{behind, behind_error, behind_named, behind_missing, moving_refused, moving_stops, spent_refused, too_few}
+use Rattle.subsetter_variation.proofs.GlyphsLaws.GvarFaults.{following, after_error, after_named, after_missing, moving_refused, moving_stops, spent_refused, too_few}
 use Rattle.subsetter_sfnt.specs.declared.fields.hmtx.LongHorMetric.{LongHorMetric}
 use Rattle.subsetter_instance.specs.Source.{Source}
 use Rattle.subsetter_instance.specs.Glyphs.Unfolded.{Unfolded, are_near, moved, in_range_or_fault, simple_outline, unfolded_simple}
@@ -77,9 +77,9 @@ module _ (s : Source) (at : List ℤ) (steps g : ℕ) (bytes : List ℕ) (m : Lo
 
   pub simple_stops : (e : Error) → HasSimpleFault s at steps g bytes m e → unfolded_simple s at steps g bytes m ≡ Err e
   unfolding unfolded_simple
-  simple_stops _ (no_outline none) = behind_missing (parts bytes) MalformedFont simply_taken none
-  simple_stops _ (few_steps_for_points o is few) = behind_named (parts bytes) MalformedFont simply_taken o is ∙ behind_error (spent (length o.1 + 5) steps) (simply_moved o) OverflowError (too_few (length o.1 + 5) steps few)
+  simple_stops _ (no_outline none) = after_missing (parts bytes) MalformedFont simply_taken none
+  simple_stops _ (few_steps_for_points o is few) = after_named (parts bytes) MalformedFont simply_taken o is ∙ after_error (spent (length o.1 + 5) steps) (simply_moved o) OverflowError (too_few (length o.1 + 5) steps few)
   simple_stops e (in_point_variations o left t is took varies f) =
-      behind_named (parts bytes) MalformedFont simply_taken o is ∙ behind (spent (length o.1 + 5) steps) (simply_moved o) left took ∙ behind_error (moved s.gvar g (default_points o) at left) (simply_put o) e (variation_stops s.gvar t g (default_points o) at left e varies f)
+      after_named (parts bytes) MalformedFont simply_taken o is ∙ following (spent (length o.1 + 5) steps) (simply_moved o) left took ∙ after_error (moved s.gvar g (default_points o) at left) (simply_put o) e (variation_stops s.gvar t g (default_points o) at left e varies f)
   simple_stops _ (far_outline o left to is took move far) =
-      behind_named (parts bytes) MalformedFont simply_taken o is ∙ behind (spent (length o.1 + 5) steps) (simply_moved o) left took ∙ behind (moved s.gvar g (default_points o) at left) (simply_put o) to move ∙ far_stops (simple_outline bytes m o.0 o.1 to.0 to.1) to.2 far
+      after_named (parts bytes) MalformedFont simply_taken o is ∙ following (spent (length o.1 + 5) steps) (simply_moved o) left took ∙ following (moved s.gvar g (default_points o) at left) (simply_put o) to move ∙ far_stops (simple_outline bytes m o.0 o.1 to.0 to.1) to.2 far

@@ -6,7 +6,7 @@ use Rattle.subsetter_base.specs.Bytes.{◌>>=◌}
 use Rattle.subsetter_base.specs.declared.error.Error.{Error}
 use Rattle.subsetter_base.specs.declared.error.Error.TheVariants.{MalformedFont}
 use Rattle.subsetter_base.proofs.Results.{failed_is, bind_err, named_ok, named_err}
-use Rattle.subsetter_variation.proofs.GlyphsLaws.GvarFaults.{behind, behind_error, behind_named, behind_missing}
+use Rattle.subsetter_variation.proofs.GlyphsLaws.GvarFaults.{following, after_error, after_named, after_missing}
 use Rattle.subsetter_instance.specs.declared.glyphs.components.Component.{Component}
 use Rattle.subsetter_sfnt.specs.declared.fields.hmtx.LongHorMetric.{LongHorMetric}
 use Rattle.subsetter_instance.specs.Source.{Source, metric}
@@ -80,10 +80,10 @@ module _ (s : Source) (at : List ℤ) where
   unfolding unfolded unfolded_composite joined
   component_stops depth steps g c x y all e i h =
       let place : 0 + length i.before ≡ length i.before = omega arith in
-      behind_named (counted_description s g) MalformedFont (measured depth steps g) i.bytes i.description_is
-      ∙ behind_named (metric s g) MalformedFont (by_kind depth steps g i.bytes) i.m i.metric_is
+      after_named (counted_description s g) MalformedFont (measured depth steps g) i.bytes i.description_is
+      ∙ after_named (metric s g) MalformedFont (by_kind depth steps g i.bytes) i.m i.metric_is
       ∙ ap (λ b. cond b (unfolded_composite (unfolded depth s at) s at steps g i.bytes i.m) (unfolded_simple s at steps g i.bytes i.m)) i.kind
-      ∙ behind (composite s at steps g i.bytes i.m) (joined_of depth) i.it i.it_is
+      ∙ following (composite s at steps g i.bytes i.m) (joined_of depth) i.it i.it_is
       ∙ ap (λ cs. joined (unfolded depth s at) cs 0 i.it.xs i.it.ys (no_points i.it.left i.it.right, i.it.steps)) i.components_are
       ∙ joined_front (unfolded depth s at) i.before (c ∷ i.more) 0 i.it.xs i.it.ys (no_points i.it.left i.it.right, i.it.steps) all i.all_are
       ∙ ap (λ n. joined (unfolded depth s at) (c ∷ i.more) n i.it.xs i.it.ys all) place ∙ h
@@ -92,20 +92,20 @@ module _ (s : Source) (at : List ℤ) where
   pub walk_stops : (depth steps g : ℕ) (e : Error) → HasWalkFault s at depth steps g e → unfolded depth s at steps g ≡ Err e
   unfolding unfolded unfolded_composite
   walk_stops _ _ _ _ (too_deep steps g) = refl
-  walk_stops _ _ _ _ (in_description depth steps g f) = behind_missing (counted_description s g) MalformedFont (measured depth steps g) (description_missing s g f)
-  walk_stops _ _ _ _ (in_hmtx depth steps g bytes is f) = behind_named (counted_description s g) MalformedFont (measured depth steps g) bytes is ∙ behind_missing (metric s g) MalformedFont (by_kind depth steps g bytes) (hmtx_missing s g f)
+  walk_stops _ _ _ _ (in_description depth steps g f) = after_missing (counted_description s g) MalformedFont (measured depth steps g) (description_missing s g f)
+  walk_stops _ _ _ _ (in_hmtx depth steps g bytes is f) = after_named (counted_description s g) MalformedFont (measured depth steps g) bytes is ∙ after_missing (metric s g) MalformedFont (by_kind depth steps g bytes) (hmtx_missing s g f)
   walk_stops _ _ _ e (in_simple depth steps g bytes m is m_is kind f) =
-      behind_named (counted_description s g) MalformedFont (measured depth steps g) bytes is ∙ behind_named (metric s g) MalformedFont (by_kind depth steps g bytes) m m_is
+      after_named (counted_description s g) MalformedFont (measured depth steps g) bytes is ∙ after_named (metric s g) MalformedFont (by_kind depth steps g bytes) m m_is
       ∙ ap (λ b. cond b (unfolded_composite (unfolded depth s at) s at steps g bytes m) (unfolded_simple s at steps g bytes m)) kind ∙ simple_stops s at steps g bytes m e f
   walk_stops _ _ _ e (in_composite depth steps g bytes m is m_is kind f) =
-      behind_named (counted_description s g) MalformedFont (measured depth steps g) bytes is ∙ behind_named (metric s g) MalformedFont (by_kind depth steps g bytes) m m_is
-      ∙ ap (λ b. cond b (unfolded_composite (unfolded depth s at) s at steps g bytes m) (unfolded_simple s at steps g bytes m)) kind ∙ behind_error (composite s at steps g bytes m) (joined_of depth) e (composite_stops s at steps g bytes m e f)
+      after_named (counted_description s g) MalformedFont (measured depth steps g) bytes is ∙ after_named (metric s g) MalformedFont (by_kind depth steps g bytes) m m_is
+      ∙ ap (λ b. cond b (unfolded_composite (unfolded depth s at) s at steps g bytes m) (unfolded_simple s at steps g bytes m)) kind ∙ after_error (composite s at steps g bytes m) (joined_of depth) e (composite_stops s at steps g bytes m e f)
   walk_stops _ _ _ e (in_component depth steps g c x y all i f) =
-      component_stops depth steps g c x y all e i (behind_error (unfolded depth s at all.1 c.glyph) (joined_next (unfolded depth s at) c i.more (length i.before) i.it.xs i.it.ys all) e (walk_stops depth all.1 c.glyph e f))
+      component_stops depth steps g c x y all e i (after_error (unfolded depth s at all.1 c.glyph) (joined_next (unfolded depth s at) c i.more (length i.before) i.it.xs i.it.ys all) e (walk_stops depth all.1 c.glyph e f))
   walk_stops _ _ _ e (in_place depth steps g c x y all part i is f) =
       let next = λ (x y : ℤ). with_component c x y all.0 part.0 part.1 in
       component_stops depth steps g c x y all e i (
-      behind (unfolded depth s at all.1 c.glyph) (joined_next (unfolded depth s at) c i.more (length i.before) i.it.xs i.it.ys all) part is
-      ∙ behind_error (next (slice_index_or i.it.xs (length i.before) (pos 0)) (slice_index_or i.it.ys (length i.before) (pos 0))) (joined (unfolded depth s at) i.more (length i.before + 1) i.it.xs i.it.ys) e
+      following (unfolded depth s at all.1 c.glyph) (joined_next (unfolded depth s at) c i.more (length i.before) i.it.xs i.it.ys all) part is
+      ∙ after_error (next (slice_index_or i.it.xs (length i.before) (pos 0)) (slice_index_or i.it.ys (length i.before) (pos 0))) (joined (unfolded depth s at) i.more (length i.before + 1) i.it.xs i.it.ys) e
       (ap (λ x. next x (slice_index_or i.it.ys (length i.before) (pos 0))) i.x_is ∙ ap (next x) i.y_is ∙ part_stops c x y (with_metrics c.flags all.0 part.0) part.0 part.1 e f)
       )

@@ -134,7 +134,7 @@ same_tags t u h =
     opt_tags (codes "CFF ") t.cff u.cff _ _ h.cff (opt_tags (codes "cvt ") t.cvt u.cvt _ _ h.cvt (opt_tags (codes "fpgm") t.fpgm u.fpgm _ _ h.fpgm (opt_tags (codes "glyf") t.glyf u.glyf _ _ h.glyf (opt_tags (codes "head") t.head u.head _ _ h.head (opt_tags (codes "hhea") t.hhea u.hhea _ _ h.hhea
     (opt_tags (codes "hmtx") t.hmtx u.hmtx _ _ h.hmtx (opt_tags (codes "loca") t.loca u.loca _ _ h.loca (opt_tags (codes "maxp") t.maxp u.maxp _ _ h.maxp (opt_tags (codes "name") t.name u.name _ _ h.name (opt_tags (codes "post") t.post u.post _ _ h.post (opt_tags (codes "prep") t.prep u.prep [] [] h.prep refl)))))))))))
 
--- ---- tables that are put behind each other in turn
+-- ---- tables that are put after each other in turn
 
 pub twelve : (w w1 w2 w3 w4 w5 w6 w7 w8 w9 w10 w11 w12 a b c d e f g h i j k l : List Table) → w ≡ [] → w1 ≡ w ++ a → w2 ≡ w1 ++ b → w3 ≡ w2 ++ c → w4 ≡ w3 ++ d → w5 ≡ w4 ++ e → w6 ≡ w5 ++ f → w7 ≡ w6 ++ g → w8 ≡ w7 ++ h → w9 ≡ w8 ++ i → w10 ≡ w9 ++ j → w11 ≡ w10 ++ k → w12 ≡ w11 ++ l
     → w12 ≡ a ++ (b ++ (c ++ (d ++ (e ++ (f ++ (g ++ (h ++ (i ++ (j ++ (k ++ (l ++ [])))))))))))

@@ -93,9 +93,9 @@ summed_more bytes value done next size n h le four same is =
     front_of : (a b : ℕ) (l : List ℕ) → take a (take (a + b) l) ≡ take a l
     front_of a b l = take-take a (a + b) l (omega arith)
 
--- bytes more behind those that were summed
-pub summed_behind : (bytes more : List ℕ) (value done : ℕ) → IsSummed bytes value done → IsSummed (bytes ++ more) value done
-summed_behind bytes more value done h =
+-- bytes more after those that were summed
+pub summed_after : (bytes more : List ℕ) (value done : ℕ) → IsSummed bytes value done → IsSummed (bytes ++ more) value done
+summed_after bytes more value done h =
     let w = h.within in
     record {
       within = omega (arith, length-append bytes more);
@@ -103,7 +103,7 @@ summed_behind bytes more value done h =
       value_is = h.value_is ∙ ap (λ (l : List ℕ). weighed 0 l % 2 ^ 32) (sym (take-append-le done bytes more h.within));
     }
 
--- the sum of the first bytes and of those behind them
+-- the sum of the first bytes and of those after them
 pub summed_all : (bytes : List ℕ) (value done sum : ℕ) → IsSummed bytes value done → sum ≡ (value + weighed 0 (take (length bytes - done) (drop done bytes))) % 2 ^ 32 → sum ≡ checksum bytes
 summed_all bytes value done sum h is =
     let w = h.whole in

@@ -96,16 +96,16 @@ at_index P f (y ∷ ys) (suc i) x all lt is = at_index P f ys i x all.1 (omega a
 pub one_write : (w x a after : List ℕ) → after ≡ w ++ x → x ≡ a → after ≡ w ++ a
 one_write w x a after h is = h ∙ ap (λ (l : List ℕ). w ++ l) is
 
--- zeros behind bytes that have others in front of them, as many as a multiple of four
-pub aligned_behind : (out bytes : List ℕ) → length out % 4 ≡ 0 → aligned 4 (out ++ bytes) ≡ out ++ aligned 4 bytes
-aligned_behind out bytes multiple =
+-- zeros after bytes that have others before them, as many as a multiple of four
+pub aligned_after : (out bytes : List ℕ) → length out % 4 ≡ 0 → aligned 4 (out ++ bytes) ≡ out ++ aligned 4 bytes
+aligned_after out bytes multiple =
     let zeros : (4 - length (out ++ bytes) % 4) % 4 ≡ (4 - length bytes % 4) % 4 = omega (arith, length-append out bytes) in
     ap (λ (n : ℕ). (out ++ bytes) ++ replicate n 0) zeros ∙ append_assoc out bytes (replicate ((4 - length bytes % 4) % 4) 0)
 
--- bytes in the place of others, which have more behind them
+-- bytes in the place of others, which have more after them
 pub record Patched (old more piece new : List ℕ) (place size : ℕ) : Type 0 where
   pub front : take (place + size) new ≡ take place old ++ piece
-  pub behind : drop (place + size) new ≡ drop (place + size) old ++ more
+  pub following : drop (place + size) new ≡ drop (place + size) old ++ more
   pub len : length new ≡ length old + length more
 
 pub patched_in : (old more piece whole bytes new : List ℕ) (place size : ℕ) → whole ≡ old ++ more → bytes ≡ piece → length piece ≡ size → place + size ≤ length old
@@ -123,13 +123,13 @@ patched_in old more piece whole bytes new place size w b n within e =
     let at : length (take place old ++ piece) ≡ place + size = omega (arith, length-append (take place old) piece, length-take place old) in
     record {
       front = ap (take (place + size)) is ∙ take_at (take place old ++ piece) (drop (place + size) old ++ more) (place + size) at;
-      behind = ap (drop (place + size)) is ∙ drop_at (take place old ++ piece) (drop (place + size) old ++ more) (place + size) at;
+      following = ap (drop (place + size)) is ∙ drop_at (take place old ++ piece) (drop (place + size) old ++ more) (place + size) at;
       len = omega (arith, ap length is, length-append (take place old ++ piece) (drop (place + size) old ++ more), at, length-append (drop (place + size) old) more, length-drop (place + size) old);
     }
 
--- what is written at the end, seen from further behind
-pub behind_more : (new old b : List ℕ) (place start : ℕ) → drop place new ≡ drop place old ++ b → place ≤ start → start ≤ length old → drop start new ≡ drop start old ++ b
-behind_more new old b place start e le within =
+-- what is written at the end, seen from further after
+pub after_more : (new old b : List ℕ) (place start : ℕ) → drop place new ≡ drop place old ++ b → place ≤ start → start ≤ length old → drop start new ≡ drop start old ++ b
+after_more new old b place start e le within =
     let k = start - place in
     let at : start ≡ place + k = omega arith in
     let inside : k ≤ length (drop place old) = omega (arith, length-drop place old) in

@@ -10,6 +10,6 @@ invariant-loop-outline l = record {
   room : length l.out.items + length (glyf_bytes l.long l.outline-iterator) ≤ vec_capacity l.out;
   capacity : vec_capacity l.fn.out ≤ vec_capacity l.out;
   start : l.start ≡ length l.fn.out.items;
-  behind : l.start ≤ length l.out.items;
+  following : l.start ≤ length l.out.items;
   summed : IsSummed (drop l.start l.out.items) l.sum.value l.sum.done;
 }

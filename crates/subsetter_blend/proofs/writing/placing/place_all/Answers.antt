@@ -1,6 +1,6 @@
 use Rattle.std.proofs.Common.{pos, length, get_or, refl, sym, ◌∙◌, arith, rules, FitsSigned, w64, inr}
 use Rattle.std.proofs.lemmas.Int.{to_z-of_z}
-use Rattle.subsetter_blend.proofs.WritingLaws.Behind.{laid_more, laid_end, laid_none}
+use Rattle.subsetter_blend.proofs.WritingLaws.Following.{laid_more, laid_end, laid_none}
 use Rattle.subsetter_blend.proofs.writing.placing.place_all.Goals as goal
 
 pub returns-in_default-clause-err : goal.returns-in_default-clause-err

@@ -1,7 +1,7 @@
 use Rattle.std.proofs.Common.{◌≡◌, length, drop}
 use Rattle.subsetter_blend.specs.Writing.Laid.{laid}
 use Rattle.subsetter_blend.specs.Writing.Placed.{IsPosition, placed}
-use Rattle.subsetter_blend.proofs.WritingLaws.Behind.{fresh}
+use Rattle.subsetter_blend.proofs.WritingLaws.Following.{fresh}
 use Rattle.subsetter_blend.proofs.writing.placing.place_all.Given as goal
 
 abbrev pub invariant-loop-i : goal.invariant-loop-i

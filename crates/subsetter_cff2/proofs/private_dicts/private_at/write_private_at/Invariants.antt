@@ -2,12 +2,12 @@ use Rattle.std.proofs.Common.{◌≡◌, length}
 use Rattle.subsetter_cffdata.specs.Dicts.ParserView.{left}
 use Rattle.subsetter_cff2.specs.PrivateDicts.EntryLists.{entry_lists}
 use Rattle.subsetter_cff2.specs.PrivateDicts.PrivateAt.{at_start}
-use Rattle.subsetter_cff2.specs.PrivateDicts.PrivateText.{behind, placed_text}
+use Rattle.subsetter_cff2.specs.PrivateDicts.PrivateText.{following, placed_text}
 use Rattle.subsetter_cff2.proofs.private_dicts.private_at.write_private_at.Given as goal
 
 abbrev pub invariant-loop-operator : goal.invariant-loop-operator
 invariant-loop-operator l = record {
-  written : behind l.w (placed_text l.variation l.stack (entry_lists (left l.parser))) ≡ behind l.initial.w (placed_text l.variation at_start (entry_lists l.dict));
+  written : following l.w (placed_text l.variation l.stack (entry_lists (left l.parser))) ≡ following l.initial.w (placed_text l.variation at_start (entry_lists l.dict));
   room : length l.parser.operands.now ≡ 514;
 }
 

@@ -7,7 +7,7 @@ use Rattle.subsetter_sfnt.specs.Laying.Checksum.{checksum}
 use Rattle.subsetter_sfnt.specs.Laying.Written.{body, record_bytes, directory_bytes, fits, IsTable}
 use Rattle.subsetter_sfnt.specs.View.{view, views}
 use Rattle.subsetter_sfnt.proofs.Laws.LayingLaws.Checksum.{checksum-body, checksum_fits, length-aligned, none_left}
-use Rattle.subsetter_sfnt.proofs.Laws.LayingLaws.Written.{at_index, fitting, rounded, behind_more}
+use Rattle.subsetter_sfnt.proofs.Laws.LayingLaws.Written.{at_index, fitting, rounded, after_more}
 use Rattle.subsetter_sfnt.proofs.laying.construct.write_tables.Goals as goal
 
 pub loop-table-init : goal.loop-table-init
@@ -87,7 +87,7 @@ loop-table-preserved g c =
     let before : place + 16 ≤ start = omega (arith, c.loop-table.invariant.places, sizes) in
     record {
       written = ap (λ n. take (place + 16) new ++ directory_bytes n (views g.T.TableBytes.bytes_of others)) next ∙ one_more_written (take place out) (record_bytes at (view g.T.TableBytes.bytes_of t)) (directory_bytes (at + length (aligned 4 bytes)) (views g.T.TableBytes.bytes_of others)) _ (take (place + 16) new) w.record (ap (λ v. take place out ++ directory_bytes at v) (sym more) ∙ c.loop-table.invariant.written);
-      laid = one_more_written (drop start out) (aligned 4 bytes) (body (views g.T.TableBytes.bytes_of others)) _ (drop start new) (behind_more new out (aligned 4 bytes) (place + 16) start w.items before c.loop-table.invariant.long) (ap (λ (l : List ℕ). drop start out ++ l) (sym left) ∙ c.loop-table.invariant.laid);
+      laid = one_more_written (drop start out) (aligned 4 bytes) (body (views g.T.TableBytes.bytes_of others)) _ (drop start new) (after_more new out (aligned 4 bytes) (place + 16) start w.items before c.loop-table.invariant.long) (ap (λ (l : List ℕ). drop start out ++ l) (sym left) ∙ c.loop-table.invariant.laid);
       places = omega (arith, c.loop-table.invariant.places, sizes);
       long = omega (arith, w.len, c.loop-table.invariant.long);
       multiple = omega (arith, w.len, length-aligned bytes, c.loop-table.invariant.multiple);

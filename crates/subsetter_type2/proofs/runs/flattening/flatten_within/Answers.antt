@@ -5,16 +5,16 @@ use Rattle.subsetter_type2.specs.View.{rests_of}
 use Rattle.subsetter_type2.specs.Runs.MachineView.{registers_of}
 use Rattle.subsetter_type2.proofs.RunsLaws.RecursionLemmas.{unended_front}
 use Rattle.subsetter_type2.proofs.RunsLaws.Runs.{gives_fault}
-use Rattle.subsetter_type2.proofs.StretchesLaws.Stretches.{behind_stretch, fewer_tokens, length_rests}
-use Rattle.subsetter_type2.proofs.RunsLaws.BehindRuns.{behind_start, behind_over, behind_out, behind_fault, behind_more, behind_same, behind_deep, behind_stops, behind_fails, settled_past}
+use Rattle.subsetter_type2.proofs.StretchesLaws.Stretches.{after_stretch, fewer_tokens, length_rests}
+use Rattle.subsetter_type2.proofs.RunsLaws.AfterRuns.{after_start, after_over, past_out, after_fault, after_more, after_same, after_deep, after_stops, after_fails, settled_past}
 use Rattle.subsetter_type2.proofs.runs.flattening.flatten_within.Goals as goal
 
 pub loop-current-init : goal.loop-current-init
 loop-current-init g c =
     record {
-      reached = behind_start _ _ _ _ _ _ _ _ (ap (λ r. c.args.charstring.now ∷ rests_of r) c.clear.ensures)
-          (ap (registers_of (λ w. w)) c.new-machine.ensures ∙ ap (λ w. record { operands = w.operands; stems = 0; mask_len = 0 }) c.behind.ensures)
-          (ap (λ m. m.output.settled) c.new-machine.ensures ∙ ap (λ w. w.settled) c.behind.ensures);
+      reached = after_start _ _ _ _ _ _ _ _ (ap (λ r. c.args.charstring.now ∷ rests_of r) c.clear.ensures)
+          (ap (registers_of (λ w. w)) c.new-machine.ensures ∙ ap (λ w. record { operands = w.operands; stems = 0; mask_len = 0 }) c.following.ensures)
+          (ap (λ m. m.output.settled) c.new-machine.ensures ∙ ap (λ w. w.settled) c.following.ensures);
       room = omega (arith, ap length c.clear.ensures);
     }
 
@@ -22,39 +22,39 @@ pub returns-then-tokens-eq0 : goal.returns-then-tokens-eq0
 returns-then-tokens-eq0 g c =
     let s = c.in_ok-stretch.ensures in
     let room : length (rests_of c.innermost.new.rests) < c.args.limits.now.depth = omega (arith, c.in-Some.ensures.room, c.loop-current.invariant.room, length_rests c.innermost.new.rests) in
-    let came = behind_stretch _ _ _ _ _ _ _ _ _ _ _ _ _ _ c.loop-current.invariant.reached c.in-Some.ensures.rest s.leads room s.few in
+    let came = after_stretch _ _ _ _ _ _ _ _ _ _ _ _ _ _ c.loop-current.invariant.reached c.in-Some.ensures.rest s.leads room s.few in
     let rest = take (length c.in-Some.current.now - c.in_ok-stretch.stretch.len) (drop c.in_ok-stretch.stretch.len c.in-Some.current.now) in
     let some : 0 < length rest = search rules in
-    inl (behind_stops _ _ _ (behind_out _ _ _ _ _ _ _ came rest (rests_of c.innermost.new.rests) c.if-tokens-eq0.true (unended_front rest (rests_of c.innermost.new.rests) some)))
+    inl (after_stops _ _ _ (past_out _ _ _ _ _ _ _ came rest (rests_of c.innermost.new.rests) c.if-tokens-eq0.true (unended_front rest (rests_of c.innermost.new.rests) some)))
 
 pub returns-then-is_past : goal.returns-then-is_past
 returns-then-is_past g c =
     let s = c.in_ok-stretch.ensures in
     let room : length (rests_of c.innermost.new.rests) < c.args.limits.now.depth = omega (arith, c.in-Some.ensures.room, c.loop-current.invariant.room, length_rests c.innermost.new.rests) in
-    let came = behind_stretch _ _ _ _ _ _ _ _ _ _ _ _ _ _ c.loop-current.invariant.reached c.in-Some.ensures.rest s.leads room s.few in
+    let came = after_stretch _ _ _ _ _ _ _ _ _ _ _ _ _ _ c.loop-current.invariant.reached c.in-Some.ensures.rest s.leads room s.few in
     inr (refl, settled_past c.args.limits.now.bytes _ _ _ _ _ _ _ came (ap (is_past c.args.limits.now.bytes) (sym c.settled_len.ensures) ∙ sym c.if-is_past.ensures))
 
 pub returns-in_err-flow : goal.returns-in_err-flow
 returns-in_err-flow g c =
     let s = c.in_ok-stretch.ensures in
     let room : length (rests_of c.innermost.new.rests) < c.args.limits.now.depth = omega (arith, c.in-Some.ensures.room, c.loop-current.invariant.room, length_rests c.innermost.new.rests) in
-    let came = behind_stretch _ _ _ _ _ _ _ _ _ _ _ _ _ _ c.loop-current.invariant.reached c.in-Some.ensures.rest s.leads room s.few in
+    let came = after_stretch _ _ _ _ _ _ _ _ _ _ _ _ _ _ c.loop-current.invariant.reached c.in-Some.ensures.rest s.leads room s.few in
     let p = err_from_is_err_and c.from_residual-in_err-flow.result c.from_residual-in_err-flow.ensures.1 in
     let left = c.loop-current.tokens - c.in_ok-stretch.stretch.tokens in
     let n : left ≡ suc (left - 1) = omega arith in
     rw (p.1, p.2)
-    (inl (behind_fails _ _ _ (gives_fault _ _ (λ ne. behind_fault _ _ _ _ _ _ _ came _ _ _ n (unended_front _ _ (search rules)) _ (c.in_err-flow.ensures ne)))))
+    (inl (after_fails _ _ _ (gives_fault _ _ (λ ne. after_fault _ _ _ _ _ _ _ came _ _ _ n (unended_front _ _ (search rules)) _ (c.in_err-flow.ensures ne)))))
 
 pub loop-current-preserved-then-not-is_empty : goal.loop-current-preserved-then-not-is_empty
 loop-current-preserved-then-not-is_empty g c =
     let s = c.in_ok-stretch.ensures in
     let room : length (rests_of c.innermost.new.rests) < c.args.limits.now.depth = omega (arith, c.in-Some.ensures.room, c.loop-current.invariant.room, length_rests c.innermost.new.rests) in
-    let came = behind_stretch _ _ _ _ _ _ _ _ _ _ _ _ _ _ c.loop-current.invariant.reached c.in-Some.ensures.rest s.leads room s.few in
+    let came = after_stretch _ _ _ _ _ _ _ _ _ _ _ _ _ _ c.loop-current.invariant.reached c.in-Some.ensures.rest s.leads room s.few in
     let left = c.loop-current.tokens - c.in_ok-stretch.stretch.tokens in
     let n : left ≡ suc (left - 1) = omega arith in
     record {
-      reached = behind_same _ _ _ _ _ _ _ _ _
-          (behind_more _ _ _ _ _ _ _ came _ _ _ n (unended_front _ _ (search rules)) _ _ c.in_ok-flow.ensures refl c.in_ok-running.ensures.deep)
+      reached = after_same _ _ _ _ _ _ _ _ _
+          (after_more _ _ _ _ _ _ _ came _ _ _ n (unended_front _ _ (search rules)) _ _ c.in_ok-flow.ensures refl c.in_ok-running.ensures.deep)
           (sym c.in_ok-running.ensures.ok);
       room = c.in_ok-running.ensures.room;
     }
@@ -63,12 +63,12 @@ pub returns-in_err-running : goal.returns-in_err-running
 returns-in_err-running g c =
     let s = c.in_ok-stretch.ensures in
     let room : length (rests_of c.innermost.new.rests) < c.args.limits.now.depth = omega (arith, c.in-Some.ensures.room, c.loop-current.invariant.room, length_rests c.innermost.new.rests) in
-    let came = behind_stretch _ _ _ _ _ _ _ _ _ _ _ _ _ _ c.loop-current.invariant.reached c.in-Some.ensures.rest s.leads room s.few in
+    let came = after_stretch _ _ _ _ _ _ _ _ _ _ _ _ _ _ c.loop-current.invariant.reached c.in-Some.ensures.rest s.leads room s.few in
     let p = err_from_is_err_and c.from_residual-in_err-running.result c.from_residual-in_err-running.ensures.1 in
     let left = c.loop-current.tokens - c.in_ok-stretch.stretch.tokens in
     let n : left ≡ suc (left - 1) = omega arith in
     rw (p.1, p.2, c.in_err-running.ensures.err.0)
-    (inl (behind_stops _ _ _ (behind_deep _ _ _ _ _ _ _ came _ _ _ n (unended_front _ _ (search rules)) _ c.in_ok-flow.ensures c.in_err-running.ensures.err.1)))
+    (inl (after_stops _ _ _ (after_deep _ _ _ _ _ _ _ came _ _ _ n (unended_front _ _ (search rules)) _ c.in_ok-flow.ensures c.in_err-running.ensures.err.1)))
 
 pub loop-current-smaller : goal.loop-current-smaller
 loop-current-smaller g c =
@@ -80,10 +80,10 @@ loop-current-preserved g c =
     let s = c.in_ok-stretch.ensures in
     let room : length (rests_of c.innermost.new.rests) < c.args.limits.now.depth = omega (arith, c.in-Some.ensures.room, c.loop-current.invariant.room, length_rests c.innermost.new.rests) in
     record {
-      reached = behind_stretch _ _ _ _ _ _ _ _ _ _ _ _ _ _ c.loop-current.invariant.reached c.in-Some.ensures.rest s.leads room s.few;
+      reached = after_stretch _ _ _ _ _ _ _ _ _ _ _ _ _ _ c.loop-current.invariant.reached c.in-Some.ensures.rest s.leads room s.few;
       room = omega (arith, c.in-Some.ensures.room, c.loop-current.invariant.room);
     }
 
 pub returns : goal.returns
 returns g c =
-    behind_over _ _ _ _ _ _ _ c.loop-current.invariant.reached c.in_default.ensures.rest ∙ ap Ok (sym c.finish.ensures)
+    after_over _ _ _ _ _ _ _ c.loop-current.invariant.reached c.in_default.ensures.rest ∙ ap Ok (sym c.finish.ensures)

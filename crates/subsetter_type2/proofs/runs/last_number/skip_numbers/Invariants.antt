@@ -7,5 +7,5 @@ use Rattle.subsetter_type2.proofs.runs.last_number.skip_numbers.Given as goal
 abbrev pub invariant-loop : goal.invariant-loop
 invariant-loop l = record {
   inside : length l.rest ≤ length l.bytes;
-  behind : (numbers : List CharStringNumber) → AllFit numbers → l.bytes ≡ flat_operands numbers → l.count ≤ length numbers → l.rest ≡ flat_operands (drop l.counter numbers);
+  following : (numbers : List CharStringNumber) → AllFit numbers → l.bytes ≡ flat_operands numbers → l.count ≤ length numbers → l.rest ≡ flat_operands (drop l.counter numbers);
 }

@@ -3,7 +3,7 @@ use Rattle.std.specs.Option.{option_or}
 use Rattle.std.proofs.lemmas.List.{take_rest}
 use Rattle.subsetter_variation.specs.Glyphs.Inferred.{moved, first_touched}
 use Rattle.subsetter_variation.proofs.LocationsLaws.Bounds.{sum_kept}
-use Rattle.subsetter_variation.proofs.GlyphsLaws.Walk.{behind_touched, behind_untouched, none_left, moved_here}
+use Rattle.subsetter_variation.proofs.GlyphsLaws.Walk.{after_touched, after_untouched, none_left, moved_here}
 use Rattle.subsetter_variation.proofs.glyphs.contour.add_contour.Goals as goal
 use Rattle.subsetter_variation.proofs.glyphs.contour.add_contour.Goals.{in-Some, in_default}
 
@@ -25,12 +25,12 @@ now_added c =
 pub loop-k-preserved : goal.loop-k-preserved
 loop-k-preserved c = record {
   below = elim c.match-touched.branch [
-    | in-Some w ↦ w.before-is ∙ behind_touched c.args.contour.now c.loop-k.k (record { at = pos 0; delta = None }) w.in-Some.found c.loop-k-test.true (sym c.touched.ensures ∙ w.in-Some.is)
-    | in_default w ↦ w.before-is ∙ c.loop-k.invariant.below ∙ (behind_untouched c.args.contour.now c.loop-k.k (record { at = pos 0; delta = None }) c.loop-k-test.true (sym c.touched.ensures ∙ none_left c.touched.result w.in_default.not-Some)).0
+    | in-Some w ↦ w.before-is ∙ after_touched c.args.contour.now c.loop-k.k (record { at = pos 0; delta = None }) w.in-Some.found c.loop-k-test.true (sym c.touched.ensures ∙ w.in-Some.is)
+    | in_default w ↦ w.before-is ∙ c.loop-k.invariant.below ∙ (after_untouched c.args.contour.now c.loop-k.k (record { at = pos 0; delta = None }) c.loop-k-test.true (sym c.touched.ensures ∙ none_left c.touched.result w.in_default.not-Some)).0
   ];
   above = elim c.match-touched.branch [
     | in-Some w ↦ let t = take_rest c.args.contour.now (c.loop-k.k + 1) in w.after-is ∙ w.or-after.ensures ∙ ap (λ o. option_or o c.first_touched-first.result) (w.first_touched.ensures ∙ ap first_touched t) ∙ ap (λ o. option_or (first_touched (drop (c.loop-k.k + 1) c.args.contour.now)) o) c.first_touched-first.ensures
-    | in_default w ↦ w.after-is ∙ c.loop-k.invariant.above ∙ (behind_untouched c.args.contour.now c.loop-k.k (record { at = pos 0; delta = None }) c.loop-k-test.true (sym c.touched.ensures ∙ none_left c.touched.result w.in_default.not-Some)).1
+    | in_default w ↦ w.after-is ∙ c.loop-k.invariant.above ∙ (after_untouched c.args.contour.now c.loop-k.k (record { at = pos 0; delta = None }) c.loop-k-test.true (sym c.touched.ensures ∙ none_left c.touched.result w.in_default.not-Some)).1
   ];
   added = below_more _ _
       (λ j h. let ne : j ≢ c.loop-k.k = omega arith in rw get_or-set_other (c.loop-k.invariant.added j h))

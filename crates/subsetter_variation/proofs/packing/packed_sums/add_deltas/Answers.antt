@@ -18,10 +18,10 @@ run_length : (c : goal.In_ok-rest) → length (part_of c) ≡ c.from.result + 1
 unfolding past_of part_of
 run_length c = length_part c.loop-at.sums c.loop-at.at (past_of c) (omega arith) (omega arith) ∙ omega arith
 
-joined : (c : goal.In_ok-rest) → then_deltas (length c.args.sums.now - past_of c) (deltas_from (length (part_of c)) (run_of (length (part_of c)) c.in_ok-control.control c.in_ok-control.behind.now)) ≡ option_map (from_place c.loop-at.at) (deltas_from (length c.args.sums.now) (runs c.args.bytes.now))
+joined : (c : goal.In_ok-rest) → then_deltas (length c.args.sums.now - past_of c) (deltas_from (length (part_of c)) (run_of (length (part_of c)) c.in_ok-control.control c.in_ok-control.following.now)) ≡ option_map (from_place c.loop-at.at) (deltas_from (length c.args.sums.now) (runs c.args.bytes.now))
 unfolding past_of
 joined c =
-    sym (ap (λ b. deltas_from (length c.args.sums.now - c.loop-at.at) (runs b)) (byte_is c.loop-at.rest.now c.in_ok-control.control c.in_ok-control.behind.now c.in_ok-control.ensures) ∙ run_read (length c.args.sums.now) c.loop-at.at (length (part_of c)) (past_of c) c.in_ok-control.control c.in_ok-control.behind.now (omega (arith, run_length c)) (omega (arith, c.loop-at.auto.sums)) (run_length c ∙ omega (arith, c.from.ensures)))
+    sym (ap (λ b. deltas_from (length c.args.sums.now - c.loop-at.at) (runs b)) (byte_is c.loop-at.rest.now c.in_ok-control.control c.in_ok-control.following.now c.in_ok-control.ensures) ∙ run_read (length c.args.sums.now) c.loop-at.at (length (part_of c)) (past_of c) c.in_ok-control.control c.in_ok-control.following.now (omega (arith, run_length c)) (omega (arith, c.loop-at.auto.sums)) (run_length c ∙ omega (arith, c.from.ensures)))
     ∙ c.loop-at.invariant.read
 
 pub loop-at-preserved : goal.loop-at-preserved
@@ -30,7 +30,7 @@ loop-at-preserved c =
     let n = length c.args.sums.now in
     let at = c.loop-at.at in
     let w = length (part_of c) in
-    let run = deltas_from w (run_of w c.in_ok-control.control c.in_ok-control.behind.now) in
+    let run = deltas_from w (run_of w c.in_ok-control.control c.in_ok-control.following.now) in
     let long = run_length c in
     let u : at ≤ length c.loop-at.sums = omega arith in
     record {
@@ -64,7 +64,7 @@ returns-in_err-control-clause-bound c = of_none _ _ (no_first c)
 -- where it goes on past the last delta
 goes_past : (c : goal.Then-past-sums) → deltas (length c.args.sums.now) c.args.bytes.now ≡ None
 unfolding deltas
-goes_past c = past_here (length c.args.sums.now) c.loop-at.at c.in_ok-control.control c.loop-at.rest.now c.in_ok-control.behind.now _ (omega (arith, c.loop-at.auto.sums)) (omega (arith, c.from.ensures, c.loop-at.auto.sums)) c.in_ok-control.ensures c.loop-at.invariant.read
+goes_past c = past_here (length c.args.sums.now) c.loop-at.at c.in_ok-control.control c.loop-at.rest.now c.in_ok-control.following.now _ (omega (arith, c.loop-at.auto.sums)) (omega (arith, c.from.ensures, c.loop-at.auto.sums)) c.in_ok-control.ensures c.loop-at.invariant.read
 
 pub returns-then-past-sums-clause-rest : goal.returns-then-past-sums-clause-rest
 returns-then-past-sums-clause-rest c = sym (ap (option_map (λ d. d.1)) (goes_past c))
@@ -83,7 +83,7 @@ is_cut c =
     let past = at + c.from.result + 1 in
     let w = length (take (past - at) (drop at c.loop-at.sums)) in
     let long : w ≡ c.from.result + 1 = length_part c.loop-at.sums at past (omega arith) (omega arith) ∙ omega arith in
-    cut_run (length c.args.sums.now) at w past c.in_ok-control.control c.loop-at.rest.now c.in_ok-control.behind.now _ (omega (arith, long)) (omega (arith, c.loop-at.auto.sums)) (long ∙ omega (arith, c.from.ensures)) c.in_ok-control.ensures c.in_err-rest.ensures.rest c.loop-at.invariant.read
+    cut_run (length c.args.sums.now) at w past c.in_ok-control.control c.loop-at.rest.now c.in_ok-control.following.now _ (omega (arith, long)) (omega (arith, c.loop-at.auto.sums)) (long ∙ omega (arith, c.from.ensures)) c.in_ok-control.ensures c.in_err-rest.ensures.rest c.loop-at.invariant.read
 
 pub returns-in_err-rest-clause-rest : goal.returns-in_err-rest-clause-rest
 returns-in_err-rest-clause-rest c = ap option_copied c.from_residual-in_err-rest.ensures ∙ sym (ap (option_map (λ d. d.1)) (is_cut c))

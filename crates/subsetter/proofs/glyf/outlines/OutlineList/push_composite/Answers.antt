@@ -4,7 +4,7 @@ use Rattle.subsetter.specs.Glyf.Plain.{rewritten_composite, with_last}
 use Rattle.subsetter.specs.Glyf.Reaching.Unfold.{padded}
 use Rattle.subsetter.specs.Glyf.Woven.{Listed}
 use Rattle.subsetter.proofs.GlyfLaws.BareOutlinesLaws.Counted.{counted_more}
-use Rattle.subsetter.proofs.GlyfLaws.KeptList.{behind_ok, written_is}
+use Rattle.subsetter.proofs.GlyfLaws.KeptList.{after_ok, written_is}
 use Rattle.subsetter.proofs.GlyfLaws.Woven.{made_last}
 use Rattle.subsetter.proofs.glyf.outlines.OutlineList.push_composite.Goals as goal
 
@@ -13,7 +13,7 @@ returns-clause-ok c =
     let o = c.self.inside in
     let hinted : o.hinting ≡ c.args.self.now.hinting = ap (λ (l : Listed). l.hinting) c.self.view_is in
     let all = c.rewrite_composite.new.out.items in
-    let k = behind_ok o.made.items (rewritten_composite o.hinting c.args.order.now c.args.outline.now) all c.in_ok-rewrite_composite.ensures.ok in
+    let k = after_ok o.made.items (rewritten_composite o.hinting c.args.order.now c.args.outline.now) all c.in_ok-rewrite_composite.ensures.ok in
     let written = written_is o.made.items k.0 all c.deref.result.now c.len-start.result c.deref.ensures.value k.2 (omega arith) in
     let long : c.padded_len-long_len.result ≡ length k.0 = c.padded_len-long_len.ensures ∙ ap length written in
     let kept = pushed (_ ∷ []) c.reserve.ensures.items c.unwrap.ensures c.push.ensures.items in
@@ -26,7 +26,7 @@ pub invariant_of-self-2 : goal.invariant_of-self-2
 invariant_of-self-2 c =
     let o = c.self.inside in
     let all = c.rewrite_composite.new.out.items in
-    let k = behind_ok o.made.items (rewritten_composite o.hinting c.args.order.now c.args.outline.now) all c.in_ok-rewrite_composite.ensures.ok in
+    let k = after_ok o.made.items (rewritten_composite o.hinting c.args.order.now c.args.outline.now) all c.in_ok-rewrite_composite.ensures.ok in
     let written = written_is o.made.items k.0 all c.deref.result.now c.len-start.result c.deref.ensures.value k.2 (omega arith) in
     let long : c.padded_len-long_len.result ≡ length k.0 = c.padded_len-long_len.ensures ∙ ap length written in
     let kept = pushed (_ ∷ []) c.reserve.ensures.items c.unwrap.ensures c.push.ensures.items in

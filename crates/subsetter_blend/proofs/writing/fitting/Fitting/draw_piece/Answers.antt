@@ -3,7 +3,7 @@ use Rattle.std.proofs.lemmas.Result.{err_from_is_err_and}
 use Rattle.subsetter_type2.specs.Flat.{flat_operands}
 use Rattle.subsetter_blend.specs.Writing.Taking.{Event}
 use Rattle.subsetter_blend.specs.Writing.Written.{Fitted, width, start_point, end_point}
-use Rattle.subsetter_blend.proofs.WritingLaws.Behind.{piece_so, piece_err}
+use Rattle.subsetter_blend.proofs.WritingLaws.Following.{piece_so, piece_err}
 use Rattle.subsetter_blend.proofs.writing.fitting.Fitting.draw_piece.Goals as goal
 
 pub returns-in_err-end-clause-did : goal.returns-in_err-end-clause-did

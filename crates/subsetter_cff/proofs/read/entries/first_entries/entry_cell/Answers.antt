@@ -13,7 +13,7 @@ returns-in-Some g c = λ bytes at operands all inside is bare one.
 pub returns-in-None : goal.returns-in-None
 returns-in-None g c = λ bytes at operands all inside is bare one.
     let nothing : Cell = record { here = None; found = None } in
-    let behind : Cell = get_or c.args.cells.now c.args.entry.left nothing in
-    cells.said_behind (g.S.Search.saying c.args.search.now) bytes at c.args.entry operands behind inside (omega (arith, all.len, c.requires)) is bare
+    let following : Cell = get_or c.args.cells.now c.args.entry.left nothing in
+    cells.said_after (g.S.Search.saying c.args.search.now) bytes at c.args.entry operands following inside (omega (arith, all.len, c.requires)) is bare
     (ap (g.S.Search.saying c.args.search.now (operator_of c.args.entry.operator)) (sym one) ∙ sym c.in-None.ensures)
-    (all.each c.args.entry.left behind (slice_get-get_or c.args.cells.now c.args.entry.left nothing c.requires))
+    (all.each c.args.entry.left following (slice_get-get_or c.args.cells.now c.args.entry.left nothing c.requires))

@@ -2,13 +2,13 @@ use Rattle.std.proofs.Common.{◌≡◌, ◌+◌, ◌++◌, ◌∷◌, [], ◌�
 use Rattle.std.proofs.lemmas.Result.{err_from_is_err_and}
 use Rattle.subsetter_cff.specs.Write.Glyphs.KeptView.{kept_view}
 use Rattle.subsetter_cff.specs.Read.Source.{cff_of}
-use Rattle.subsetter_cff.proofs.WriteLaws.GlyphsLaws.GlyphsKept.{behind_past, keeps_next}
+use Rattle.subsetter_cff.proofs.WriteLaws.GlyphsLaws.GlyphsKept.{after_past, keeps_next}
 use Rattle.subsetter_cff.proofs.write.glyphs.kept_glyphs.keep_next.Goals as goal
 
 pub returns-in_err-all-clause-err : goal.returns-in_err-all-clause-err
 returns-in_err-all-clause-err c =
     let p = err_from_is_err_and c.from_residual.result c.from_residual.ensures.1 in
-    rw (p.1, p.2) (behind_past c.args.limits.bytes c.args.kept.char_strings.items (cff_of c.args.source.now) c.args.limits.tokens c.args.limits.depth c.args.glyph c.in_err-all.field-0.0 c.in_err-all.ensures)
+    rw (p.1, p.2) (after_past c.args.limits.bytes c.args.kept.char_strings.items (cff_of c.args.source.now) c.args.limits.tokens c.args.limits.depth c.args.glyph c.in_err-all.field-0.0 c.in_err-all.ensures)
 
 pub returns-clause-ok : goal.returns-clause-ok
 returns-clause-ok c =

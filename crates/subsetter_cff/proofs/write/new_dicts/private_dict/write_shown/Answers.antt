@@ -5,7 +5,7 @@ use Rattle.subsetter_cffdata.specs.Dicts.Operands.{operands_at}
 use Rattle.subsetter_cffdata.specs.Dicts.ParserView.{left}
 use Rattle.subsetter_cffdata.specs.Numerals.Numbers.{Number}
 use Rattle.subsetter_cffdata.specs.Views.{number_of, operator_of}
-use Rattle.subsetter_base.specs.Gives.{behind}
+use Rattle.subsetter_base.specs.Gives.{following}
 use Rattle.subsetter_cffdata.specs.Dicts.Plain.{plain_entry}
 use Rattle.subsetter_cff.specs.Write.Laying.TableLimits.{limit, short}
 use Rattle.subsetter_cff.specs.Write.NewDicts.Rewritten.{written_entry, rewritten_private}
@@ -15,7 +15,7 @@ use Rattle.subsetter_cff.proofs.WriteLaws.NewDictsLaws.Rewriting.{shorter, left_
 use Rattle.subsetter_cff.proofs.write.new_dicts.private_dict.write_shown.Goals as goal
 
 -- an entry whose numbers keep the limit is written
-entry_is_written : (front operator : List ℕ) (xs : List Number) (new : List ℕ) → limit (short xs) ≡ Ok tt → new ≡ front ++ entry_bytes (plain_entry operator xs) → behind front (written_entry operator xs) ≡ Ok new
+entry_is_written : (front operator : List ℕ) (xs : List Number) (new : List ℕ) → limit (short xs) ≡ Ok tt → new ≡ front ++ entry_bytes (plain_entry operator xs) → following front (written_entry operator xs) ≡ Ok new
 entry_is_written front operator xs new kept same = sym (goes_on _ _ _ tt (entry_checked front operator xs) kept) ∙ ap (λ (l : List ℕ). Ok l) (sym same)
 
 pub returns-then-is_subroutines-clause-ok : goal.returns-then-is_subroutines-clause-ok

@@ -1,6 +1,6 @@
 use Rattle.std.proofs.Common.{◌≡◌, ◌+◌, ◌*◌, ◌%◌, ◌<◌, drop}
 use Rattle.std.specs.List.{fold}
-use Rattle.pdf_text.proofs.tag.digest_behind.Given as goal
+use Rattle.pdf_text.proofs.tag.digest_after.Given as goal
 
 abbrev pub invariant-loop-b : goal.invariant-loop-b
 invariant-loop-b l = record {

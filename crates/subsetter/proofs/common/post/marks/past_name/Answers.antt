@@ -1,8 +1,8 @@
 use Rattle.subsetter.proofs.CommonLaws.PostLaws.Runs.{end_names, no_place}
-use Rattle.subsetter.proofs.common.post.marks.behind_name.Goals as goal
+use Rattle.subsetter.proofs.common.post.marks.past_name.Goals as goal
 
 pub returns-in-Some-clause-names : goal.returns-in-Some-clause-names
-returns-in-Some-clause-names c = c.in-Some.ensures.there.behind
+returns-in-Some-clause-names c = c.in-Some.ensures.there.following
 
 pub returns-in-Some-clause-place : goal.returns-in-Some-clause-place
 returns-in-Some-clause-place c = λ _. c.in-Some.ensures.there

@@ -1,4 +1,4 @@
--- Whole operands behind others, and behind bytes.
+-- Whole operands after others, and after bytes.
 use Rattle.std.proofs.Common.{◌≡◌, ℕ, Bool, zero, suc, ◌+◌, ◌<◌, ◌≤◌, ℤ, pos, List, [], ◌∷◌, ◌++◌, length, get_or, drop, Option, Some, None, Ok, Err, option_map, refl, sym, ap, ◌∙◌, append_assoc, append-nil, arith, ◌≢◌, ◌⊎◌, inl, inr}
 use Rattle.std.specs.Prelude.{Result}
 use Rattle.std.specs.Option.{option_and_then}
@@ -20,32 +20,32 @@ use Rattle.subsetter_blend.specs.Writing.Taking.{Event}
 use Rattle.subsetter_blend.specs.Writing.Written.{width, start_point, end_point, Fitted, with_ink, inked, fitted_piece}
 use Rattle.subsetter_blend.proofs.WritingLaws.Places.{placed_step, place_none}
 
-abbrev pub behind : List CharStringNumber → Placed → Placed
-behind front p = record { at = p.at; numbers = front ++ p.numbers }
+abbrev pub following : List CharStringNumber → Placed → Placed
+following front p = record { at = p.at; numbers = front ++ p.numbers }
 
-put_behind : (at : Position) (front numbers : List CharStringNumber) (o : Option CharStringNumber)
-    → option_map {U = Placed} (λ n. record { at = at; numbers = (front ++ numbers) ++ n ∷ [] }) o ≡ option_map (behind front) (option_map {U = Placed} (λ n. record { at = at; numbers = numbers ++ n ∷ [] }) o)
-put_behind at front numbers None = refl
-put_behind at front numbers (Some n) = ap (λ (l : List CharStringNumber). Some (record { at = at; numbers = l })) (append_assoc front numbers (n ∷ []))
+put_after : (at : Position) (front numbers : List CharStringNumber) (o : Option CharStringNumber)
+    → option_map {U = Placed} (λ n. record { at = at; numbers = (front ++ numbers) ++ n ∷ [] }) o ≡ option_map (following front) (option_map {U = Placed} (λ n. record { at = at; numbers = numbers ++ n ∷ [] }) o)
+put_after at front numbers None = refl
+put_after at front numbers (Some n) = ap (λ (l : List CharStringNumber). Some (record { at = at; numbers = l })) (append_assoc front numbers (n ∷ []))
 
-moved_behind : (a : Along) (v : ℤ) (front : List CharStringNumber) (p : Placed) → moved a v (behind front p) ≡ option_map (behind front) (moved a v p)
+moved_after : (a : Along) (v : ℤ) (front : List CharStringNumber) (p : Placed) → moved a v (following front p) ≡ option_map (following front) (moved a v p)
 unfolding moved
-moved_behind a v front p = put_behind (position_after a v p.at) front p.numbers (number_of a v p.at)
+moved_after a v front p = put_after (position_after a v p.at) front p.numbers (number_of a v p.at)
 
-and_behind : (operator : Operator) (n i : ℕ) (vs : List ℤ) (front : List CharStringNumber) → ((q : Placed) → placed operator n i vs (behind front q) ≡ option_map (behind front) (placed operator n i vs q)) → (o : Option Placed)
-    → option_and_then (placed operator n i vs) (option_map (behind front) o) ≡ option_map (behind front) (option_and_then (placed operator n i vs) o)
-and_behind operator n i vs front ih None = refl
-and_behind operator n i vs front ih (Some q) = ih q
+and_after : (operator : Operator) (n i : ℕ) (vs : List ℤ) (front : List CharStringNumber) → ((q : Placed) → placed operator n i vs (following front q) ≡ option_map (following front) (placed operator n i vs q)) → (o : Option Placed)
+    → option_and_then (placed operator n i vs) (option_map (following front) o) ≡ option_map (following front) (option_and_then (placed operator n i vs) o)
+and_after operator n i vs front ih None = refl
+and_after operator n i vs front ih (Some q) = ih q
 
-pub placed_behind : (operator : Operator) (n i : ℕ) (vs : List ℤ) (front : List CharStringNumber) (p : Placed) → placed operator n i vs (behind front p) ≡ option_map (behind front) (placed operator n i vs p)
-placed_behind operator n i [] front p = refl
-placed_behind operator n i (v ∷ vs) front p =
-    ap (λ (o : Option Placed). option_and_then (placed operator n (i + 1) vs) o) (moved_behind (along operator n i) v front p)
-    ∙ and_behind operator n (i + 1) vs front (λ q. placed_behind operator n (i + 1) vs front q) (moved (along operator n i) v p)
+pub placed_after : (operator : Operator) (n i : ℕ) (vs : List ℤ) (front : List CharStringNumber) (p : Placed) → placed operator n i vs (following front p) ≡ option_map (following front) (placed operator n i vs p)
+placed_after operator n i [] front p = refl
+placed_after operator n i (v ∷ vs) front p =
+    ap (λ (o : Option Placed). option_and_then (placed operator n (i + 1) vs) o) (moved_after (along operator n i) v front p)
+    ∙ and_after operator n (i + 1) vs front (λ q. placed_after operator n (i + 1) vs front q) (moved (along operator n i) v p)
 
-pub laid_behind : (bytes : List ℕ) (front : List CharStringNumber) (o : Option Placed) → laid bytes (option_map (behind front) o) ≡ laid (bytes ++ flat_operands front) o
-laid_behind bytes front None = refl
-laid_behind bytes front (Some p) =
+pub laid_after : (bytes : List ℕ) (front : List CharStringNumber) (o : Option Placed) → laid bytes (option_map (following front) o) ≡ laid (bytes ++ flat_operands front) o
+laid_after bytes front None = refl
+laid_after bytes front (Some p) =
     ap (λ (b : List ℕ). Some (record { at = p.at; bytes = b }))
     (ap (λ (b : List ℕ). bytes ++ b) (flat_map-append written front p.numbers) ∙ sym (append_assoc bytes (flat_operands front) (flat_operands p.numbers)))
 
@@ -59,15 +59,15 @@ pub laid_more : (operator : Operator) (n i : ℕ) (operands : List ℤ) (at to :
 unfolding moved
 laid_more operator n i operands at to bytes now a v m h along_is operand_is to_is some now_is =
     let rest = drop (i + 1) operands in
-    let is : moved (along operator n i) (get_or operands i (pos 0)) (fresh at) ≡ Some (behind (m ∷ []) (fresh to)) =
+    let is : moved (along operator n i) (get_or operands i (pos 0)) (fresh at) ≡ Some (following (m ∷ []) (fresh to)) =
     ap (λ (x : Along). moved x (get_or operands i (pos 0)) (fresh at)) (sym along_is)
     ∙ ap (λ (z : ℤ). moved a z (fresh at)) (sym operand_is)
     ∙ ap (λ (o : Option CharStringNumber). option_map {U = Placed} (λ k. record { at = position_after a v at; numbers = k ∷ [] }) o) some
     ∙ ap (λ (t : Position). Some (record { at = t; numbers = m ∷ [] })) (sym to_is) in
     let one : flat_operands (m ∷ []) ≡ written m = append-nil (written m) in
     ap (λ (b : List ℕ). laid b (placed operator n (i + 1) rest (fresh to))) (now_is ∙ ap (λ (b : List ℕ). bytes ++ b) (sym one))
-    ∙ sym (laid_behind bytes (m ∷ []) (placed operator n (i + 1) rest (fresh to)))
-    ∙ ap (laid bytes) (sym (placed_behind operator n (i + 1) rest (m ∷ []) (fresh to)))
+    ∙ sym (laid_after bytes (m ∷ []) (placed operator n (i + 1) rest (fresh to)))
+    ∙ ap (laid bytes) (sym (placed_after operator n (i + 1) rest (m ∷ []) (fresh to)))
     ∙ ap (λ (o : Option Placed). laid bytes (option_and_then (placed operator n (i + 1) rest) o)) (sym is)
     ∙ ap (laid bytes) (sym (placed_step operator n i operands (fresh at) h))
 
@@ -80,7 +80,7 @@ abbrev as_fitted : List ℕ → Position → Result Fitted Error
 as_fitted bytes at = Ok (record { bytes = bytes; pen = record { at = at; advance = None } })
 
 inked_so : (e : Event) (f : Fitted) (front : List CharStringNumber) (end : Position) (bytes : List ℕ) (o : Option Placed) → laid (f.bytes ++ flat_operands front) o ≡ Some (record { at = end; bytes = bytes })
-    → with_ink f.bytes (inked e f.pen (option_map (behind front) o)) ≡ Ok (record { bytes = bytes ++ (operator_of e.operator ++ e.mask); pen = record { at = end_point (is_hint e.operator.0) f.pen.at end; advance = None } })
+    → with_ink f.bytes (inked e f.pen (option_map (following front) o)) ≡ Ok (record { bytes = bytes ++ (operator_of e.operator ++ e.mask); pen = record { at = end_point (is_hint e.operator.0) f.pen.at end; advance = None } })
 inked_so e f front end bytes None h = absurd (cc)
 inked_so e f front end bytes (Some p) h =
     let both : ◌≡◌ {A = Laid} (record { at = p.at; bytes = (f.bytes ++ flat_operands front) ++ flat_operands p.numbers }) (record { at = end; bytes = bytes }) = cc in
@@ -97,20 +97,20 @@ module _ (e : Event) (f : Fitted) where
   abbrev pub from_nothing : Option Placed
   from_nothing = placed e.operator (length e.operands) 0 e.operands (fresh start)
 
-  front_is : (front : List CharStringNumber) → behind front (fresh start) ≡ record { at = start; numbers = front }
+  front_is : (front : List CharStringNumber) → following front (fresh start) ≡ record { at = start; numbers = front }
   front_is front = ap (λ (l : List CharStringNumber). record { at = start; numbers = l }) (append-nil front)
 
-  piece_is : fitted_piece e f ≡ with_ink f.bytes (inked e f.pen (option_map (behind (width f.pen.advance)) from_nothing))
+  piece_is : fitted_piece e f ≡ with_ink f.bytes (inked e f.pen (option_map (following (width f.pen.advance)) from_nothing))
   piece_is =
       ap (λ (p : Placed). with_ink f.bytes (inked e f.pen (placed e.operator (length e.operands) 0 e.operands p))) (sym (front_is (width f.pen.advance)))
-      ∙ ap (λ (o : Option Placed). with_ink f.bytes (inked e f.pen o)) (placed_behind e.operator (length e.operands) 0 e.operands (width f.pen.advance) (fresh start))
+      ∙ ap (λ (o : Option Placed). with_ink f.bytes (inked e f.pen o)) (placed_after e.operator (length e.operands) 0 e.operands (width f.pen.advance) (fresh start))
 
   pub piece_laid : (end : Position) (bytes : List ℕ) → laid (f.bytes ++ flat_operands (width f.pen.advance)) from_nothing ≡ Some (record { at = end; bytes = bytes })
       → fitted_piece e f ≡ Ok (record { bytes = bytes ++ (operator_of e.operator ++ e.mask); pen = record { at = end_point (is_hint e.operator.0) f.pen.at end; advance = None } })
   piece_laid end bytes h = piece_is ∙ inked_so e f (width f.pen.advance) end bytes from_nothing h
 
   pub piece_none : from_nothing ≡ None → fitted_piece e f ≡ Err OverflowError
-  piece_none h = piece_is ∙ ap (λ (o : Option Placed). with_ink f.bytes (inked e f.pen (option_map (behind (width f.pen.advance)) o))) h
+  piece_none h = piece_is ∙ ap (λ (o : Option Placed). with_ink f.bytes (inked e f.pen (option_map (following (width f.pen.advance)) o))) h
 
   pub piece_so : (hint : Bool) (s end after : Position) (front bytes now : List ℕ) → hint ≡ is_hint e.operator.0 → s ≡ start_point hint f.pen.at → front ≡ f.bytes ++ flat_operands (width f.pen.advance)
       → laid front (placed e.operator (length e.operands) 0 e.operands (fresh s)) ≡ Some (record { at = end; bytes = bytes }) → now ≡ bytes ++ (operator_of e.operator ++ e.mask) → after ≡ end_point hint f.pen.at end

@@ -1,9 +1,0 @@
-use Rattle.std.proofs.Common.{◌≡◌, ◌-◌, ◌≤◌, length, drop}
-use Rattle.subset_args.specs.Halves.{halves_behind}
-use Rattle.subset_args.proofs.coordinates.halves_behind.Given as goal
-
-abbrev pub invariant-loop-i : goal.invariant-loop-i
-invariant-loop-i l = record {
-  value : l.halves ≡ halves_behind (drop (length l.digits - l.i) l.digits);
-  bound : l.halves.count ≤ 3014656;
-}

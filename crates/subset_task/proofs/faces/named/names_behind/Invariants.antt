@@ -1,6 +1,0 @@
-use Rattle.std.proofs.Common.{◌≡◌, ◌++◌, map, drop}
-use Rattle.subset_task.specs.Faces.Named.{names_behind}
-use Rattle.subset_task.proofs.faces.named.names_behind.Given as goal
-
-abbrev pub invariant-loop-bytes : goal.invariant-loop-bytes
-invariant-loop-bytes l = l.text.items ++ names_behind l.before l.names (map (λ b. b.now) (drop l.bytes-index l.records)) ≡ names_behind l.front l.names (map (λ b. b.now) l.records)
