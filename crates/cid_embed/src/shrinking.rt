@@ -52,7 +52,7 @@ fn font_of(e: &Embedded) -> &[u8]
     as_bytes(&e.font)
 }
 
-/// The same bytes.
+/// The bytes of the font.
 fn as_bytes(font: &[u8]) -> &[u8]
     ensures same { result.now ≡ font.now }
     ensures bytes { IsBytes font.now }

@@ -284,7 +284,7 @@ fn reached_by(known: GlyphRemapper, components: &[u8], most: usize) -> Result<Gl
     Ok(seen)
 }
 
-/// The same of the components of an outline, if it has some.
+/// The glyphs that were seen, and those of the components of an outline, if it has some.
 fn reached_in(seen: GlyphRemapper, bytes: &[u8]) -> Result<GlyphRemapper, Error>
     ensures ok { IfOk result (λ r. r ≡ reached_in seen bytes.now (number bytes.now 0 2) (from_offset bytes.now 10)) }
     ensures err { IfErr result (λ e. e ≡ OutOfMemory) }
@@ -300,7 +300,7 @@ fn reached_in(seen: GlyphRemapper, bytes: &[u8]) -> Result<GlyphRemapper, Error>
     }
 }
 
-/// The same of the components of a glyph.
+/// The glyphs that were seen, and those of the components of a glyph.
 fn reached_from(
     glyf: &[u8],
     loca: &[u8],
@@ -317,7 +317,7 @@ fn reached_from(
     }
 }
 
-/// The same of each of these glyphs.
+/// The glyphs that were seen, and those of the components of each of these glyphs.
 fn reached_from_all(
     glyf: &[u8],
     loca: &[u8],
@@ -403,7 +403,7 @@ fn format_of(font: &[u8], index: u32) -> Option<u16>
     index_to_loc_format(head)
 }
 
-/// The same, where the face has the tables of outlines in `glyf`.
+/// What is wrong with the components of glyphs, where the face has the tables of outlines in `glyf`.
 ///
 /// # Errors
 ///

@@ -40,7 +40,8 @@ fn room_in(maxp: &[u8]) -> u16
     times_in(points).min(times_in(contours))
 }
 
-/// The same where `maxp` has these fields, and its depth leaves room for one more.
+/// How many parts leave the points and the contours of a glyph 16 bits, where `maxp` has these fields and its depth leaves room for one
+/// more.
 fn most_in(maxp: &[u8]) -> u16
     ensures { result ≡ most_in maxp.now }
 {

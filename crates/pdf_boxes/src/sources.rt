@@ -40,7 +40,7 @@ fn flattened<'a>(
     Decompiler::with_limits(global, local, limits).flatten(alloc, charstring)
 }
 
-/// The same within these limits on a run; none where it can't be run.
+/// A charstring without its subroutines, within these limits on a run; none where it can't be run.
 fn flat_of<'a>(
     alloc: Global,
     table: &Table<'a>,
@@ -155,7 +155,7 @@ fn top_in(
     Ok(Some(bounds.y_max))
 }
 
-/// The same, 0 where the glyph has no box.
+/// The top of a glyph's box; 0 where the glyph has no box.
 fn top_or_zero(alloc: Global, table: &Table<'_>, limits: &Limits, glyph: u16) -> Result<i16, Error>
     requires { IsSource table.now }
     ensures value { Gives (λ top. top) result (Ok (top_or_zero (cff_of table.now) limits.now glyph)) }

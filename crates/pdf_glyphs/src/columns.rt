@@ -19,7 +19,7 @@ use subsetter_base::{Error, GlyphRemapper};
 /// Columns of vertical writing, in thousandths of the em.
 #[derive(Drop)]
 pub struct Columns {
-    /// Of each CID from 0 on that a string can show.
+    /// The column of each CID from 0 on that a string can show.
     pub each: Vec<Column>,
     /// DW2: the most frequent one.
     pub default: DefaultColumn,

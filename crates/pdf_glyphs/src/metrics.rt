@@ -52,7 +52,7 @@ fn advance_of(tables: VerticalTables<'_>, glyph: u16) -> Option<u16>
     glyph_advance(vmtx, count, glyph)
 }
 
-/// The same with what it varies by, if it does.
+/// The advance height of a glyph, with what it varies by, if it does.
 fn advance_at(
     tables: VerticalTables<'_>,
     variation: Option<HeightVariation<'_>>,
@@ -101,7 +101,7 @@ fn by_top(tables: VerticalTables<'_>, glyph: u16, top: i16) -> Option<i32>
     Some(i32::from(top) + i32::from(bearing))
 }
 
-/// The same of a top that may be given.
+/// The sum of a glyph's top, if it is given, and its top side bearing.
 fn by_given_top(tables: VerticalTables<'_>, glyph: u16, top: Option<i16>) -> Option<i32>
     ensures exact { result ≡ option_and_then (by_top (vertical_view tables.entry) glyph) top }
     ensures small { IfSome result (λ v. unsigned_abs v ≤ 2 ^ 16) }
@@ -120,7 +120,7 @@ fn vorg_y(tables: VerticalTables<'_>, glyph: u16, recorded: Option<i16>) -> Opti
     }
 }
 
-/// The same with what it varies by, if it does.
+/// The y of the origin that VORG has, with what it varies by, if it does.
 fn vorg_y_at(
     tables: VerticalTables<'_>,
     variation: Option<HeightVariation<'_>>,

@@ -101,7 +101,7 @@ fn put_record(origins: &mut Vec<Option<i16>>, mapper: &GlyphRemapper, found: Opt
     }
 }
 
-/// Of each glyph the y that its first record has.
+/// The y of each glyph's first record.
 #[tactic(auto, using(crate::proofs::OriginSteps::origin_begun, crate::proofs::OriginSteps::origin_next, crate::proofs::OriginSteps::origin_done))]
 pub fn origins_of(
     alloc: Global,

@@ -26,7 +26,7 @@ pub struct Font<'a> {
     pub units: u16,
     /// The metrics of each glyph.
     pub metrics: &'a [GlyphMetrics],
-    /// Of each glyph whether it has ink.
+    /// Whether a glyph has ink.
     pub inked: &'a [bool],
 }
 
@@ -162,7 +162,7 @@ fn x_of(stop: Stop, piece: Piece) -> i64
     pen_at(stop.is_turned, stop.x, piece.x_advance) + i64::from(piece.x)
 }
 
-/// The same upwards.
+/// How far up a glyph's origin is to be, in units of the font.
 #[tactic(auto, using(pdf_text::proofs::Pieces::two_signed))]
 fn y_of(stop: Stop, piece: Piece) -> i64
     ensures value { result ≡ y_of stop piece }

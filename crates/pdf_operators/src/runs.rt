@@ -184,7 +184,7 @@ fn push_ends(operations: &mut Vec<Operation<'_>>, back: i32, rise: i32) -> Resul
     push_level(operations, rise)
 }
 
-/// The same after a stop, if the number has 32 bits.
+/// Takes the pen after a stop to the end, and the text rise to 0, if the number has 32 bits.
 fn push_end(
     operations: &mut Vec<Operation<'_>>,
     font: Font<'_>,

@@ -89,7 +89,7 @@ fn line_content(alloc: Global, frame: Frame, operators: &[u8]) -> Result<Vec<u8>
     Ok(text)
 }
 
-/// The same as a stream.
+/// The stream of a line's page.
 fn content_value(alloc: Global, frame: Frame, operators: &[u8]) -> Result<Vec<u8>, Error>
     ensures ok { IfOk result (λ text. text.items ≡ stream_value (line_content frame operators.now)) }
     ensures err { IfErr result (λ e. e ≡ OutOfMemory) }

@@ -34,7 +34,7 @@ pub enum Object {
 #[derive(Drop)]
 pub struct FontObjects {
     pub text: Vec<u8>,
-    /// Of each object in bytes, from the beginning of the text; the first has the number that was given, each other the next.
+    /// Where each object begins, in bytes from the beginning of the text; the first has the number that was given, each other the next.
     pub offsets: Vec<usize>,
 }
 

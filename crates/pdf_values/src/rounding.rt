@@ -24,7 +24,7 @@ pub fn thousandths(v: i32, units: u32) -> i32
     nearest(thousandfold(v), u64::from(units)) as i32
 }
 
-/// The same, rounded down.
+/// A length of so many units to the em, in thousandths, rounded down.
 #[tactic(auto, unfolding(crate::specs::Rounding::lowered))]
 pub fn lowered(v: i32, units: u32) -> i32
     requires above { 0 < units }
@@ -36,7 +36,7 @@ pub fn lowered(v: i32, units: u32) -> i32
     thousandfold(v).div_euclid(i64::from(units)) as i32
 }
 
-/// The same, rounded up.
+/// A length of so many units to the em, in thousandths, rounded up.
 #[tactic(auto, unfolding(crate::specs::Rounding::raised))]
 pub fn raised(v: i32, units: u32) -> i32
     requires above { 0 < units }

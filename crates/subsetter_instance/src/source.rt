@@ -102,8 +102,8 @@ pub fn source_in<'a>(face: &Face<'a>, axes: usize) -> Option<Source<'a>>
     })
 }
 
-/// The same. `Unimplemented` where `gvar`, `HVAR` or `MVAR` has a major version other than 1, else `MalformedFont` where a table is missing or
-/// cut.
+/// The tables of a font of so many axes. `Unimplemented` where `gvar`, `HVAR` or `MVAR` has a major version other than 1, else
+/// `MalformedFont` where a table is missing or cut.
 pub fn source_or_fault<'a>(face: &Face<'a>, axes: usize) -> Result<Source<'a>, Error>
     ensures value { result ≡ source_or_fault (table_in face.now.«data».now face.now.records.now) axes }
     ensures axes { IfOk result (λ s. HasAxes s.gvar axes) }
@@ -154,7 +154,7 @@ impl<'a> Source<'a> {
         }
     }
 
-    /// The same tables, at a location where scalars of the first shared tuples are known.
+    /// These tables at a location where scalars of the first shared tuples are known.
     pub fn located<'b>(&'b self, at: &'b [i32], scalars: &'b [i64]) -> Source<'b>
         requires { IfSome self.now.gvar (λ t. AreSharedScalars t at.now scalars.now) }
         ensures { result ≡ self.now }

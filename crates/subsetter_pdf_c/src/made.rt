@@ -39,13 +39,13 @@ pub struct PdfNumbers {
 pub struct PdfMade {
     /// The font program.
     pub program: &'static [u8],
-    /// Of each entry the CID.
+    /// The CID of each entry.
     pub cids: &'static [u16],
-    /// Of each entry the code.
+    /// The code of each entry.
     pub codes: &'static [u16],
-    /// Of each entry whether its text is found by its code.
+    /// Whether readers find the text of an entry by its code.
     pub is_said: &'static [bool],
-    /// Of each CID the width.
+    /// The width of each CID.
     pub widths: &'static [u32],
     /// In vertical writing of each CID that a string can show.
     pub columns: &'static [Column],

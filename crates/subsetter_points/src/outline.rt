@@ -75,7 +75,7 @@ impl Columns {
         }
     }
 
-    /// The same lists without what they hold.
+    /// Lists with the room of these, which hold nothing.
     pub fn emptied(self) -> Self
         ensures ends { result.ends.items ≡ [] }
         ensures flags { result.flags.items ≡ [] }

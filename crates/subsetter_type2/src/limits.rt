@@ -27,7 +27,7 @@ impl Limits {
         })
     }
 
-    /// The same limits, where at most so many bytes may be written.
+    /// These limits, where at most so many bytes may be written.
     pub fn with_bytes(self, bytes: u32) -> Self
         ensures { (result.tokens ≡ self.tokens) × (result.depth ≡ self.depth) × (result.bytes ≡ Some bytes) }
     {

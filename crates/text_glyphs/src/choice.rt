@@ -87,7 +87,7 @@ fn encoded(cmap: &[u8], encoding: Encoding) -> Option<&[u8]>
     find_encoded(cmap, count, encoding)
 }
 
-/// The same, with its encoding.
+/// The first table of an encoding, with the encoding.
 fn in_encoding(cmap: &[u8], encoding: Encoding) -> Option<CharacterTable<'_>>
     ensures { option_map chosen_view result ≡ in_encoding encoding cmap.now }
 {

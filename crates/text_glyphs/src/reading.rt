@@ -99,7 +99,7 @@ fn with_sequences(
     Ok(glyphs)
 }
 
-/// The same, of characters whose own glyphs have to be found.
+/// The glyph of each of these characters, whose own glyphs have to be found.
 #[tactic(auto, using(crate::proofs::ReadSteps::own_glyphs))]
 fn glyphs_in(alloc: Global, source: &TextSource<'_>, text: &[char]) -> Result<Vec<u16>, AllocError>
     ensures { IfOk result (λ v. v.items ≡ glyphs_in (source_view source.now) text.now) }

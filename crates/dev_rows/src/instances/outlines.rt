@@ -41,7 +41,7 @@ fn bytes_again(alloc: Global, description: &[u8]) -> Result<Answer, Error> {
     Ok(Answer::Bytes(bytes))
 }
 
-/// The same as an answer.
+/// The bytes of `bytes_again` as an answer.
 pub fn read_and_written(alloc: Global, description: &[u8]) -> Answer {
     match bytes_again(alloc, description) {
         Ok(answer) => answer,

@@ -52,7 +52,7 @@ fn answer_of_one(
     }
 }
 
-/// The same of two words.
+/// What the calls answer for a row of two words after its name.
 fn answer_of_two(alloc: Global, kind: &str, first: &str, second: &str) -> Result<Answer, Failure> {
     match kind {
         "nearest" => quotient(alloc, first, second),
@@ -63,7 +63,7 @@ fn answer_of_two(alloc: Global, kind: &str, first: &str, second: &str) -> Result
     }
 }
 
-/// The same of three words.
+/// What the calls answer for a row of three words after its name.
 fn answer_of_three(
     alloc: Global,
     all: &[Named<'_>],
@@ -84,7 +84,7 @@ fn answer_of_three(
     }
 }
 
-/// The same of more words.
+/// What the calls answer for a row of more words after its name.
 fn answer_of_more(
     alloc: Global,
     all: &[Named<'_>],

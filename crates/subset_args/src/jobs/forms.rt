@@ -335,7 +335,7 @@ fn wrong_at(is_ended: bool, word: &str) -> Option<Wrong>
     if is_ended { None } else { wrong_place(word) }
 }
 
-/// The same of a second argument.
+/// What is wrong with a second argument.
 fn second<'a>(
     wrong: Mistake<'a>,
     chosen: &Chosen<'_>,

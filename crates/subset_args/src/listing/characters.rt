@@ -40,7 +40,7 @@ fn hex_in_32(word: &str) -> Option<u32>
     u32::from_str_radix(word, 16).ok()
 }
 
-/// The same, if it is at most 10FFFF.
+/// The number of one or more hexadecimal digits, if it is at most 10FFFF.
 fn hex_of(word: &str) -> Option<u32>
     ensures { result ≡ hex_in word.now }
 {

@@ -99,7 +99,7 @@ fn separator_in(close: u8, wanted: Wanted, bytes: &[u8]) -> Result<(bool, &[u8])
     }
 }
 
-/// The same after white space.
+/// Whether a comma is first after white space, which a member follows, or the byte that closes.
 pub fn separator_at(close: u8, wanted: Wanted, bytes: &[u8]) -> Result<(bool, &[u8]), Unread>
     ensures { Gives (λ x. (x.0, x.1.now)) result (separator_at close wanted bytes.now) }
 {

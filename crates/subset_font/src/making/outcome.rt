@@ -204,7 +204,7 @@ fn names_for<'a>(
     }
 }
 
-/// The same for what was made by a task, which is kept, with the names of its glyphs, and the PDF, if one is requested.
+/// What was made by a task, which is kept, with the names of its glyphs, and the PDF, if one is requested.
 fn with_more<'a>(
     alloc: Global,
     font: &'a [u8],

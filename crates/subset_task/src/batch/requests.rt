@@ -211,7 +211,7 @@ fn add_names(alloc: Global, names: &mut HashMap<String, ()>, job: &Job) -> Resul
     add_name(alloc, names, pdf_file(job))
 }
 
-/// The same of a request that may be wrong.
+/// Adds the names of the files that a request writes, where it may be wrong.
 fn add_names_if(
     alloc: Global,
     names: &mut HashMap<String, ()>,
@@ -300,7 +300,7 @@ pub fn due<'a>(requests: &'a [Request], states: &[State], index: usize) -> Optio
     }
 }
 
-/// The same if it is of this source.
+/// What the request of an index requests, if it is of this source and still to be done.
 pub fn due_of<'a>(
     requests: &'a [Request],
     states: &[State],

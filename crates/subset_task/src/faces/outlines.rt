@@ -18,7 +18,7 @@ pub fn outlines_of(font: &[u8], index: u32) -> Outlines
     }
 }
 
-/// The same of a face without `glyf`.
+/// What the outlines of a face without `glyf` are.
 fn other_outlines(font: &[u8], index: u32) -> Outlines
     ensures { result ≡ other_outlines (record { bytes = font.now; index = index; extras = all_extras }) }
 {

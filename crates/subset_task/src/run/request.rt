@@ -211,7 +211,7 @@ fn task_of<'a>(job: &'a Job, pieces: &'a [RequestedGlyphs<'a>]) -> Task<'a>
     }
 }
 
-/// The same at the coordinates of a named instance, if one is requested.
+/// What a job requests at the coordinates of a named instance, if one is requested.
 pub fn plan_of<'a>(job: &'a Job, pieces: &'a [RequestedGlyphs<'a>]) -> Plan<'a>
     ensures { IsPlanOf job.now (map kept_of pieces.now) result }
 {

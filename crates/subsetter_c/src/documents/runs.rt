@@ -28,18 +28,18 @@ pub struct TextMade {
     pub units_per_em: u32,
     pub font: &'static [u8],
     pub coordinates: &'static [Coordinate],
-    /// Of each glyph.
+    /// The metrics of each glyph.
     pub metrics: &'static [GlyphMetrics],
-    /// Of each glyph whether it has ink.
+    /// Whether a glyph has ink.
     pub inked: &'static [bool],
     /// What each code from 1 on draws and says.
     pub pairs: &'static [TextPair],
     pub index: u32,
     /// Not 0: text runs from top to bottom.
     pub is_vertical: u32,
-    /// Of each glyph, in units of the font.
+    /// The advance of each glyph, in units of the font.
     pub advances: &'static [u16],
-    /// Of each glyph whether it can be a part of an own glyph.
+    /// Whether a glyph can be a part of an own glyph.
     pub partable: &'static [bool],
     /// The own glyphs, whose numbers are after those of the font's glyphs.
     pub own: &'static [TextOwn],
@@ -265,7 +265,7 @@ pub extern "C" fn text_show_run(
     hand_run(answer, text, made, left)
 }
 
-/// The same of glyphs with cluster numbers: `subsetter_show_shaped`. Of the three lists the one of this width is the text.
+/// The operators of a run of glyphs with cluster numbers: `subsetter_show_shaped`. Of the three lists the one of this width is the text.
 ///
 /// Status 10 also for another width than 8, 16 and 32.
 #[unsafe(no_mangle)]

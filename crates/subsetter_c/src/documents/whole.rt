@@ -30,7 +30,7 @@ pub struct FontMade {
     pub size: u32,
     pub units_per_em: u32,
     pub pdf: PdfMade,
-    /// Of each CID the width, in the font's units.
+    /// The width of each CID, in the font's units.
     pub exact_widths: &'static [u16],
     /// The axes that the font doesn't have, each as a number, the first letter in the highest bits.
     pub unknown_axes: &'static [u32],

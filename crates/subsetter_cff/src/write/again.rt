@@ -7,7 +7,7 @@ pub fn subset_of_the_first_font()
     ensures { IsComposed }
 {}
 
-/// The same of the bytes of three tables.
+/// A subset of a subset is a subset of the first font, by the bytes of three tables.
 pub fn tables_compose()
     ensures { TablesCompose }
 {}
@@ -17,7 +17,7 @@ pub fn same_char_strings()
     ensures { KeepsAllCharStrings }
 {}
 
-/// The same of the bytes of three tables.
+/// A subset of all glyphs in order has the same charstrings, by the bytes of three tables.
 pub fn tables_keep_char_strings()
     ensures { TablesKeepAllCharStrings }
 {}

@@ -30,7 +30,7 @@ pub struct RangeList {
 /// How many blocks the ranges are in.
 const BLOCKS: usize = 256;
 
-/// Of each block of ranges, a glyph that none begins before, and one that none ends after.
+/// A glyph for each block of ranges that none begins before, and one that none ends after.
 #[derive(Clone, Copy, Debug)]
 pub struct Blocks {
     /// How many ranges a block has; the last ones may have fewer.
@@ -303,7 +303,7 @@ fn blocks_of(bytes: &[u8], list: RangeList) -> Option<Blocks>
     }
 }
 
-/// The same, if there are ranges.
+/// The blocks of ranges, if there are ranges, unless they are in order.
 fn blocks_if(bytes: &[u8], ranges: Option<RangeList>) -> Option<Blocks>
     requires { IfSome ranges (λ l. l.at ≤ 2 ^ 58) }
     ensures { IfSome ranges (λ l. AreKnown bytes.now l result) }

@@ -92,7 +92,7 @@ fn index_in(used: &[u16], number: Option<u16>) -> u8
     }
 }
 
-/// The same of each glyph.
+/// Where the font dict of each glyph stands, or 0 for a glyph that isn't asked for.
 pub fn indexes_of(alloc: Global, used: &[u16], numbers: &[Option<u16>]) -> Result<Vec<u8>, Error>
     requires { length used.now ≤ 255 }
     ensures ok { IfOk result (λ v. v.items ≡ map (index_in used.now) numbers.now) }

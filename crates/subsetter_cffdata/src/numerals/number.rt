@@ -276,7 +276,7 @@ impl Number {
         }
     }
 
-    /// The same, where it is not below zero.
+    /// The whole number that this is, where it has no fraction, fits, and isn't below zero.
     #[tactic(auto, unfolding(crate::specs::Numerals::Numbers::as_u32))]
     pub fn as_u32(&self) -> Option<u32>
         ensures { result ≡ as_u32 (number_of self.now) }

@@ -150,7 +150,7 @@ pub fn moved(
     }
 }
 
-/// The same coordinates, and 0 for each of the four phantom points.
+/// Coordinates, and 0 for each of the four phantom points.
 fn with_phantoms(coordinates: Vec<i16>) -> Result<Vec<i16>, AllocError>
     ensures { IfOk result (λ v. v.items ≡ coordinates.items ++ (pos 0 ∷ pos 0 ∷ pos 0 ∷ pos 0 ∷ [])) }
 {

@@ -124,7 +124,7 @@ fn peak_scalar(peaks: &[u8], at: &[i32]) -> i64
     whole
 }
 
-/// The same of a region with ends of its own.
+/// The scalar at a location of a region with ends of its own.
 #[tactic(auto, using(crate::proofs::Regions::scalar_step, crate::proofs::Regions::scalar_end))]
 fn intermediate_scalar(peaks: &[u8], starts: &[u8], ends: &[u8], at: &[i32]) -> i64
     requires peak { length peaks.now ≡ tuple_size (length at.now) }

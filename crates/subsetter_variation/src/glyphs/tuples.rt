@@ -157,7 +157,7 @@ impl<'a> Gvar<'a> {
         self.axis_count
     }
 
-    /// The same table, at a location where scalars of its first shared tuples are known.
+    /// This table at a location where scalars of its first shared tuples are known.
     pub fn located<'b>(&'b self, location: &'b [i32], scalars: &'b [i64]) -> Gvar<'b>
         requires { AreSharedScalars self.now location.now scalars.now }
         ensures { result ≡ self.now }
@@ -359,7 +359,7 @@ impl<'a> TupleHeaders<'a> {
         self.serialized
     }
 
-    /// The same tuples, whose data are these bytes.
+    /// These tuples with other data.
     pub fn with_serialized(self, serialized: &'a [u8]) -> Self
         ensures { result ≡ record self.entry { serialized = serialized.now } }
     {

@@ -70,7 +70,7 @@ fn own_delta(deltas: &[i16], k: usize) -> Option<i16>
     deltas.get(k).copied()
 }
 
-/// Of each of so many points its own delta, if there are as many.
+/// The delta of each of so many points, if there are as many.
 fn all_by_point(alloc: Global, n: usize, deltas: &[i16]) -> Result<Vec<Option<i16>>, AllocError>
     ensures { IfOk result (λ v. v.items ≡ deltas_by_point n None deltas.now) }
 {

@@ -379,7 +379,7 @@ pub(crate) fn item_delta_by(
     terms(s, at, known, &item_row(s, outer, inner)?)
 }
 
-/// The same where no scalar is known yet.
+/// What an item varies by at a location, in parts of 2^30, where no scalar is known yet.
 pub fn item_delta(s: &Store<'_>, at: &[i32], outer: u32, inner: u32) -> Option<i128>
     ensures { result ≡ item_delta s.now at.now outer inner }
 {

@@ -76,7 +76,7 @@ fn reason_for(
     shown(find_reason(error, font, request))
 }
 
-/// The same for the first request for which they show anything.
+/// What the tables show of a font that is refused, for the first request for which they show anything.
 fn first_reason(
     error: Error,
     font: &[u8],

@@ -13,7 +13,7 @@ const BLOCK: usize = 256;
 /// How many blocks there can be.
 const BLOCKS: usize = 256;
 
-/// Of each block of ranges, a glyph that none begins before, and one that none ends after.
+/// A glyph for each block of ranges that none begins before, and one that none ends after.
 #[derive(Clone, Copy, Debug)]
 pub struct Blocks {
     least: [u16; BLOCKS],
