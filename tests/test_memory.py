@@ -92,7 +92,7 @@ ALLOWED = {
     ("subsetter_c", "font_for"): (3, "passes on those of `pairs_of` and `own_of`"),
 }
 WORDS = re.compile(r"\bOutOfMemory\b|\bNoMemory\b|\b(?:AllocError|AllocFailed)\b(?!\s*[>,}]|<\w)")
-# `Unwritten` of subset_lines is that a writer failed: a write or a request that failed is right before it.
+# `Unwritten` of plain_text is that a writer failed: a write or a request that failed is right before it.
 UNWRITTEN = re.compile(r"(?<!struct )\bUnwritten\b(?!\s*[>,}])")
 FAILED = re.compile(r"(?:\.is_err\(\)\)*\s*(?:\{\s*return|=>)|\blet Ok\(\w+\) = [\w\s(.,)]+\belse\s*\{\s*return) Err\($|\.map_err\(\|_\| $")
 # Clauses, ghost items, tests and `From` don't count.
@@ -126,7 +126,7 @@ def places():
             continue
         with open(path, encoding="utf-8") as file:
             code = code_of(file.read())
-        for pattern in (WORDS, UNWRITTEN) if crate == "subset_lines" else (WORDS,):
+        for pattern in (WORDS, UNWRITTEN) if crate in ("plain_text", "subset_lines") else (WORDS,):
             for found in pattern.finditer(code):
                 items = re.findall(r"\bfn (\w+)|\b(enum \w+)", code[:found.start()])
                 yield crate, "".join(items[-1]) if items else "", found[0], code[:found.start()]

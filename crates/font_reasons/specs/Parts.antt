@@ -8,7 +8,7 @@ use Rattle.subsetter_sfnt.specs.Fields.Hmtx.{metric_in}
 use Rattle.subsetter_sfnt.specs.Fields.Maxp.{num_glyphs}
 use Rattle.subsetter_sfnt.specs.declared.fields.hmtx.LongHorMetric.{LongHorMetric}
 use Rattle.subsetter_sfnt.specs.Read.{Font, stored}
-use Rattle.glyph_kinds.specs.Alone.{bitmaps_alone, has_outlines}
+use Rattle.subsetter_sfnt.specs.Alone.{bitmaps_alone, has_outlines}
 use Rattle.font_reasons.specs.File.{or_else, missing_table}
 use Rattle.font_reasons.specs.declared.reason.Reason.{Reason}
 use Rattle.font_reasons.specs.declared.reason.Reason.TheVariants.{NoGlyph, NoOutlines, BitmapsAlone, NoMetrics, FewMetrics, NoMetric}

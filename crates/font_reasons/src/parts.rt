@@ -6,8 +6,8 @@ ghost use Rattle.font_reasons.specs.Parts.{face_glyphs, first_past, no_glyph, no
 
 use crate::file::missing_table;
 use crate::reason::Reason;
-use glyph_kinds::{bitmaps_alone, has_outlines};
 use subsetter_base::Tag;
+use subsetter_sfnt::alone::{bitmaps_alone, has_outlines};
 use subsetter_sfnt::directory::table;
 use subsetter_sfnt::fields::hhea::number_of_h_metrics;
 use subsetter_sfnt::fields::hmtx::{glyph_metric, last_advance};

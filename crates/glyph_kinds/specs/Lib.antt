@@ -1,4 +1,3 @@
-pub mod Alone
 pub mod Bitmaps
 pub mod Colour
 pub mod Counts

@@ -7,7 +7,6 @@
 //! ```
 #![tactic(auto)]
 
-mod alone;
 mod bitmaps;
 mod call;
 mod colour;
@@ -16,6 +15,5 @@ mod graphics;
 mod outlines;
 mod strikes;
 
-pub use alone::{bitmaps_alone, has_outlines};
 pub use call::{is_unseen, kinds_of, unseen_glyphs};
 pub use counts::kind_counts;

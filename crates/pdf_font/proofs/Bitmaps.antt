@@ -14,7 +14,7 @@ use Rattle.subsetter_sfnt.specs.declared.face.FontKind.TheVariants.{Collection, 
 use Rattle.subsetter_variable.specs.DefaultLocation.{IsCff2Font}
 use Rattle.subsetter_variable.specs.Subset.{HasOpeningFaultAt, whole}
 use Rattle.subsetter_variable.proofs.Unopened.{same_stored}
-use Rattle.glyph_kinds.specs.Alone.{bitmap_table, has_outlines}
+use Rattle.subsetter_sfnt.specs.Alone.{bitmap_table, has_outlines}
 use Rattle.pdf_font.specs.PdfFont.{has_bitmaps_alone}
 
 -- ---- tables of outlines are requested always

@@ -17,7 +17,7 @@ use Rattle.cid_embed.specs.Embed.{numbering}
 use Rattle.cid_embed.specs.Width.{units_per_em, width}
 use Rattle.cid_embed.specs.declared.embedding.Embedded.{Embedded}
 use Rattle.cid_embed_at.specs.Embed.{HasEmbedFaultAt, IsEmbeddingAnswerAt}
-use Rattle.glyph_kinds.specs.Alone.{bitmaps_alone}
+use Rattle.subsetter_sfnt.specs.Alone.{bitmaps_alone}
 use Rattle.pdf_codes.specs.Codes.{AreCodes, IsOverfull, Used, coded, glyphs_of}
 use Rattle.pdf_codes.specs.Cmaps.Leading.{AreLed, name_of, own_cmap, own_name, pairs_with, text_of}
 use Rattle.pdf_codes.specs.Shown.{has_long_text}

@@ -2,8 +2,8 @@
 
 use crate::mistakes::{Mistake, Wrong};
 use crate::nearest::{Remedy, remedy_of};
+use plain_text::characters::plain;
 use std::fmt;
-use subset_lines::characters::plain;
 
 /// What a list of glyphs may have.
 pub const PARTS_EXPECTED: &str = "expected: numbers to 65535 and ranges as 36-38, or * alone";

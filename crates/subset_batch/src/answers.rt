@@ -5,8 +5,8 @@ ghost use Rattle.std.specs.Io.KnownBytes.{Appends};
 ghost use Rattle.subset_batch.specs.Written.{hex_of, escaped_byte, escaped_text};
 ghost use Rattle.subset_batch.specs.Answers.{answer_front, further, done_line, failed_line};
 
+use plain_text::{Unwritten, write_text};
 use std::io::Write;
-use subset_lines::{Unwritten, write_text};
 
 /// A hexadecimal digit.
 #[tactic(auto, unfolding(crate::specs::Written::hex_of))]
@@ -33,7 +33,7 @@ fn write_escaped_byte<W: Write>(b: u8, out: &mut W) -> Result<(), Unwritten>
 }
 
 /// Writes the bytes of a string.
-#[tactic(auto, using(subset_lines::proofs::Written::at_first, subset_lines::proofs::Written::after_part, subset_lines::proofs::Written::at_last))]
+#[tactic(auto, using(plain_text::proofs::Written::at_first, plain_text::proofs::Written::after_part, plain_text::proofs::Written::at_last))]
 fn write_escaped<W: Write>(text: &[u8], out: &mut W) -> Result<(), Unwritten>
     ensures { OnOk result (Appends (W.contents out.old) (W.contents out.new) (escaped_text text.now)) }
 {
@@ -54,7 +54,7 @@ fn write_front<W: Write>(line: usize, status: u8, out: &mut W) -> Result<(), Unw
 }
 
 /// Writes the members of an object that is a line after others, and what closes it.
-#[tactic(auto, using(subset_lines::proofs::Written::both))]
+#[tactic(auto, using(plain_text::proofs::Written::both))]
 fn write_further<W: Write>(object: &[u8], out: &mut W) -> Result<(), Unwritten>
     ensures { OnOk result (Appends (W.contents out.old) (W.contents out.new) (further object.now)) }
 {
@@ -69,7 +69,7 @@ fn write_further<W: Write>(object: &[u8], out: &mut W) -> Result<(), Unwritten>
 
 /// Writes the answer to the request of a line, counted from 1, that was done: `{"line":3,"status":0}` and a line end, with
 /// the members of an object after the status, if there is one: `{"notes":[]}` and a line end.
-#[tactic(auto, using(subset_lines::proofs::Written::both))]
+#[tactic(auto, using(plain_text::proofs::Written::both))]
 pub fn write_done<W: Write>(line: usize, object: &[u8], out: &mut W) -> Result<(), Unwritten>
     ensures { OnOk result (Appends (W.contents out.old) (W.contents out.new) (done_line line object.now)) }
 {
@@ -79,7 +79,7 @@ pub fn write_done<W: Write>(line: usize, object: &[u8], out: &mut W) -> Result<(
 
 /// Writes the answer to the request of a line, counted from 1, that failed:
 /// `{"line":3,"status":1,"error":"malformed font"}` and a line end.
-#[tactic(auto, using(subset_lines::proofs::Written::both))]
+#[tactic(auto, using(plain_text::proofs::Written::both))]
 pub fn write_failed<W: Write>(
     line: usize,
     status: u8,

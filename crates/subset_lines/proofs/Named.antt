@@ -6,7 +6,7 @@ use Rattle.std.proofs.lemmas.List.{drop-drop, drop_more}
 use Rattle.subsetter_base.specs.Indexes.{index_of}
 use Rattle.subset_lines.specs.Objects.Json.{object_of, objects}
 use Rattle.subset_lines.specs.Text.{first_character, first_name}
-use Rattle.subset_lines.proofs.Written.{Reaches, after_part}
+use Rattle.plain_text.proofs.Written.{Reaches, after_part}
 
 first_at : (names : List (List ℕ)) (i : ℕ) → first_name (drop i names) ≡ get_or names i []
 first_at [] zero = refl

@@ -18,10 +18,6 @@ pub struct Numbering<'a> {
     pub mapper: &'a GlyphRemapper,
 }
 
-/// The writer failed.
-#[derive(Debug, Drop)]
-pub struct Unwritten;
-
 /// The first character, and the others.
 pub fn take_first(characters: &[Option<char>]) -> (Option<char>, &[Option<char>])
     ensures first { result.0 ≡ first_character characters.now }

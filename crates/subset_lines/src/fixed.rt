@@ -4,8 +4,7 @@ ghost use Rattle.std.specs.Prelude.{◌≡◌, ◌≤◌, ◌<◌, ◌^◌, ◌+
 ghost use Rattle.std.specs.Io.KnownBytes.{Appends};
 ghost use Rattle.subset_lines.specs.Fixed.{padded, fraction, hundred_thousandths, size_text, sign_text, fixed_text};
 
-use crate::entry::Unwritten;
-use crate::text::write_text;
+use plain_text::{Unwritten, write_text};
 use std::io::Write;
 
 /// Writes 100000ths, with as many digits as they need.
@@ -37,7 +36,7 @@ fn hundred_thousandths(n: u32) -> u32
 }
 
 /// Writes a number of 65536ths.
-#[tactic(auto, using(crate::proofs::Written::both))]
+#[tactic(auto, using(plain_text::proofs::Written::both))]
 fn write_size<W: Write>(n: u32, out: &mut W) -> Result<(), Unwritten>
     ensures { OnOk result (Appends (W.contents out.old) (W.contents out.new) (size_text n)) }
 {
@@ -58,7 +57,7 @@ fn write_sign<W: Write>(value: i32, out: &mut W) -> Result<(), Unwritten>
 }
 
 /// Writes a coordinate of 65536ths.
-#[tactic(auto, using(crate::proofs::Written::both))]
+#[tactic(auto, using(plain_text::proofs::Written::both))]
 pub fn write_fixed<W: Write>(value: i32, out: &mut W) -> Result<(), Unwritten>
     ensures { OnOk result (Appends (W.contents out.old) (W.contents out.new) (fixed_text value)) }
 {
@@ -67,7 +66,7 @@ pub fn write_fixed<W: Write>(value: i32, out: &mut W) -> Result<(), Unwritten>
 }
 
 /// Writes a coordinate after a text.
-#[tactic(auto, using(crate::proofs::Written::both))]
+#[tactic(auto, using(plain_text::proofs::Written::both))]
 pub fn write_labelled<W: Write>(label: &[u8], value: i32, out: &mut W) -> Result<(), Unwritten>
     ensures { OnOk result (Appends (W.contents out.old) (W.contents out.new) (label.now ++ fixed_text value)) }
 {

@@ -5,9 +5,8 @@ ghost use Rattle.std.specs.Io.KnownBytes.{Appends};
 ghost use Rattle.subset_lines.specs.Objects.Quoted.{quoted};
 ghost use Rattle.subset_lines.specs.Index.{index_text, index_line, index_string};
 
-use crate::entry::Unwritten;
 use crate::objects::quoted::write_quoted;
-use crate::text::write_text;
+use plain_text::{Unwritten, write_text};
 use std::alloc::Global;
 use std::io::Write;
 
@@ -28,7 +27,7 @@ fn write_index<W: Write>(index: u32, out: &mut W) -> Result<(), Unwritten>
 }
 
 /// Writes the note as a line, if there is one.
-#[tactic(auto, using(crate::proofs::Written::both))]
+#[tactic(auto, using(plain_text::proofs::Written::both))]
 pub fn write_index_line<W: Write>(index: Option<u32>, out: &mut W) -> Result<(), Unwritten>
     ensures { OnOk result (Appends (W.contents out.old) (W.contents out.new) (index_line index)) }
 {
@@ -49,7 +48,7 @@ fn index_bytes(alloc: Global, index: u32) -> Result<Vec<u8>, Unwritten>
 }
 
 /// Writes the note as a JSON string after a text, if there is one.
-#[tactic(auto, using(crate::proofs::Written::both))]
+#[tactic(auto, using(plain_text::proofs::Written::both))]
 pub fn write_index_string<W: Write>(
     alloc: Global,
     before: &[u8],

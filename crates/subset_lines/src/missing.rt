@@ -5,14 +5,13 @@ ghost use Rattle.std.specs.Io.KnownBytes.{Appends};
 ghost use Rattle.subset_lines.specs.Objects.Quoted.{quoted};
 ghost use Rattle.subset_lines.specs.Missing.{character_text, names_text, others_text, named_text, missing_text, missing_line, missing_string};
 
-use crate::entry::Unwritten;
 use crate::objects::quoted::write_quoted;
-use crate::text::write_text;
+use plain_text::{Unwritten, write_text};
 use std::alloc::Global;
 use std::io::Write;
 
 /// Writes a character as `U+` and its number, after a text.
-#[tactic(auto, using(crate::proofs::Written::both))]
+#[tactic(auto, using(plain_text::proofs::Written::both))]
 fn write_character<W: Write>(before: &[u8], character: char, out: &mut W) -> Result<(), Unwritten>
     ensures { OnOk result (Appends (W.contents out.old) (W.contents out.new) (before.now ++ character_text character)) }
 {
@@ -25,7 +24,7 @@ fn write_character<W: Write>(before: &[u8], character: char, out: &mut W) -> Res
 }
 
 /// Writes characters with commas between them.
-#[tactic(auto, using(crate::proofs::Written::at_first, crate::proofs::Written::after_part, crate::proofs::Written::at_last))]
+#[tactic(auto, using(plain_text::proofs::Written::at_first, plain_text::proofs::Written::after_part, plain_text::proofs::Written::at_last))]
 fn write_names<W: Write>(characters: &[char], out: &mut W) -> Result<(), Unwritten>
     ensures { OnOk result (Appends (W.contents out.old) (W.contents out.new) (names_text [] characters.now)) }
 {
@@ -59,7 +58,7 @@ fn write_others<W: Write>(characters: &[char], out: &mut W) -> Result<(), Unwrit
 }
 
 /// Writes three characters, and that there are others.
-#[tactic(auto, using(crate::proofs::Written::both), unfolding(crate::specs::Missing::named_text))]
+#[tactic(auto, using(plain_text::proofs::Written::both), unfolding(crate::specs::Missing::named_text))]
 fn write_named<W: Write>(characters: &[char], out: &mut W) -> Result<(), Unwritten>
     ensures { OnOk result (Appends (W.contents out.old) (W.contents out.new) (named_text characters.now)) }
 {
@@ -68,7 +67,7 @@ fn write_named<W: Write>(characters: &[char], out: &mut W) -> Result<(), Unwritt
 }
 
 /// Writes a note of characters, of which three are named: `no glyph for U+2603, U+2604: glyph 0 is shown`.
-#[tactic(auto, using(crate::proofs::Written::both), unfolding(crate::specs::Missing::missing_text))]
+#[tactic(auto, using(plain_text::proofs::Written::both), unfolding(crate::specs::Missing::missing_text))]
 fn write_missing<W: Write>(characters: &[char], out: &mut W) -> Result<(), Unwritten>
     ensures { OnOk result (Appends (W.contents out.old) (W.contents out.new) (missing_text characters.now)) }
 {
@@ -78,7 +77,7 @@ fn write_missing<W: Write>(characters: &[char], out: &mut W) -> Result<(), Unwri
 }
 
 /// Writes the note as a line; nothing where there are no characters.
-#[tactic(auto, using(crate::proofs::Written::both))]
+#[tactic(auto, using(plain_text::proofs::Written::both))]
 pub fn write_missing_line<W: Write>(characters: &[char], out: &mut W) -> Result<(), Unwritten>
     ensures { OnOk result (Appends (W.contents out.old) (W.contents out.new) (missing_line characters.now)) }
 {
@@ -99,7 +98,7 @@ fn missing_bytes(alloc: Global, characters: &[char]) -> Result<Vec<u8>, Unwritte
 }
 
 /// Writes the note as a JSON string after a text.
-#[tactic(auto, using(crate::proofs::Written::both))]
+#[tactic(auto, using(plain_text::proofs::Written::both))]
 fn write_string<W: Write>(
     alloc: Global,
     before: &[u8],

@@ -7,13 +7,12 @@ ghost use Rattle.subset_lines.specs.Fixed.{fixed_text};
 ghost use Rattle.subset_lines.specs.Notes.{no_axis_text, setting_text, clamped_text, note_text, range_text, ranges_text, axes_note, note_lines, notes_text, all_text, note_strings, coordinate_strings, comma_after, comma_after_both, all_strings, notes_array};
 ghost use Rattle.subset_lines.specs.Objects.Quoted.{quoted};
 
-use crate::entry::Unwritten;
 use crate::faces::axes::write_tag;
 use crate::fixed::write_labelled;
 use crate::index::{write_index_line, write_index_string};
 use crate::missing::{write_missing_line, write_missing_string};
 use crate::objects::quoted::write_quoted;
-use crate::text::write_text;
+use plain_text::{Unwritten, write_text};
 use std::alloc::Global;
 use std::io::Write;
 use subsetter_base::Tag;
@@ -29,7 +28,7 @@ pub enum Note {
 }
 
 /// Writes that the font has no axis of a tag.
-#[tactic(auto, using(crate::proofs::Written::both))]
+#[tactic(auto, using(plain_text::proofs::Written::both))]
 fn write_no_axis<W: Write>(tag: Tag, out: &mut W) -> Result<(), Unwritten>
     ensures { OnOk result (Appends (W.contents out.old) (W.contents out.new) (no_axis_text tag)) }
 {
@@ -39,7 +38,7 @@ fn write_no_axis<W: Write>(tag: Tag, out: &mut W) -> Result<(), Unwritten>
 }
 
 /// Writes a coordinate on an axis.
-#[tactic(auto, using(crate::proofs::Written::both))]
+#[tactic(auto, using(plain_text::proofs::Written::both))]
 fn write_setting<W: Write>(tag: Tag, value: i32, out: &mut W) -> Result<(), Unwritten>
     ensures { OnOk result (Appends (W.contents out.old) (W.contents out.new) (setting_text tag value)) }
 {
@@ -48,7 +47,7 @@ fn write_setting<W: Write>(tag: Tag, value: i32, out: &mut W) -> Result<(), Unwr
 }
 
 /// Writes that a coordinate is taken as another.
-#[tactic(auto, using(crate::proofs::Written::both))]
+#[tactic(auto, using(plain_text::proofs::Written::both))]
 fn write_clamped<W: Write>(tag: Tag, given: i32, taken: i32, out: &mut W) -> Result<(), Unwritten>
     ensures { OnOk result (Appends (W.contents out.old) (W.contents out.new) (clamped_text tag given taken)) }
 {
@@ -67,7 +66,7 @@ fn write_note<W: Write>(note: Note, out: &mut W) -> Result<(), Unwritten>
 }
 
 /// Writes an axis with its ends: `wght 100 to 900`.
-#[tactic(auto, using(crate::proofs::Written::both))]
+#[tactic(auto, using(plain_text::proofs::Written::both))]
 fn write_range_text<W: Write>(axis: &Axis, out: &mut W) -> Result<(), Unwritten>
     ensures { OnOk result (Appends (W.contents out.old) (W.contents out.new) (range_text axis.now)) }
 {
@@ -77,7 +76,7 @@ fn write_range_text<W: Write>(axis: &Axis, out: &mut W) -> Result<(), Unwritten>
 }
 
 /// Writes the same after a text.
-#[tactic(auto, using(crate::proofs::Written::both))]
+#[tactic(auto, using(plain_text::proofs::Written::both))]
 fn write_range<W: Write>(before: &[u8], axis: &Axis, out: &mut W) -> Result<(), Unwritten>
     ensures { OnOk result (Appends (W.contents out.old) (W.contents out.new) (before.now ++ range_text axis.now)) }
 {
@@ -86,7 +85,7 @@ fn write_range<W: Write>(before: &[u8], axis: &Axis, out: &mut W) -> Result<(), 
 }
 
 /// Writes the axes with their ends.
-#[tactic(auto, using(crate::proofs::Written::at_first, crate::proofs::Written::after_part, crate::proofs::Written::at_last))]
+#[tactic(auto, using(plain_text::proofs::Written::at_first, plain_text::proofs::Written::after_part, plain_text::proofs::Written::at_last))]
 fn write_ranges<W: Write>(axes: &[Axis], out: &mut W) -> Result<(), Unwritten>
     ensures { OnOk result (Appends (W.contents out.old) (W.contents out.new) (ranges_text [] axes.now)) }
 {
@@ -99,7 +98,7 @@ fn write_ranges<W: Write>(axes: &[Axis], out: &mut W) -> Result<(), Unwritten>
 }
 
 /// Writes the note of the axes that a font has: `axes: wght 100 to 900, wdth 75 to 100`, or `axes: none`.
-#[tactic(auto, using(crate::proofs::Written::both))]
+#[tactic(auto, using(plain_text::proofs::Written::both))]
 fn write_axes_note<W: Write>(axes: &[Axis], out: &mut W) -> Result<(), Unwritten>
     ensures { OnOk result (Appends (W.contents out.old) (W.contents out.new) (axes_note axes.now)) }
 {
@@ -113,7 +112,7 @@ fn write_axes_note<W: Write>(axes: &[Axis], out: &mut W) -> Result<(), Unwritten
 }
 
 /// Writes a note as a line.
-#[tactic(auto, using(crate::proofs::Written::both))]
+#[tactic(auto, using(plain_text::proofs::Written::both))]
 fn write_note_line<W: Write>(note: Note, out: &mut W) -> Result<(), Unwritten>
     ensures { OnOk result (Appends (W.contents out.old) (W.contents out.new) (note_text note ++ codes "\n")) }
 {
@@ -122,7 +121,7 @@ fn write_note_line<W: Write>(note: Note, out: &mut W) -> Result<(), Unwritten>
 }
 
 /// Writes a line for each note.
-#[tactic(auto, using(crate::proofs::Written::at_first, crate::proofs::Written::after_part, crate::proofs::Written::at_last))]
+#[tactic(auto, using(plain_text::proofs::Written::at_first, plain_text::proofs::Written::after_part, plain_text::proofs::Written::at_last))]
 fn write_note_lines<W: Write>(notes: &[Note], out: &mut W) -> Result<(), Unwritten>
     ensures { OnOk result (Appends (W.contents out.old) (W.contents out.new) (note_lines notes.now)) }
 {
@@ -133,7 +132,7 @@ fn write_note_lines<W: Write>(notes: &[Note], out: &mut W) -> Result<(), Unwritt
 }
 
 /// Writes a line for each note, and a last one of the axes that the font has; nothing where there are no notes.
-#[tactic(auto, using(crate::proofs::Written::both))]
+#[tactic(auto, using(plain_text::proofs::Written::both))]
 fn write_all_notes<W: Write>(axes: &[Axis], notes: &[Note], out: &mut W) -> Result<(), Unwritten>
     ensures { OnOk result (Appends (W.contents out.old) (W.contents out.new) (notes_text axes.now notes.now)) }
 {
@@ -146,7 +145,7 @@ fn write_all_notes<W: Write>(axes: &[Axis], notes: &[Note], out: &mut W) -> Resu
 }
 
 /// Writes the same, the note of characters without a glyph, and that of the face.
-#[tactic(auto, using(crate::proofs::Written::both))]
+#[tactic(auto, using(plain_text::proofs::Written::both))]
 fn write_all<W: Write>(
     axes: &[Axis],
     notes: &[Note],
@@ -199,7 +198,7 @@ fn axes_bytes(alloc: Global, axes: &[Axis]) -> Result<Vec<u8>, Unwritten>
 }
 
 /// Writes a note as a JSON string with a comma after it.
-#[tactic(auto, using(crate::proofs::Written::both))]
+#[tactic(auto, using(plain_text::proofs::Written::both))]
 fn write_note_string<W: Write>(alloc: Global, note: Note, out: &mut W) -> Result<(), Unwritten>
     ensures { OnOk result (Appends (W.contents out.old) (W.contents out.new) (quoted (note_text note) ++ codes ",")) }
 {
@@ -209,7 +208,7 @@ fn write_note_string<W: Write>(alloc: Global, note: Note, out: &mut W) -> Result
 }
 
 /// Writes each note so.
-#[tactic(auto, using(crate::proofs::Written::at_first, crate::proofs::Written::after_part, crate::proofs::Written::at_last))]
+#[tactic(auto, using(plain_text::proofs::Written::at_first, plain_text::proofs::Written::after_part, plain_text::proofs::Written::at_last))]
 fn write_note_strings<W: Write>(alloc: Global, notes: &[Note], out: &mut W) -> Result<(), Unwritten>
     ensures { OnOk result (Appends (W.contents out.old) (W.contents out.new) (note_strings notes.now)) }
 {
@@ -220,7 +219,7 @@ fn write_note_strings<W: Write>(alloc: Global, notes: &[Note], out: &mut W) -> R
 }
 
 /// Writes the notes of coordinates as JSON strings with commas between them.
-#[tactic(auto, using(crate::proofs::Written::both))]
+#[tactic(auto, using(plain_text::proofs::Written::both))]
 fn write_coordinate_strings<W: Write>(
     alloc: Global,
     axes: &[Axis],
@@ -258,7 +257,7 @@ fn comma_after_both(notes: &[Note], characters: &[char]) -> &'static [u8]
 }
 
 /// Writes all notes as JSON strings with commas between them.
-#[tactic(auto, using(crate::proofs::Written::both), unfolding(crate::specs::Notes::all_strings))]
+#[tactic(auto, using(plain_text::proofs::Written::both), unfolding(crate::specs::Notes::all_strings))]
 fn write_all_strings<W: Write>(
     alloc: Global,
     axes: &[Axis],
@@ -275,7 +274,7 @@ fn write_all_strings<W: Write>(
 }
 
 /// Writes the same notes as a JSON array of strings.
-#[tactic(auto, using(crate::proofs::Written::both))]
+#[tactic(auto, using(plain_text::proofs::Written::both))]
 pub fn write_notes_array<W: Write>(
     alloc: Global,
     axes: &[Axis],

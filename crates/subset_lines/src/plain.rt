@@ -5,8 +5,8 @@ ghost use Rattle.std.specs.Io.KnownBytes.{Appends};
 ghost use Rattle.subset_lines.specs.Lines.{name_of, line_of, lines_for, last_line, lines_of};
 ghost use Rattle.subset_lines.specs.View.{numbers_view};
 
-use crate::entry::{Numbering, Unwritten, take_first};
-use crate::text::write_text;
+use crate::entry::{Numbering, take_first};
+use plain_text::{Unwritten, write_text};
 use std::io::Write;
 
 /// Writes a character as `U+` and its number.
@@ -24,7 +24,7 @@ fn write_name<L: Write>(character: Option<char>, lines: &mut L) -> Result<(), Un
 }
 
 /// Writes the line of a glyph that has a new number.
-#[tactic(auto, using(crate::proofs::Written::both))]
+#[tactic(auto, using(plain_text::proofs::Written::both))]
 fn write_numbers<L: Write>(
     character: Option<char>,
     old: u16,
@@ -56,7 +56,7 @@ fn write_line<L: Write>(
 }
 
 /// Writes a line for each glyph.
-#[tactic(auto, using(crate::proofs::Written::at_first, crate::proofs::Written::after_part, crate::proofs::Written::at_last))]
+#[tactic(auto, using(plain_text::proofs::Written::at_first, plain_text::proofs::Written::after_part, plain_text::proofs::Written::at_last))]
 fn write_entries<L: Write>(numbering: &Numbering<'_>, lines: &mut L) -> Result<(), Unwritten>
     ensures { OnOk result (Appends (L.contents lines.old) (L.contents lines.new) (lines_for numbering.now.mapper.now numbering.now.characters.now numbering.now.glyphs.now)) }
 {
@@ -92,7 +92,7 @@ pub fn flush<L: Write>(lines: &mut L) -> Result<(), Unwritten>
 
 /// Writes a line `old -> new` for each glyph, with its character in front, the text as a line, unless it is empty, and further
 /// lines. Then it passes on what the writer keeps back.
-#[tactic(auto, using(crate::proofs::Written::both, crate::proofs::Written::flushed))]
+#[tactic(auto, using(plain_text::proofs::Written::both, plain_text::proofs::Written::flushed))]
 pub fn write_lines<L: Write>(
     numbering: &Numbering<'_>,
     text: &[u8],

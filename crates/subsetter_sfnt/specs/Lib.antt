@@ -1,3 +1,4 @@
+pub mod Alone
 pub mod Extras
 pub mod Read
 pub mod Plain

@@ -10,6 +10,7 @@
 //! ```
 #![tactic(auto)]
 
+pub mod alone;
 pub mod directory;
 pub mod extras;
 pub mod face;

@@ -2,7 +2,7 @@
 use Rattle.std.specs.Prelude.{◌≡◌, ◌⊎◌, ℕ, List, ◌++◌, Option, Some, None, Result, Ok, Err, Vec, codes, map, string_bytes}
 use Rattle.std.specs.Global.{Global}
 use Rattle.std.specs.Str.{chars, encode_utf8_all}
-use Rattle.subset_lines.specs.Characters.{plain}
+use Rattle.plain_text.specs.Characters.{plain}
 use Rattle.subset_args.specs.declared.jobs.command.Job.{Job}
 use Rattle.subset_args.specs.declared.listing.lists.GlyphList.{GlyphList}
 use Rattle.subset_task.specs.Chosen.{IsUnlisted, kept_by_each, IsPlanOf}

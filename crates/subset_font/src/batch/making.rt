@@ -15,11 +15,11 @@ ghost use Rattle.subsetter_base.specs.declared.error.Error.TheVariants.{OutOfMem
 use crate::making::outcome::{Outcome, make_planned};
 use crate::output::{write_font, write_numbers, write_page};
 use crate::run::job::{open_font, room_of};
+use plain_text::characters::plain_text;
 use std::alloc::{AllocError, Global};
 use std::io::Write;
 use std::rt::Files;
 use subset_args::{Job, Plain};
-use subset_lines::characters::plain_text;
 use subset_task::batch::answers::{Answer, Object, failed};
 use subset_task::reading::read_whole;
 use subset_task::refusals::failure::{Failure, file_at, file_by, given, pdf_file};

@@ -9,7 +9,7 @@ use Rattle.subset_lines.specs.declared.faces.names.Kind.TheVariants.{English, Wi
 use Rattle.subsetter_sfnt.specs.Fields.Name.{name_record_of}
 use Rattle.subsetter_sfnt.specs.declared.fields.name.NameRecord.{NameRecord}
 use Rattle.subsetter_base.specs.Options.{first_of}
-use Rattle.subset_lines.specs.Characters.{is_plain}
+use Rattle.plain_text.specs.Characters.{is_plain}
 
 -- ---- which record
 

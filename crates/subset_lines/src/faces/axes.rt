@@ -10,13 +10,12 @@ ghost use Rattle.subset_lines.specs.Faces.Axes.{shown, after_blank, numbers_text
 ghost use Rattle.subset_lines.specs.Fixed.{fixed_text};
 ghost use Rattle.subsetter_base.specs.Bytes.{number};
 
-use crate::entry::Unwritten;
 use crate::faces::names::{NameTable, write_after};
 use crate::faces::outlines::{Outlines, write_outlines};
 use crate::faces::settings::{SettingForm, write_each};
 use crate::fixed::write_fixed;
 use crate::plain::flush;
-use crate::text::write_text;
+use plain_text::{Unwritten, write_text};
 use std::alloc::Global;
 use std::io::Write;
 use subsetter_base::read::{Reader, after_four};
@@ -138,7 +137,7 @@ pub fn write_tag<W: Write>(tag: Tag, out: &mut W) -> Result<(), Unwritten>
 }
 
 /// Writes a coordinate after a blank.
-#[tactic(auto, using(crate::proofs::Written::both), unfolding(crate::specs::Faces::Axes::after_blank))]
+#[tactic(auto, using(plain_text::proofs::Written::both), unfolding(crate::specs::Faces::Axes::after_blank))]
 fn write_after_blank<W: Write>(value: i32, out: &mut W) -> Result<(), Unwritten>
     ensures { OnOk result (Appends (W.contents out.old) (W.contents out.new) (after_blank value)) }
 {
@@ -147,7 +146,7 @@ fn write_after_blank<W: Write>(value: i32, out: &mut W) -> Result<(), Unwritten>
 }
 
 /// Writes the least coordinate of an axis, its default and its greatest coordinate.
-#[tactic(auto, using(crate::proofs::Written::both), unfolding(crate::specs::Faces::Axes::numbers_text))]
+#[tactic(auto, using(plain_text::proofs::Written::both), unfolding(crate::specs::Faces::Axes::numbers_text))]
 fn write_numbers<W: Write>(axis: &Axis, out: &mut W) -> Result<(), Unwritten>
     ensures { OnOk result (Appends (W.contents out.old) (W.contents out.new) (numbers_text axis.now)) }
 {
@@ -157,7 +156,7 @@ fn write_numbers<W: Write>(axis: &Axis, out: &mut W) -> Result<(), Unwritten>
 }
 
 /// Writes the line of an axis.
-#[tactic(auto, using(crate::proofs::Written::both), unfolding(crate::specs::Faces::Axes::axis_line))]
+#[tactic(auto, using(plain_text::proofs::Written::both), unfolding(crate::specs::Faces::Axes::axis_line))]
 fn write_axis<W: Write>(axis: &Axis, out: &mut W) -> Result<(), Unwritten>
     ensures { OnOk result (Appends (W.contents out.old) (W.contents out.new) (axis_line axis.now)) }
 {
@@ -168,7 +167,7 @@ fn write_axis<W: Write>(axis: &Axis, out: &mut W) -> Result<(), Unwritten>
 }
 
 /// Writes a line for each axis.
-#[tactic(auto, using(crate::proofs::Written::at_first, crate::proofs::Written::after_part, crate::proofs::Written::at_last))]
+#[tactic(auto, using(plain_text::proofs::Written::at_first, plain_text::proofs::Written::after_part, plain_text::proofs::Written::at_last))]
 fn write_axis_lines<W: Write>(axes: &[Axis], out: &mut W) -> Result<(), Unwritten>
     ensures { OnOk result (Appends (W.contents out.old) (W.contents out.new) (axis_lines axes.now)) }
 {
@@ -197,7 +196,7 @@ fn write_settings<W: Write>(axes: &[Axis], bytes: &[u8], out: &mut W) -> Result<
 }
 
 /// Writes the line of a named instance.
-#[tactic(auto, using(crate::proofs::Written::both))]
+#[tactic(auto, using(plain_text::proofs::Written::both))]
 fn write_instance<W: Write>(
     axes: &[Axis],
     names: &NameTable<'_>,
@@ -213,7 +212,7 @@ fn write_instance<W: Write>(
 }
 
 /// Writes a line for each named instance.
-#[tactic(auto, using(crate::proofs::Written::at_first, crate::proofs::Written::after_part, crate::proofs::Written::at_last))]
+#[tactic(auto, using(plain_text::proofs::Written::at_first, plain_text::proofs::Written::after_part, plain_text::proofs::Written::at_last))]
 fn write_instance_lines<W: Write>(
     axes: &[Axis],
     names: &NameTable<'_>,
@@ -231,7 +230,7 @@ fn write_instance_lines<W: Write>(
 /// Writes a line for the outlines, as `outlines TrueType, variable`; one for each axis, as `axis wght 100 400 900` (the tag, the least
 /// coordinate, the default and the greatest one); and one for each named instance, as `instance wght=650,wdth=87.5 Semi Bold`. Then it
 /// passes on what the writer keeps back.
-#[tactic(auto, using(crate::proofs::Written::both, crate::proofs::Written::flushed))]
+#[tactic(auto, using(plain_text::proofs::Written::both, plain_text::proofs::Written::flushed))]
 pub fn write_axes<W: Write>(
     outlines: Outlines,
     is_variable: bool,

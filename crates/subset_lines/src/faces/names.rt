@@ -9,9 +9,8 @@ ghost use Rattle.subsetter_base.specs.Bytes.{number};
 ghost use Rattle.subsetter_sfnt.specs.Fields.Name.{name_record_of};
 ghost use Rattle.subset_lines.specs.Faces.Names.{is_windows, serves, record_if, AreFirst, count_in, best_name, string_by, string_for, name_of, is_text, character_of, text_of_units, after_instance};
 
-use crate::characters::is_plain;
-use crate::entry::Unwritten;
-use crate::text::write_text;
+use plain_text::characters::is_plain;
+use plain_text::{Unwritten, write_text};
 use std::alloc::{AllocError, Global};
 use std::collections::HashMap;
 use std::io::Write;
@@ -240,7 +239,7 @@ fn write_character<W: Write>(high: u8, low: u8, out: &mut W) -> Result<(), Unwri
 }
 
 /// Writes code units of two bytes as text.
-#[tactic(auto, using(crate::proofs::Written::at_first, crate::proofs::Written::after_part, crate::proofs::Written::at_last))]
+#[tactic(auto, using(plain_text::proofs::Written::at_first, plain_text::proofs::Written::after_part, plain_text::proofs::Written::at_last))]
 pub fn write_units<W: Write>(bytes: &[u8], out: &mut W) -> Result<(), Unwritten>
     ensures { OnOk result (Appends (W.contents out.old) (W.contents out.new) (text_of_units bytes.now)) }
 {
@@ -253,7 +252,7 @@ pub fn write_units<W: Write>(bytes: &[u8], out: &mut W) -> Result<(), Unwritten>
 }
 
 /// Writes a name after a blank, if there is one.
-#[tactic(auto, using(crate::proofs::Written::both))]
+#[tactic(auto, using(plain_text::proofs::Written::both))]
 pub fn write_after<W: Write>(name: Option<&[u8]>, out: &mut W) -> Result<(), Unwritten>
     ensures { OnOk result (Appends (W.contents out.old) (W.contents out.new) (after_instance (option_copied name.entry))) }
 {

@@ -4,9 +4,8 @@ ghost use Rattle.std.specs.Prelude.{◌≡◌, OnOk};
 ghost use Rattle.std.specs.Io.KnownBytes.{Appends};
 ghost use Rattle.subset_lines.specs.Faces.Outlines.{outlines_name, outlines_end, outlines_line, variable_member, outlines_members};
 
-use crate::entry::Unwritten;
 use crate::objects::quoted::write_quoted;
-use crate::text::write_text;
+use plain_text::{Unwritten, write_text};
 use std::io::Write;
 
 /// What the outlines of a face are.
@@ -45,7 +44,7 @@ fn write_outlines_end<W: Write>(is_variable: bool, out: &mut W) -> Result<(), Un
 }
 
 /// Writes the line of the outlines.
-#[tactic(auto, using(crate::proofs::Written::both))]
+#[tactic(auto, using(plain_text::proofs::Written::both))]
 pub fn write_outlines<W: Write>(
     outlines: Outlines,
     is_variable: bool,
@@ -69,7 +68,7 @@ fn write_variable_member<W: Write>(is_variable: bool, out: &mut W) -> Result<(),
 }
 
 /// Writes the members of the outlines, which open the object.
-#[tactic(auto, using(crate::proofs::Written::both))]
+#[tactic(auto, using(plain_text::proofs::Written::both))]
 pub fn write_outlines_members<W: Write>(
     outlines: Outlines,
     is_variable: bool,

@@ -4,8 +4,7 @@ ghost use Rattle.std.specs.Prelude.{◌≡◌, ◌++◌, OnOk};
 ghost use Rattle.std.specs.Io.KnownBytes.{Appends};
 ghost use Rattle.subset_lines.specs.Faces.Pictures.{kind_name, picture_text, pictures_line, pictures_member, pictures_text};
 
-use crate::entry::Unwritten;
-use crate::text::{write_count, write_text};
+use plain_text::{Unwritten, write_count, write_text};
 use std::io::Write;
 
 /// The name of a kind of pictures, by its bit.
@@ -41,7 +40,7 @@ fn write_name<W: Write>(kind: u8, out: &mut W) -> Result<(), Unwritten>
 }
 
 /// Writes a kind with how many glyphs have it.
-#[tactic(auto, using(crate::proofs::Written::both))]
+#[tactic(auto, using(plain_text::proofs::Written::both))]
 fn write_picture<W: Write>(
     before: &[u8],
     middle: &[u8],
@@ -57,7 +56,7 @@ fn write_picture<W: Write>(
 }
 
 /// Writes each so, with a text before the first and one between each two.
-#[tactic(auto, using(crate::proofs::Written::at_first, crate::proofs::Written::after_part, crate::proofs::Written::at_last))]
+#[tactic(auto, using(plain_text::proofs::Written::at_first, plain_text::proofs::Written::after_part, plain_text::proofs::Written::at_last))]
 fn write_pictures<W: Write>(
     first: &[u8],
     between: &[u8],
@@ -76,7 +75,7 @@ fn write_pictures<W: Write>(
 }
 
 /// Writes the line of pictures: `pictures colr0 48, outline 120`; nothing where there are none.
-#[tactic(auto, using(crate::proofs::Written::both))]
+#[tactic(auto, using(plain_text::proofs::Written::both))]
 pub fn write_pictures_line<W: Write>(pictures: &[(u8, usize)], out: &mut W) -> Result<(), Unwritten>
     ensures { OnOk result (Appends (W.contents out.old) (W.contents out.new) (pictures_line pictures.now)) }
 {
@@ -88,7 +87,7 @@ pub fn write_pictures_line<W: Write>(pictures: &[(u8, usize)], out: &mut W) -> R
 }
 
 /// Writes the member of pictures.
-#[tactic(auto, using(crate::proofs::Written::both))]
+#[tactic(auto, using(plain_text::proofs::Written::both))]
 pub fn write_pictures_member<W: Write>(
     pictures: &[(u8, usize)],
     out: &mut W,

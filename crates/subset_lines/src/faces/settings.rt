@@ -7,10 +7,9 @@ ghost use Rattle.subset_lines.specs.Faces.Settings.{setting_by, settings_by};
 ghost use Rattle.subset_lines.specs.Objects.AxesJson.{setting_member};
 ghost use Rattle.subsetter_base.specs.Bytes.{number};
 
-use crate::entry::Unwritten;
 use crate::faces::axes::{tag_bytes, write_coordinate, write_tag};
 use crate::objects::quoted::write_quoted;
-use crate::text::write_text;
+use plain_text::{Unwritten, write_text};
 use std::io::Write;
 use subsetter_base::Tag;
 use subsetter_base::read::after_four;
@@ -26,7 +25,7 @@ pub enum SettingForm {
 }
 
 /// Writes an axis with the coordinate that four bytes say, as `--at` takes it, after a text.
-#[tactic(auto, using(crate::proofs::Written::both))]
+#[tactic(auto, using(plain_text::proofs::Written::both))]
 fn write_in_line<W: Write>(
     before: &[u8],
     tag: Tag,
@@ -42,7 +41,7 @@ fn write_in_line<W: Write>(
 }
 
 /// Writes the same as a member of an object, after a text.
-#[tactic(auto, using(crate::proofs::Written::both))]
+#[tactic(auto, using(plain_text::proofs::Written::both))]
 fn write_as_member<W: Write>(
     before: &[u8],
     tag: Tag,
@@ -74,7 +73,7 @@ fn write_setting<W: Write>(
 }
 
 /// Writes each axis with its coordinate in a form.
-#[tactic(auto, using(crate::proofs::Written::at_first, crate::proofs::Written::after_part, crate::proofs::Written::at_last))]
+#[tactic(auto, using(plain_text::proofs::Written::at_first, plain_text::proofs::Written::after_part, plain_text::proofs::Written::at_last))]
 pub fn write_each<W: Write>(
     form: SettingForm,
     axes: &[Axis],

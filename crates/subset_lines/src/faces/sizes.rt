@@ -8,10 +8,9 @@ ghost use Rattle.subset_lines.specs.Objects.Json.{number_or_null};
 ghost use Rattle.subset_lines.specs.Faces.Sizes.{size_or_none, table_front, change_text, sizes_close, tables_open, table_line, table_lines, font_line, sizes_text, table_object, table_objects, sizes_member, tables_member};
 ghost use Rattle.subset_lines.specs.Objects.AxesJson.{tag_open};
 
-use crate::entry::Unwritten;
 use crate::faces::axes::{tag_bytes, write_tag};
 use crate::objects::quoted::write_quoted;
-use crate::text::{write_count, write_text};
+use plain_text::{Unwritten, write_count, write_text};
 use std::alloc::Global;
 use std::io::Write;
 use subsetter_base::Tag;
@@ -38,7 +37,7 @@ fn write_size<W: Write>(size: Option<u32>, out: &mut W) -> Result<(), Unwritten>
 }
 
 /// Writes what a line of a table begins with: `table glyf `.
-#[tactic(auto, using(crate::proofs::Written::both))]
+#[tactic(auto, using(plain_text::proofs::Written::both))]
 fn write_table_front<W: Write>(tag: Tag, out: &mut W) -> Result<(), Unwritten>
     ensures { OnOk result (Appends (W.contents out.old) (W.contents out.new) (table_front tag)) }
 {
@@ -48,7 +47,7 @@ fn write_table_front<W: Write>(tag: Tag, out: &mut W) -> Result<(), Unwritten>
 }
 
 /// Writes the sizes of a table.
-#[tactic(auto, using(crate::proofs::Written::both))]
+#[tactic(auto, using(plain_text::proofs::Written::both))]
 fn write_change<W: Write>(old: Option<u32>, new: Option<u32>, out: &mut W) -> Result<(), Unwritten>
     ensures { OnOk result (Appends (W.contents out.old) (W.contents out.new) (change_text old new)) }
 {
@@ -58,7 +57,7 @@ fn write_change<W: Write>(old: Option<u32>, new: Option<u32>, out: &mut W) -> Re
 }
 
 /// Writes the line of a table: `table glyf 46248 -> 612`.
-#[tactic(auto, using(crate::proofs::Written::both))]
+#[tactic(auto, using(plain_text::proofs::Written::both))]
 fn write_table<W: Write>(table: &TableSize, out: &mut W) -> Result<(), Unwritten>
     ensures { OnOk result (Appends (W.contents out.old) (W.contents out.new) (table_line table.now)) }
 {
@@ -68,7 +67,7 @@ fn write_table<W: Write>(table: &TableSize, out: &mut W) -> Result<(), Unwritten
 }
 
 /// Writes a line for each table.
-#[tactic(auto, using(crate::proofs::Written::at_first, crate::proofs::Written::after_part, crate::proofs::Written::at_last))]
+#[tactic(auto, using(plain_text::proofs::Written::at_first, plain_text::proofs::Written::after_part, plain_text::proofs::Written::at_last))]
 fn write_tables<W: Write>(tables: &[TableSize], out: &mut W) -> Result<(), Unwritten>
     ensures { OnOk result (Appends (W.contents out.old) (W.contents out.new) (table_lines tables.now)) }
 {
@@ -89,7 +88,7 @@ fn write_font_line<W: Write>(old: u64, new: u64, out: &mut W) -> Result<(), Unwr
 }
 
 /// Writes these lines.
-#[tactic(auto, using(crate::proofs::Written::both))]
+#[tactic(auto, using(plain_text::proofs::Written::both))]
 fn write_sizes<W: Write>(
     tables: &[TableSize],
     old: u64,
@@ -132,7 +131,7 @@ fn write_size_or_null<W: Write>(size: Option<u32>, out: &mut W) -> Result<(), Un
 }
 
 /// Writes the tag of a table, which opens its object.
-#[tactic(auto, using(crate::proofs::Written::both))]
+#[tactic(auto, using(plain_text::proofs::Written::both))]
 fn write_tag_open<W: Write>(tag: Tag, out: &mut W) -> Result<(), Unwritten>
     ensures { OnOk result (Appends (W.contents out.old) (W.contents out.new) (tag_open tag)) }
 {
@@ -141,7 +140,7 @@ fn write_tag_open<W: Write>(tag: Tag, out: &mut W) -> Result<(), Unwritten>
 }
 
 /// Writes a member that has a size.
-#[tactic(auto, using(crate::proofs::Written::both))]
+#[tactic(auto, using(plain_text::proofs::Written::both))]
 fn write_size_member<W: Write>(
     label: &[u8],
     size: Option<u32>,
@@ -154,7 +153,7 @@ fn write_size_member<W: Write>(
 }
 
 /// Writes the sizes of a table, which close its object.
-#[tactic(auto, using(crate::proofs::Written::both))]
+#[tactic(auto, using(plain_text::proofs::Written::both))]
 fn write_sizes_close<W: Write>(table: &TableSize, out: &mut W) -> Result<(), Unwritten>
     ensures { OnOk result (Appends (W.contents out.old) (W.contents out.new) (sizes_close table.now)) }
 {
@@ -164,7 +163,7 @@ fn write_sizes_close<W: Write>(table: &TableSize, out: &mut W) -> Result<(), Unw
 }
 
 /// Writes the object of a table.
-#[tactic(auto, using(crate::proofs::Written::both))]
+#[tactic(auto, using(plain_text::proofs::Written::both))]
 fn write_object<W: Write>(table: &TableSize, out: &mut W) -> Result<(), Unwritten>
     ensures { OnOk result (Appends (W.contents out.old) (W.contents out.new) (table_object table.now)) }
 {
@@ -173,7 +172,7 @@ fn write_object<W: Write>(table: &TableSize, out: &mut W) -> Result<(), Unwritte
 }
 
 /// Writes the same after a text.
-#[tactic(auto, using(crate::proofs::Written::both))]
+#[tactic(auto, using(plain_text::proofs::Written::both))]
 fn write_table_object<W: Write>(
     before: &[u8],
     table: &TableSize,
@@ -186,7 +185,7 @@ fn write_table_object<W: Write>(
 }
 
 /// Writes the objects of tables.
-#[tactic(auto, using(crate::proofs::Written::at_first, crate::proofs::Written::after_part, crate::proofs::Written::at_last))]
+#[tactic(auto, using(plain_text::proofs::Written::at_first, plain_text::proofs::Written::after_part, plain_text::proofs::Written::at_last))]
 fn write_table_objects<W: Write>(tables: &[TableSize], out: &mut W) -> Result<(), Unwritten>
     ensures { OnOk result (Appends (W.contents out.old) (W.contents out.new) (table_objects [] tables.now)) }
 {
@@ -199,7 +198,7 @@ fn write_table_objects<W: Write>(tables: &[TableSize], out: &mut W) -> Result<()
 }
 
 /// Writes the member `"sizes"` of the JSON object, in bytes of both files, with a comma before it.
-#[tactic(auto, using(crate::proofs::Written::both))]
+#[tactic(auto, using(plain_text::proofs::Written::both))]
 pub fn write_sizes_member<W: Write>(old: u64, new: u64, out: &mut W) -> Result<(), Unwritten>
     ensures { OnOk result (Appends (W.contents out.old) (W.contents out.new) (sizes_member old new)) }
 {
@@ -209,7 +208,7 @@ pub fn write_sizes_member<W: Write>(old: u64, new: u64, out: &mut W) -> Result<(
 }
 
 /// Writes what opens the member of the tables, and their objects.
-#[tactic(auto, using(crate::proofs::Written::both))]
+#[tactic(auto, using(plain_text::proofs::Written::both))]
 fn write_tables_open<W: Write>(tables: &[TableSize], out: &mut W) -> Result<(), Unwritten>
     ensures { OnOk result (Appends (W.contents out.old) (W.contents out.new) (tables_open tables.now)) }
 {
@@ -218,7 +217,7 @@ fn write_tables_open<W: Write>(tables: &[TableSize], out: &mut W) -> Result<(), 
 }
 
 /// Writes the member `"tables"` of the JSON object, with a comma before it.
-#[tactic(auto, using(crate::proofs::Written::both))]
+#[tactic(auto, using(plain_text::proofs::Written::both))]
 pub fn write_tables_member<W: Write>(tables: &[TableSize], out: &mut W) -> Result<(), Unwritten>
     ensures { OnOk result (Appends (W.contents out.old) (W.contents out.new) (tables_member tables.now)) }
 {

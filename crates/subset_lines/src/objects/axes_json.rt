@@ -9,7 +9,6 @@ ghost use Rattle.subset_lines.specs.Faces.Names.{name_of, text_of_units};
 ghost use Rattle.subset_lines.specs.Objects.Quoted.{quoted};
 ghost use Rattle.subsetter_base.specs.Bytes.{number};
 
-use crate::entry::Unwritten;
 use crate::faces::axes::{FontAxes, tag_bytes};
 use crate::faces::names::write_units;
 use crate::faces::outlines::{Outlines, write_outlines_members};
@@ -17,7 +16,7 @@ use crate::faces::settings::{SettingForm, write_each};
 use crate::fixed::write_labelled;
 use crate::objects::quoted::write_quoted;
 use crate::plain::flush;
-use crate::text::write_text;
+use plain_text::{Unwritten, write_text};
 use std::alloc::Global;
 use std::io::Write;
 use subsetter_base::Tag;
@@ -25,7 +24,7 @@ use subsetter_base::read::after_four;
 use subsetter_variation::locations::axes::Axis;
 
 /// Writes the tag of an axis, which opens its object.
-#[tactic(auto, using(crate::proofs::Written::both))]
+#[tactic(auto, using(plain_text::proofs::Written::both))]
 fn write_tag_open<W: Write>(tag: Tag, out: &mut W) -> Result<(), Unwritten>
     ensures { OnOk result (Appends (W.contents out.old) (W.contents out.new) (tag_open tag)) }
 {
@@ -34,7 +33,7 @@ fn write_tag_open<W: Write>(tag: Tag, out: &mut W) -> Result<(), Unwritten>
 }
 
 /// Writes the coordinates of an axis, which close its object.
-#[tactic(auto, using(crate::proofs::Written::both))]
+#[tactic(auto, using(plain_text::proofs::Written::both))]
 fn write_axis_numbers<W: Write>(axis: &Axis, out: &mut W) -> Result<(), Unwritten>
     ensures { OnOk result (Appends (W.contents out.old) (W.contents out.new) (axis_numbers axis.now)) }
 {
@@ -44,7 +43,7 @@ fn write_axis_numbers<W: Write>(axis: &Axis, out: &mut W) -> Result<(), Unwritte
 }
 
 /// Writes the last of these.
-#[tactic(auto, using(crate::proofs::Written::both))]
+#[tactic(auto, using(plain_text::proofs::Written::both))]
 fn write_greatest<W: Write>(value: i32, out: &mut W) -> Result<(), Unwritten>
     ensures { OnOk result (Appends (W.contents out.old) (W.contents out.new) (greatest_member value)) }
 {
@@ -53,7 +52,7 @@ fn write_greatest<W: Write>(value: i32, out: &mut W) -> Result<(), Unwritten>
 }
 
 /// Writes the object of an axis.
-#[tactic(auto, using(crate::proofs::Written::both))]
+#[tactic(auto, using(plain_text::proofs::Written::both))]
 fn write_axis_object<W: Write>(axis: &Axis, out: &mut W) -> Result<(), Unwritten>
     ensures { OnOk result (Appends (W.contents out.old) (W.contents out.new) (axis_object axis.now)) }
 {
@@ -62,7 +61,7 @@ fn write_axis_object<W: Write>(axis: &Axis, out: &mut W) -> Result<(), Unwritten
 }
 
 /// Writes the object of an axis, after a text.
-#[tactic(auto, using(crate::proofs::Written::both))]
+#[tactic(auto, using(plain_text::proofs::Written::both))]
 fn write_axis<W: Write>(before: &[u8], axis: &Axis, out: &mut W) -> Result<(), Unwritten>
     ensures { OnOk result (Appends (W.contents out.old) (W.contents out.new) (before.now ++ axis_object axis.now)) }
 {
@@ -71,7 +70,7 @@ fn write_axis<W: Write>(before: &[u8], axis: &Axis, out: &mut W) -> Result<(), U
 }
 
 /// Writes the objects of axes.
-#[tactic(auto, using(crate::proofs::Written::at_first, crate::proofs::Written::after_part, crate::proofs::Written::at_last))]
+#[tactic(auto, using(plain_text::proofs::Written::at_first, plain_text::proofs::Written::after_part, plain_text::proofs::Written::at_last))]
 fn write_axis_objects<W: Write>(axes: &[Axis], out: &mut W) -> Result<(), Unwritten>
     ensures { OnOk result (Appends (W.contents out.old) (W.contents out.new) (axis_objects [] axes.now)) }
 {
@@ -101,7 +100,7 @@ pub fn text_of_name(alloc: Global, bytes: &[u8]) -> Result<Vec<u8>, Unwritten>
 }
 
 /// Writes a name as a string, or `null`.
-#[tactic(auto, using(crate::proofs::Written::both))]
+#[tactic(auto, using(plain_text::proofs::Written::both))]
 fn write_name<W: Write>(alloc: Global, name: Option<&[u8]>, out: &mut W) -> Result<(), Unwritten>
     ensures { OnOk result (Appends (W.contents out.old) (W.contents out.new) (name_or_null (option_copied name.entry))) }
 {
@@ -113,7 +112,7 @@ fn write_name<W: Write>(alloc: Global, name: Option<&[u8]>, out: &mut W) -> Resu
 }
 
 /// Writes the name of a named instance, which opens its object.
-#[tactic(auto, using(crate::proofs::Written::both))]
+#[tactic(auto, using(plain_text::proofs::Written::both))]
 fn write_instance_name<W: Write>(
     alloc: Global,
     name: Option<&[u8]>,
@@ -126,7 +125,7 @@ fn write_instance_name<W: Write>(
 }
 
 /// Writes its coordinates, which close the object.
-#[tactic(auto, using(crate::proofs::Written::both))]
+#[tactic(auto, using(plain_text::proofs::Written::both))]
 fn write_instance_settings<W: Write>(
     axes: &[Axis],
     bytes: &[u8],
@@ -140,7 +139,7 @@ fn write_instance_settings<W: Write>(
 }
 
 /// Writes the object of a named instance.
-#[tactic(auto, using(crate::proofs::Written::both))]
+#[tactic(auto, using(plain_text::proofs::Written::both))]
 fn write_instance_object<W: Write>(
     alloc: Global,
     all: &FontAxes<'_>,
@@ -154,7 +153,7 @@ fn write_instance_object<W: Write>(
 }
 
 /// Writes the same after a text.
-#[tactic(auto, using(crate::proofs::Written::both))]
+#[tactic(auto, using(plain_text::proofs::Written::both))]
 fn write_instance<W: Write>(
     alloc: Global,
     before: &[u8],
@@ -169,7 +168,7 @@ fn write_instance<W: Write>(
 }
 
 /// Writes the objects of named instances.
-#[tactic(auto, using(crate::proofs::Written::at_first, crate::proofs::Written::after_part, crate::proofs::Written::at_last))]
+#[tactic(auto, using(plain_text::proofs::Written::at_first, plain_text::proofs::Written::after_part, plain_text::proofs::Written::at_last))]
 fn write_instances<W: Write>(
     alloc: Global,
     all: &FontAxes<'_>,
@@ -187,7 +186,7 @@ fn write_instances<W: Write>(
 }
 
 /// Writes the member of the axes.
-#[tactic(auto, using(crate::proofs::Written::both))]
+#[tactic(auto, using(plain_text::proofs::Written::both))]
 fn write_axes_member<W: Write>(axes: &[Axis], out: &mut W) -> Result<(), Unwritten>
     ensures { OnOk result (Appends (W.contents out.old) (W.contents out.new) (axes_member axes.now)) }
 {
@@ -197,7 +196,7 @@ fn write_axes_member<W: Write>(axes: &[Axis], out: &mut W) -> Result<(), Unwritt
 }
 
 /// Writes the member of the named instances, which closes the object.
-#[tactic(auto, using(crate::proofs::Written::both))]
+#[tactic(auto, using(plain_text::proofs::Written::both))]
 fn write_instances_member<W: Write>(
     alloc: Global,
     all: &FontAxes<'_>,
@@ -211,7 +210,7 @@ fn write_instances_member<W: Write>(
 }
 
 /// Writes the outlines, the axes and the named instances as one JSON object. Then it passes on what the writer keeps back.
-#[tactic(auto, using(crate::proofs::Written::both, crate::proofs::Written::flushed))]
+#[tactic(auto, using(plain_text::proofs::Written::both, plain_text::proofs::Written::flushed))]
 pub fn write_axes_json<W: Write>(
     alloc: Global,
     outlines: Outlines,

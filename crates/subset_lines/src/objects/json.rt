@@ -5,10 +5,10 @@ ghost use Rattle.std.specs.Io.KnownBytes.{Appends};
 ghost use Rattle.subset_lines.specs.Objects.Json.{character_member, number_or_null, name_member, object_of, objects, widths_member, glyphs_member, json_of, numbers_from, array_of};
 ghost use Rattle.subset_lines.specs.View.{numbers_view};
 
-use crate::entry::{Numbering, Unwritten, name_at, take_first};
+use crate::entry::{Numbering, name_at, take_first};
 use crate::objects::quoted::write_shown;
 use crate::plain::flush;
-use crate::text::write_text;
+use plain_text::{Unwritten, write_text};
 use std::alloc::Global;
 use std::io::Write;
 use subsetter_base::GlyphRemapper;
@@ -41,7 +41,7 @@ fn write_new<W: Write>(new: Option<u16>, out: &mut W) -> Result<(), Unwritten>
 }
 
 /// Writes the two members that have a glyph's numbers.
-#[tactic(auto, using(crate::proofs::Written::both))]
+#[tactic(auto, using(plain_text::proofs::Written::both))]
 fn write_old<W: Write>(old: u16, new: Option<u16>, out: &mut W) -> Result<(), Unwritten>
     ensures { OnOk result (Appends (W.contents out.old) (W.contents out.new) (codes "\"old\":" ++ decimal old ++ codes ",\"new\":" ++ number_or_null new)) }
 {
@@ -52,7 +52,7 @@ fn write_old<W: Write>(old: u16, new: Option<u16>, out: &mut W) -> Result<(), Un
 }
 
 /// Writes the member that has a glyph's name, unless it is empty.
-#[tactic(auto, using(crate::proofs::Written::both))]
+#[tactic(auto, using(plain_text::proofs::Written::both))]
 fn write_name<W: Write>(name: &[u8], out: &mut W) -> Result<(), Unwritten>
     ensures { OnOk result (Appends (W.contents out.old) (W.contents out.new) (name_member name.now)) }
 {
@@ -64,7 +64,7 @@ fn write_name<W: Write>(name: &[u8], out: &mut W) -> Result<(), Unwritten>
 }
 
 /// Writes the object of a glyph, after a text.
-#[tactic(auto, using(crate::proofs::Written::both))]
+#[tactic(auto, using(plain_text::proofs::Written::both))]
 fn write_object<W: Write>(
     before: &[u8],
     character: Option<char>,
@@ -84,7 +84,7 @@ fn write_object<W: Write>(
 }
 
 /// Writes the objects of glyphs, by characters and names as far as there are any.
-#[tactic(auto, using(crate::proofs::Written::at_first, crate::proofs::Written::after_part, crate::proofs::Written::at_last))]
+#[tactic(auto, using(plain_text::proofs::Written::at_first, plain_text::proofs::Written::after_part, plain_text::proofs::Written::at_last))]
 fn write_each<W: Write>(
     mapper: &GlyphRemapper,
     characters: &[Option<char>],
@@ -120,7 +120,7 @@ fn write_entries<W: Write>(numbering: &Numbering<'_>, out: &mut W) -> Result<(),
 }
 
 /// Writes the member that has the widths, unless their text is empty.
-#[tactic(auto, using(crate::proofs::Written::both))]
+#[tactic(auto, using(plain_text::proofs::Written::both))]
 fn write_widths<W: Write>(text: &[u8], out: &mut W) -> Result<(), Unwritten>
     ensures { OnOk result (Appends (W.contents out.old) (W.contents out.new) (widths_member text.now)) }
 {
@@ -132,7 +132,7 @@ fn write_widths<W: Write>(text: &[u8], out: &mut W) -> Result<(), Unwritten>
 }
 
 /// Writes the objects of the glyphs between two texts.
-#[tactic(auto, using(crate::proofs::Written::both))]
+#[tactic(auto, using(plain_text::proofs::Written::both))]
 fn write_between<W: Write>(
     front: &[u8],
     numbering: &Numbering<'_>,
@@ -154,7 +154,7 @@ fn write_glyphs<W: Write>(numbering: &Numbering<'_>, out: &mut W) -> Result<(), 
 }
 
 /// Writes the object.
-#[tactic(auto, using(crate::proofs::Written::both))]
+#[tactic(auto, using(plain_text::proofs::Written::both))]
 fn write_members<W: Write>(
     numbering: &Numbering<'_>,
     text: &[u8],
@@ -171,7 +171,7 @@ fn write_members<W: Write>(
 
 /// Writes the new numbers of the glyphs as one JSON object, with the text of an array of widths, unless it is empty, and the
 /// text of further members. Then it passes on what the writer keeps back.
-#[tactic(auto, using(crate::proofs::Written::flushed))]
+#[tactic(auto, using(plain_text::proofs::Written::flushed))]
 pub fn write_json<W: Write>(
     numbering: &Numbering<'_>,
     text: &[u8],
@@ -185,7 +185,7 @@ pub fn write_json<W: Write>(
 }
 
 /// Writes a number after a text.
-#[tactic(auto, using(crate::proofs::Written::both))]
+#[tactic(auto, using(plain_text::proofs::Written::both))]
 fn write_number<W: Write>(before: &[u8], number: u32, out: &mut W) -> Result<(), Unwritten>
     ensures { OnOk result (Appends (W.contents out.old) (W.contents out.new) (before.now ++ decimal number)) }
 {
@@ -197,7 +197,7 @@ fn write_number<W: Write>(before: &[u8], number: u32, out: &mut W) -> Result<(),
 }
 
 /// Writes numbers with a comma between each two.
-#[tactic(auto, using(crate::proofs::Written::at_first, crate::proofs::Written::after_part, crate::proofs::Written::at_last))]
+#[tactic(auto, using(plain_text::proofs::Written::at_first, plain_text::proofs::Written::after_part, plain_text::proofs::Written::at_last))]
 fn write_numbers<W: Write>(numbers: &[u32], out: &mut W) -> Result<(), Unwritten>
     ensures { OnOk result (Appends (W.contents out.old) (W.contents out.new) (numbers_from [] numbers.now)) }
 {
@@ -210,7 +210,7 @@ fn write_numbers<W: Write>(numbers: &[u32], out: &mut W) -> Result<(), Unwritten
 }
 
 /// Writes an array of numbers.
-#[tactic(auto, using(crate::proofs::Written::both))]
+#[tactic(auto, using(plain_text::proofs::Written::both))]
 fn write_array<W: Write>(numbers: &[u32], out: &mut W) -> Result<(), Unwritten>
     ensures { OnOk result (Appends (W.contents out.old) (W.contents out.new) (array_of numbers.now)) }
 {

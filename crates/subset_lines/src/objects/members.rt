@@ -7,10 +7,9 @@ ghost use Rattle.subset_lines.specs.Notes.{notes_array};
 ghost use Rattle.subset_lines.specs.Faces.Sizes.{sizes_member};
 ghost use Rattle.subset_lines.specs.Objects.Members.{tables_or_nothing, members};
 
-use crate::entry::Unwritten;
 use crate::faces::sizes::{TableSize, write_sizes_member, write_tables_member};
 use crate::notes::{Note, write_notes_array};
-use crate::text::write_text;
+use plain_text::{Unwritten, write_text};
 use std::alloc::Global;
 use std::io::Write;
 use subsetter_variation::locations::axes::Axis;
@@ -26,7 +25,7 @@ fn write_tables<W: Write>(tables: Option<&[TableSize]>, out: &mut W) -> Result<(
 }
 
 /// Writes the members.
-#[tactic(auto, using(crate::proofs::Written::both))]
+#[tactic(auto, using(plain_text::proofs::Written::both))]
 fn write_members<W: Write>(
     alloc: Global,
     old: u64,

@@ -5,14 +5,13 @@ ghost use Rattle.std.specs.Io.KnownBytes.{Appends};
 ghost use Rattle.subset_lines.specs.Objects.Json.{array_of, numbers_from};
 ghost use Rattle.subset_lines.specs.Objects.Pdf.{name_member, pdf_member, pdf_open};
 
-use crate::entry::Unwritten;
 use crate::objects::quoted::write_quoted;
-use crate::text::{write_count, write_text};
+use plain_text::{Unwritten, write_count, write_text};
 use std::alloc::Global;
 use std::io::Write;
 
 /// Writes codes with a comma between each two.
-#[tactic(auto, using(crate::proofs::Written::at_first, crate::proofs::Written::after_part, crate::proofs::Written::at_last))]
+#[tactic(auto, using(plain_text::proofs::Written::at_first, plain_text::proofs::Written::after_part, plain_text::proofs::Written::at_last))]
 fn write_codes<W: Write>(numbers: &[u16], out: &mut W) -> Result<(), Unwritten>
     ensures { OnOk result (Appends (W.contents out.old) (W.contents out.new) (numbers_from [] numbers.now)) }
 {
@@ -25,7 +24,7 @@ fn write_codes<W: Write>(numbers: &[u16], out: &mut W) -> Result<(), Unwritten>
 }
 
 /// Writes an array of codes.
-#[tactic(auto, using(crate::proofs::Written::both))]
+#[tactic(auto, using(plain_text::proofs::Written::both))]
 fn write_array<W: Write>(numbers: &[u16], out: &mut W) -> Result<(), Unwritten>
     ensures { OnOk result (Appends (W.contents out.old) (W.contents out.new) (array_of numbers.now)) }
 {
@@ -35,7 +34,7 @@ fn write_array<W: Write>(numbers: &[u16], out: &mut W) -> Result<(), Unwritten>
 }
 
 /// Writes the name of the font.
-#[tactic(auto, using(crate::proofs::Written::both))]
+#[tactic(auto, using(plain_text::proofs::Written::both))]
 fn write_name<W: Write>(name: &[u8], out: &mut W) -> Result<(), Unwritten>
     ensures { OnOk result (Appends (W.contents out.old) (W.contents out.new) (name_member name.now)) }
 {
@@ -44,7 +43,7 @@ fn write_name<W: Write>(name: &[u8], out: &mut W) -> Result<(), Unwritten>
 }
 
 /// Writes what opens the member: the bytes of the PDF, and the name of its font.
-#[tactic(auto, using(crate::proofs::Written::both))]
+#[tactic(auto, using(plain_text::proofs::Written::both))]
 fn write_open<W: Write>(size: u64, name: &[u8], out: &mut W) -> Result<(), Unwritten>
     ensures { OnOk result (Appends (W.contents out.old) (W.contents out.new) (pdf_open size name.now)) }
 {
@@ -53,7 +52,7 @@ fn write_open<W: Write>(size: u64, name: &[u8], out: &mut W) -> Result<(), Unwri
 }
 
 /// Writes the member.
-#[tactic(auto, using(crate::proofs::Written::both))]
+#[tactic(auto, using(plain_text::proofs::Written::both))]
 fn write_member<W: Write>(
     size: u64,
     name: &[u8],

@@ -5,13 +5,12 @@ ghost use Rattle.std.specs.Io.KnownBytes.{Appends};
 ghost use Rattle.subset_lines.specs.Faces.Axes.{shown};
 ghost use Rattle.subset_lines.specs.Objects.Quoted.{escaped_byte, escaped, quoted};
 
-use crate::entry::Unwritten;
 use crate::faces::axes::shown;
-use crate::text::write_text;
+use plain_text::{Unwritten, write_text};
 use std::io::Write;
 
 /// Writes a byte of a string: a backslash is before a quotation mark and of a backslash.
-#[tactic(auto, using(crate::proofs::Written::both))]
+#[tactic(auto, using(plain_text::proofs::Written::both))]
 fn write_escaped_byte<W: Write>(byte: u8, out: &mut W) -> Result<(), Unwritten>
     ensures { OnOk result (Appends (W.contents out.old) (W.contents out.new) (escaped_byte byte)) }
 {
@@ -22,7 +21,7 @@ fn write_escaped_byte<W: Write>(byte: u8, out: &mut W) -> Result<(), Unwritten>
 }
 
 /// Writes the bytes of a string.
-#[tactic(auto, using(crate::proofs::Written::at_first, crate::proofs::Written::after_part, crate::proofs::Written::at_last))]
+#[tactic(auto, using(plain_text::proofs::Written::at_first, plain_text::proofs::Written::after_part, plain_text::proofs::Written::at_last))]
 fn write_escaped<W: Write>(text: &[u8], out: &mut W) -> Result<(), Unwritten>
     ensures { OnOk result (Appends (W.contents out.old) (W.contents out.new) (escaped text.now)) }
 {
@@ -33,7 +32,7 @@ fn write_escaped<W: Write>(text: &[u8], out: &mut W) -> Result<(), Unwritten>
 }
 
 /// Writes a text without control characters as a string.
-#[tactic(auto, using(crate::proofs::Written::both))]
+#[tactic(auto, using(plain_text::proofs::Written::both))]
 pub fn write_quoted<W: Write>(text: &[u8], out: &mut W) -> Result<(), Unwritten>
     ensures { OnOk result (Appends (W.contents out.old) (W.contents out.new) (quoted text.now)) }
 {
@@ -43,7 +42,7 @@ pub fn write_quoted<W: Write>(text: &[u8], out: &mut W) -> Result<(), Unwritten>
 }
 
 /// Writes the bytes of a string, each as it is shown.
-#[tactic(auto, using(crate::proofs::Written::at_first, crate::proofs::Written::after_part, crate::proofs::Written::at_last))]
+#[tactic(auto, using(plain_text::proofs::Written::at_first, plain_text::proofs::Written::after_part, plain_text::proofs::Written::at_last))]
 fn write_shown_bytes<W: Write>(text: &[u8], out: &mut W) -> Result<(), Unwritten>
     ensures { OnOk result (Appends (W.contents out.old) (W.contents out.new) (escaped (map shown text.now))) }
 {
@@ -54,7 +53,7 @@ fn write_shown_bytes<W: Write>(text: &[u8], out: &mut W) -> Result<(), Unwritten
 }
 
 /// Writes any bytes as a string, with `?` for those that aren't printable ones of ASCII.
-#[tactic(auto, using(crate::proofs::Written::both))]
+#[tactic(auto, using(plain_text::proofs::Written::both))]
 pub fn write_shown<W: Write>(text: &[u8], out: &mut W) -> Result<(), Unwritten>
     ensures { OnOk result (Appends (W.contents out.old) (W.contents out.new) (quoted (map shown text.now))) }
 {

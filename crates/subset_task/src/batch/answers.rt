@@ -4,11 +4,11 @@ ghost use Rattle.std.specs.Prelude.{◌≡◌, ◌≤◌, ◌^◌, [], length, S
 ghost use Rattle.std.specs.Io.KnownBytes.{Appends};
 ghost use Rattle.subset_task.specs.Batch.Answers.{answer_line, has_failed, IsFailedBy};
 
+use plain_text::Unwritten;
 use std::alloc::{AllocError, Global};
 use std::io;
 use std::io::{ErrorKind, Write};
 use subset_batch::{write_done, write_failed};
-use subset_lines::Unwritten;
 
 /// What is answered to a request of a batch.
 #[derive(Drop)]

@@ -15,7 +15,6 @@ ghost use Rattle.subsetter_c.specs.Settings.{settings_of};
 use crate::answers::kept::{kept_bytes, kept_columns, kept_flags, kept_shorts, kept_words};
 use crate::answers::status::{BITMAPS_ALONE, DONE, INVALID_TEXT, NOT_PERMITTED, status_of};
 use crate::settings::{Coordinate, settings_for};
-use glyph_kinds::bitmaps_alone;
 use pdf_font::{
     Column, Columns, FontError, FontOptions, NamedCmap, PdfFont, ProgramKind, Shown, Usage,
     pdf_font,
@@ -23,6 +22,7 @@ use pdf_font::{
 use std::alloc::Global;
 use subsetter::{Error, Extras, Tag};
 use subsetter_pdf_c::{PdfMade, PdfNumbers, characters_of, shown_of};
+use subsetter_sfnt::alone::bitmaps_alone;
 use subsetter_variable::check_opening_at;
 
 // ---- numbers

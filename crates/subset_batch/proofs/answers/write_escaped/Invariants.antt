@@ -1,6 +1,6 @@
 use Rattle.std.proofs.Common.{drop}
 use Rattle.subset_batch.specs.Written.{escaped_text}
-use Rattle.subset_lines.proofs.Written.{Reaches}
+use Rattle.plain_text.proofs.Written.{Reaches}
 use Rattle.subset_batch.proofs.answers.write_escaped.Given as goal
 
 abbrev pub invariant-loop-b : goal.invariant-loop-b

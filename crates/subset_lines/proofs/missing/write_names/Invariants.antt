@@ -1,6 +1,6 @@
 use Rattle.std.proofs.Common.{drop, []}
 use Rattle.subset_lines.specs.Missing.{names_text}
-use Rattle.subset_lines.proofs.Written.{Reaches}
+use Rattle.plain_text.proofs.Written.{Reaches}
 use Rattle.subset_lines.proofs.missing.write_names.Given as goal
 
 abbrev pub invariant-loop-character : goal.invariant-loop-character

@@ -5,7 +5,7 @@ use Rattle.std.specs.Io.KnownBytes.{Appends}
 use mir.Val.{SFits}
 use Rattle.subset_lines.specs.Fixed.{fixed_text}
 use Rattle.subset_lines.specs.Notes.{setting_text}
-use Rattle.subset_lines.proofs.Written.{then}
+use Rattle.plain_text.proofs.Written.{then}
 use Rattle.subset_lines.proofs.notes.write_clamped.Goals as goal
 
 pub returns : goal.returns

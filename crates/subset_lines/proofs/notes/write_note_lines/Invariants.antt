@@ -1,6 +1,6 @@
 use Rattle.std.proofs.Common.{drop}
 use Rattle.subset_lines.specs.Notes.{note_lines}
-use Rattle.subset_lines.proofs.Written.{Reaches}
+use Rattle.plain_text.proofs.Written.{Reaches}
 use Rattle.subset_lines.proofs.notes.write_note_lines.Given as goal
 
 abbrev pub invariant-loop-note : goal.invariant-loop-note

@@ -5,7 +5,7 @@ use Rattle.std.specs.Io.KnownBytes.{Appends}
 use mir.Val.{SFits}
 use Rattle.subset_lines.specs.Faces.Axes.{shown}
 use Rattle.subset_lines.specs.Fixed.{fixed_text}
-use Rattle.subset_lines.proofs.Written.{both, then}
+use Rattle.plain_text.proofs.Written.{both, then}
 use Rattle.subset_lines.proofs.notes.write_range_text.Goals as goal
 
 pub returns : goal.returns

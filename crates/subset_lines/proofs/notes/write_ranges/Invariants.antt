@@ -1,6 +1,6 @@
 use Rattle.std.proofs.Common.{drop, []}
 use Rattle.subset_lines.specs.Notes.{ranges_text}
-use Rattle.subset_lines.proofs.Written.{Reaches}
+use Rattle.plain_text.proofs.Written.{Reaches}
 use Rattle.subset_lines.proofs.notes.write_ranges.Given as goal
 
 abbrev pub invariant-loop-axis : goal.invariant-loop-axis

@@ -1,6 +1,6 @@
 use Rattle.std.proofs.Common.{drop}
 use Rattle.subset_lines.specs.Lines.{lines_for}
-use Rattle.subset_lines.proofs.Written.{Reaches}
+use Rattle.plain_text.proofs.Written.{Reaches}
 use Rattle.subset_lines.proofs.plain.write_entries.Given as goal
 
 abbrev pub invariant-loop-glyph : goal.invariant-loop-glyph

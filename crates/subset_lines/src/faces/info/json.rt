@@ -6,20 +6,19 @@ ghost use Rattle.std.specs.Option.{option_copied};
 ghost use Rattle.subset_lines.specs.Objects.Quoted.{quoted};
 ghost use Rattle.subset_lines.specs.Faces.Info.{strings, string_or_null, table_object, table_objects, counts_members, refusal_members, tables_member, info_members, info_json};
 
-use crate::entry::Unwritten;
 use crate::faces::axes::tag_bytes;
 use crate::faces::info::face::{Info, permission_words};
 use crate::faces::outlines::write_outlines_members;
 use crate::faces::pictures::write_pictures_member;
 use crate::objects::quoted::write_quoted;
 use crate::plain::flush;
-use crate::text::write_text;
+use plain_text::{Unwritten, write_text};
 use std::alloc::Global;
 use std::io::Write;
 use subsetter_base::Tag;
 
 /// Writes words of permission as strings.
-#[tactic(auto, using(crate::proofs::Written::both))]
+#[tactic(auto, using(plain_text::proofs::Written::both))]
 fn write_string<W: Write>(before: &[u8], word: &str, out: &mut W) -> Result<(), Unwritten>
     ensures { OnOk result (Appends (W.contents out.old) (W.contents out.new) (before.now ++ quoted word.now)) }
 {
@@ -28,7 +27,7 @@ fn write_string<W: Write>(before: &[u8], word: &str, out: &mut W) -> Result<(), 
 }
 
 /// Writes each so.
-#[tactic(auto, using(crate::proofs::Written::at_first, crate::proofs::Written::after_part, crate::proofs::Written::at_last))]
+#[tactic(auto, using(plain_text::proofs::Written::at_first, plain_text::proofs::Written::after_part, plain_text::proofs::Written::at_last))]
 fn write_strings<W: Write>(words: &[&str], out: &mut W) -> Result<(), Unwritten>
     ensures { OnOk result (Appends (W.contents out.old) (W.contents out.new) (strings [] (map (λ w. w.now) words.now))) }
 {
@@ -51,7 +50,7 @@ fn write_string_or_null<W: Write>(text: Option<&[u8]>, out: &mut W) -> Result<()
 }
 
 /// Writes the object of a table, after a text.
-#[tactic(auto, using(crate::proofs::Written::both))]
+#[tactic(auto, using(plain_text::proofs::Written::both))]
 fn write_object<W: Write>(before: &[u8], tag: Tag, size: u32, out: &mut W) -> Result<(), Unwritten>
     ensures { OnOk result (Appends (W.contents out.old) (W.contents out.new) (before.now ++ table_object tag size)) }
 {
@@ -65,7 +64,7 @@ fn write_object<W: Write>(before: &[u8], tag: Tag, size: u32, out: &mut W) -> Re
 }
 
 /// Writes the objects of tables.
-#[tactic(auto, using(crate::proofs::Written::at_first, crate::proofs::Written::after_part, crate::proofs::Written::at_last))]
+#[tactic(auto, using(plain_text::proofs::Written::at_first, plain_text::proofs::Written::after_part, plain_text::proofs::Written::at_last))]
 fn write_objects<W: Write>(tables: &[(Tag, u32)], out: &mut W) -> Result<(), Unwritten>
     ensures { OnOk result (Appends (W.contents out.old) (W.contents out.new) (table_objects [] tables.now)) }
 {
@@ -78,7 +77,7 @@ fn write_objects<W: Write>(tables: &[(Tag, u32)], out: &mut W) -> Result<(), Unw
 }
 
 /// Writes the members of numbers.
-#[tactic(auto, using(crate::proofs::Written::both))]
+#[tactic(auto, using(plain_text::proofs::Written::both))]
 fn write_counts_members<W: Write>(info: &Info<'_>, out: &mut W) -> Result<(), Unwritten>
     ensures { OnOk result (Appends (W.contents out.old) (W.contents out.new) (counts_members info.now)) }
 {
@@ -94,7 +93,7 @@ fn write_counts_members<W: Write>(info: &Info<'_>, out: &mut W) -> Result<(), Un
 }
 
 /// Writes the members of what is permitted and refused.
-#[tactic(auto, using(crate::proofs::Written::both))]
+#[tactic(auto, using(plain_text::proofs::Written::both))]
 fn write_refusal_members<W: Write>(
     info: &Info<'_>,
     words: &[&str],
@@ -111,7 +110,7 @@ fn write_refusal_members<W: Write>(
 }
 
 /// Writes the member of the tables, and what closes the object.
-#[tactic(auto, using(crate::proofs::Written::both))]
+#[tactic(auto, using(plain_text::proofs::Written::both))]
 fn write_tables_member<W: Write>(tables: &[(Tag, u32)], out: &mut W) -> Result<(), Unwritten>
     ensures { OnOk result (Appends (W.contents out.old) (W.contents out.new) (tables_member tables.now)) }
 {
@@ -132,7 +131,7 @@ fn write_members<W: Write>(info: &Info<'_>, words: &[&str], out: &mut W) -> Resu
 }
 
 /// Writes what a face is as one JSON object. Then it passes on what the writer keeps back.
-#[tactic(auto, using(crate::proofs::Written::both, crate::proofs::Written::flushed))]
+#[tactic(auto, using(plain_text::proofs::Written::both, plain_text::proofs::Written::flushed))]
 pub fn write_info_json<W: Write>(
     alloc: Global,
     info: &Info<'_>,

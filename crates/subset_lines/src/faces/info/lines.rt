@@ -5,19 +5,18 @@ ghost use Rattle.std.specs.Io.KnownBytes.{Appends};
 ghost use Rattle.std.specs.Option.{option_copied};
 ghost use Rattle.subset_lines.specs.Faces.Info.{line_after, lines_after, permission_lines, glyphs_line, counts_lines, if_any, refusal_lines, table_line, table_lines, head_lines, info_lines};
 
-use crate::entry::Unwritten;
 use crate::faces::axes::write_tag;
 use crate::faces::info::face::{Info, permission_words};
 use crate::faces::outlines::write_outlines;
 use crate::faces::pictures::write_pictures_line;
 use crate::plain::flush;
-use crate::text::write_text;
+use plain_text::{Unwritten, write_text};
 use std::alloc::Global;
 use std::io::Write;
 use subsetter_base::Tag;
 
 /// Writes words as a line after a text.
-#[tactic(auto, using(crate::proofs::Written::both))]
+#[tactic(auto, using(plain_text::proofs::Written::both))]
 fn write_line_after<W: Write>(front: &[u8], word: &str, out: &mut W) -> Result<(), Unwritten>
     ensures { OnOk result (Appends (W.contents out.old) (W.contents out.new) (line_after front.now word.now)) }
 {
@@ -27,7 +26,7 @@ fn write_line_after<W: Write>(front: &[u8], word: &str, out: &mut W) -> Result<(
 }
 
 /// Writes a line for each.
-#[tactic(auto, using(crate::proofs::Written::at_first, crate::proofs::Written::after_part, crate::proofs::Written::at_last))]
+#[tactic(auto, using(plain_text::proofs::Written::at_first, plain_text::proofs::Written::after_part, plain_text::proofs::Written::at_last))]
 fn write_lines_after<W: Write>(front: &[u8], words: &[&str], out: &mut W) -> Result<(), Unwritten>
     ensures { OnOk result (Appends (W.contents out.old) (W.contents out.new) (lines_after front.now (map (λ w. w.now) words.now))) }
 {
@@ -68,7 +67,7 @@ fn write_counts<W: Write>(faces: u32, bytes: u64, out: &mut W) -> Result<(), Unw
 }
 
 /// Writes a text as a line after another, if there is one.
-#[tactic(auto, using(crate::proofs::Written::both))]
+#[tactic(auto, using(plain_text::proofs::Written::both))]
 fn write_if_any<W: Write>(front: &[u8], text: Option<&[u8]>, out: &mut W) -> Result<(), Unwritten>
     ensures { OnOk result (Appends (W.contents out.old) (W.contents out.new) (if_any front.now (option_copied text.entry))) }
 {
@@ -103,7 +102,7 @@ fn write_refusal<W: Write>(
 }
 
 /// Writes the line of a table: `table glyf 46248`.
-#[tactic(auto, using(crate::proofs::Written::both))]
+#[tactic(auto, using(plain_text::proofs::Written::both))]
 fn write_table<W: Write>(tag: Tag, size: u32, out: &mut W) -> Result<(), Unwritten>
     ensures { OnOk result (Appends (W.contents out.old) (W.contents out.new) (table_line tag size)) }
 {
@@ -116,7 +115,7 @@ fn write_table<W: Write>(tag: Tag, size: u32, out: &mut W) -> Result<(), Unwritt
 }
 
 /// Writes a line for each table.
-#[tactic(auto, using(crate::proofs::Written::at_first, crate::proofs::Written::after_part, crate::proofs::Written::at_last))]
+#[tactic(auto, using(plain_text::proofs::Written::at_first, plain_text::proofs::Written::after_part, plain_text::proofs::Written::at_last))]
 fn write_tables<W: Write>(tables: &[(Tag, u32)], out: &mut W) -> Result<(), Unwritten>
     ensures { OnOk result (Appends (W.contents out.old) (W.contents out.new) (table_lines tables.now)) }
 {
@@ -127,7 +126,7 @@ fn write_tables<W: Write>(tables: &[(Tag, u32)], out: &mut W) -> Result<(), Unwr
 }
 
 /// Writes the lines before those of the tables.
-#[tactic(auto, using(crate::proofs::Written::both))]
+#[tactic(auto, using(plain_text::proofs::Written::both))]
 fn write_head<W: Write>(info: &Info<'_>, words: &[&str], out: &mut W) -> Result<(), Unwritten>
     ensures { OnOk result (Appends (W.contents out.old) (W.contents out.new) (head_lines info.now (map (λ w. w.now) words.now))) }
 {
@@ -140,7 +139,7 @@ fn write_head<W: Write>(info: &Info<'_>, words: &[&str], out: &mut W) -> Result<
 }
 
 /// Writes what a face is as lines. Then it passes on what the writer keeps back.
-#[tactic(auto, using(crate::proofs::Written::both, crate::proofs::Written::flushed))]
+#[tactic(auto, using(plain_text::proofs::Written::both, plain_text::proofs::Written::flushed))]
 pub fn write_info<W: Write>(alloc: Global, info: &Info<'_>, out: &mut W) -> Result<(), Unwritten>
     ensures { OnOk result (Appends (W.contents out.old) (W.contents out.new) (info_lines info.now)) }
 {

@@ -1,6 +1,6 @@
 use Rattle.std.proofs.Common.{drop}
 use Rattle.subset_lines.specs.Faces.Axes.{axis_lines}
-use Rattle.subset_lines.proofs.Written.{Reaches}
+use Rattle.plain_text.proofs.Written.{Reaches}
 use Rattle.subset_lines.proofs.faces.axes.write_axis_lines.Given as goal
 
 abbrev pub invariant-loop-axis : goal.invariant-loop-axis

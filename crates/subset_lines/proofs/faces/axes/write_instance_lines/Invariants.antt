@@ -1,6 +1,6 @@
 use Rattle.std.proofs.Common.{drop, map}
 use Rattle.subset_lines.specs.Faces.Axes.{instance_lines}
-use Rattle.subset_lines.proofs.Written.{Reaches}
+use Rattle.plain_text.proofs.Written.{Reaches}
 use Rattle.subset_lines.proofs.faces.axes.write_instance_lines.Given as goal
 
 abbrev pub invariant-loop-bytes : goal.invariant-loop-bytes

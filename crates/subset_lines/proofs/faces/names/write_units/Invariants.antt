@@ -1,6 +1,6 @@
 use Rattle.std.proofs.Common.{length}
 use Rattle.subset_lines.specs.Faces.Names.{text_of_units}
-use Rattle.subset_lines.proofs.Written.{Reaches}
+use Rattle.plain_text.proofs.Written.{Reaches}
 use Rattle.subset_lines.proofs.faces.names.write_units.Given as goal
 
 abbrev pub invariant-loop-rest : goal.invariant-loop-rest

@@ -1,6 +1,6 @@
 use Rattle.std.proofs.Common.{drop}
 use Rattle.subset_lines.specs.Faces.Pictures.{pictures_text}
-use Rattle.subset_lines.proofs.Written.{Reaches}
+use Rattle.plain_text.proofs.Written.{Reaches}
 use Rattle.subset_lines.proofs.faces.pictures.write_pictures.Given as goal
 
 abbrev pub invariant-loop-picture : goal.invariant-loop-picture

@@ -1,6 +1,6 @@
 use Rattle.std.proofs.Common.{drop, []}
 use Rattle.subset_lines.specs.Faces.Settings.{settings_by}
-use Rattle.subset_lines.proofs.Written.{Reaches}
+use Rattle.plain_text.proofs.Written.{Reaches}
 use Rattle.subset_lines.proofs.faces.settings.write_each.Given as goal
 
 abbrev pub invariant-loop-axis : goal.invariant-loop-axis

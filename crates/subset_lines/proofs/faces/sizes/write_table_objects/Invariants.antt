@@ -1,6 +1,6 @@
 use Rattle.std.proofs.Common.{drop, []}
 use Rattle.subset_lines.specs.Faces.Sizes.{table_objects}
-use Rattle.subset_lines.proofs.Written.{Reaches}
+use Rattle.plain_text.proofs.Written.{Reaches}
 use Rattle.subset_lines.proofs.faces.sizes.write_table_objects.Given as goal
 
 abbrev pub invariant-loop-table : goal.invariant-loop-table

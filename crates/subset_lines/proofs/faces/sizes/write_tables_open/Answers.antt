@@ -1,7 +1,7 @@
 use Rattle.std.proofs.Common.{[]}
 use Rattle.std.specs.Prelude.{codes}
 use Rattle.subset_lines.specs.Faces.Sizes.{table_objects}
-use Rattle.subset_lines.proofs.Written.{then}
+use Rattle.plain_text.proofs.Written.{then}
 use Rattle.subset_lines.proofs.faces.sizes.write_tables_open.Goals as goal
 
 pub returns : goal.returns

@@ -2,7 +2,7 @@ use Rattle.std.proofs.Common.{◌++◌, map, subst}
 use Rattle.std.specs.Io.KnownBytes.{Appends}
 use Rattle.subset_lines.specs.Faces.Outlines.{outlines_members}
 use Rattle.subset_lines.specs.Objects.AxesJson.{axes_member, instances_member, axes_json}
-use Rattle.subset_lines.proofs.Written.{both, ended}
+use Rattle.plain_text.proofs.Written.{both, ended}
 use Rattle.subset_lines.proofs.objects.axes_json.write_axes_json.Goals as goal
 
 pub returns : goal.returns

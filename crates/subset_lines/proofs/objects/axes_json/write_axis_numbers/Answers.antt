@@ -5,7 +5,7 @@ use Rattle.std.specs.Io.KnownBytes.{Appends}
 use mir.Val.{SFits}
 use Rattle.subset_lines.specs.Objects.AxesJson.{greatest_member}
 use Rattle.subset_lines.specs.Fixed.{fixed_text}
-use Rattle.subset_lines.proofs.Written.{both, then}
+use Rattle.plain_text.proofs.Written.{both, then}
 use Rattle.subset_lines.proofs.objects.axes_json.write_axis_numbers.Goals as goal
 
 pub returns : goal.returns

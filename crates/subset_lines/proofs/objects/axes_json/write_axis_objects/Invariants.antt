@@ -1,6 +1,6 @@
 use Rattle.std.proofs.Common.{drop, []}
 use Rattle.subset_lines.specs.Objects.AxesJson.{axis_objects}
-use Rattle.subset_lines.proofs.Written.{Reaches}
+use Rattle.plain_text.proofs.Written.{Reaches}
 use Rattle.subset_lines.proofs.objects.axes_json.write_axis_objects.Given as goal
 
 abbrev pub invariant-loop-axis : goal.invariant-loop-axis

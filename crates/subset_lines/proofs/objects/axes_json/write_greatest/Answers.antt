@@ -4,7 +4,7 @@ use Rattle.std.specs.Prelude.{codes}
 use Rattle.std.specs.Io.KnownBytes.{Appends}
 use mir.Val.{SFits}
 use Rattle.subset_lines.specs.Fixed.{fixed_text}
-use Rattle.subset_lines.proofs.Written.{then}
+use Rattle.plain_text.proofs.Written.{then}
 use Rattle.subset_lines.proofs.objects.axes_json.write_greatest.Goals as goal
 
 pub returns : goal.returns

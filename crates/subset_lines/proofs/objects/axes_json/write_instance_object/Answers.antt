@@ -3,7 +3,7 @@ use Rattle.std.specs.Io.KnownBytes.{Appends}
 use Rattle.subsetter_base.specs.Bytes.{number}
 use Rattle.subset_lines.specs.Objects.AxesJson.{instance_name, instance_settings}
 use Rattle.subset_lines.specs.Faces.Names.{name_of}
-use Rattle.subset_lines.proofs.Written.{then}
+use Rattle.plain_text.proofs.Written.{then}
 use Rattle.subset_lines.proofs.objects.axes_json.write_instance_object.Goals as goal
 
 pub returns : goal.returns

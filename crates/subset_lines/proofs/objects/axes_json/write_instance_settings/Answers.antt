@@ -1,7 +1,7 @@
 use Rattle.std.proofs.Common.{◌++◌, []}
 use Rattle.std.specs.Prelude.{codes}
 use Rattle.subset_lines.specs.Objects.AxesJson.{settings_members}
-use Rattle.subset_lines.proofs.Written.{then}
+use Rattle.plain_text.proofs.Written.{then}
 use Rattle.subset_lines.proofs.objects.axes_json.write_instance_settings.Goals as goal
 
 pub returns : goal.returns

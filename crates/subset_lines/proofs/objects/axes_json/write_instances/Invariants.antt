@@ -1,6 +1,6 @@
 use Rattle.std.proofs.Common.{drop, map, []}
 use Rattle.subset_lines.specs.Objects.AxesJson.{instance_objects}
-use Rattle.subset_lines.proofs.Written.{Reaches}
+use Rattle.plain_text.proofs.Written.{Reaches}
 use Rattle.subset_lines.proofs.objects.axes_json.write_instances.Given as goal
 
 abbrev pub invariant-loop-bytes : goal.invariant-loop-bytes

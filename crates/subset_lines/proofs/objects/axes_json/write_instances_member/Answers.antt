@@ -2,7 +2,7 @@ use Rattle.std.proofs.Common.{◌++◌, [], map, subst}
 use Rattle.std.specs.Prelude.{codes}
 use Rattle.std.specs.Io.KnownBytes.{Appends}
 use Rattle.subset_lines.specs.Objects.AxesJson.{instance_objects}
-use Rattle.subset_lines.proofs.Written.{both, then}
+use Rattle.plain_text.proofs.Written.{both, then}
 use Rattle.subset_lines.proofs.objects.axes_json.write_instances_member.Goals as goal
 
 pub returns : goal.returns

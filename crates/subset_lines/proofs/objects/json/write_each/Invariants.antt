@@ -1,6 +1,6 @@
 use Rattle.std.proofs.Common.{drop, map, []}
 use Rattle.subset_lines.specs.Objects.Json.{objects}
-use Rattle.subset_lines.proofs.Written.{Reaches}
+use Rattle.plain_text.proofs.Written.{Reaches}
 use Rattle.subset_lines.proofs.objects.json.write_each.Given as goal
 
 abbrev pub invariant-loop-index : goal.invariant-loop-index

@@ -1,6 +1,6 @@
 use Rattle.std.proofs.Common.{drop, []}
 use Rattle.subset_lines.specs.Objects.Json.{numbers_from}
-use Rattle.subset_lines.proofs.Written.{Reaches}
+use Rattle.plain_text.proofs.Written.{Reaches}
 use Rattle.subset_lines.proofs.objects.pdf.write_codes.Given as goal
 
 abbrev pub invariant-loop-number : goal.invariant-loop-number

@@ -1,7 +1,7 @@
 use Rattle.std.proofs.Common.{◌++◌}
 use Rattle.std.specs.Prelude.{codes, decimal}
 use Rattle.subset_lines.specs.Objects.Pdf.{name_member}
-use Rattle.subset_lines.proofs.Written.{then}
+use Rattle.plain_text.proofs.Written.{then}
 use Rattle.subset_lines.proofs.objects.pdf.write_open.Goals as goal
 
 pub returns : goal.returns

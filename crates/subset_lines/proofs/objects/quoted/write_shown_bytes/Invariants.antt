@@ -1,7 +1,7 @@
 use Rattle.std.proofs.Common.{drop, map}
 use Rattle.subset_lines.specs.Faces.Axes.{shown}
 use Rattle.subset_lines.specs.Objects.Quoted.{escaped}
-use Rattle.subset_lines.proofs.Written.{Reaches}
+use Rattle.plain_text.proofs.Written.{Reaches}
 use Rattle.subset_lines.proofs.objects.quoted.write_shown_bytes.Given as goal
 
 abbrev pub invariant-loop-byte : goal.invariant-loop-byte

@@ -1,7 +1,7 @@
 use Rattle.std.proofs.Common.{◌++◌, ◌/◌, ◌%◌, map, ap, ◌∙◌}
 use Rattle.std.specs.Prelude.{codes, ◌==◌}
 use Rattle.subset_lines.specs.Faces.Info.{has_bit, word_if}
-use Rattle.subset_lines.proofs.Written.{word_next, word_last}
+use Rattle.subset_lines.proofs.Words.{word_next, word_last}
 use Rattle.subset_lines.proofs.faces.info.face.words_of_bits.Goals as goal
 
 pub returns : goal.returns

@@ -1,7 +1,7 @@
 use Rattle.std.proofs.Common.{map, subst}
 use Rattle.std.specs.Io.KnownBytes.{Appends}
 use Rattle.subset_lines.specs.Faces.Info.{permission_words, info_members}
-use Rattle.subset_lines.proofs.Written.{ended}
+use Rattle.plain_text.proofs.Written.{ended}
 use Rattle.subset_lines.proofs.faces.info.json.write_info_json.Goals as goal
 
 pub returns : goal.returns

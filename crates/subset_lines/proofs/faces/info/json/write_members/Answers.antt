@@ -2,7 +2,7 @@ use Rattle.std.proofs.Common.{◌++◌, map}
 use Rattle.subset_lines.specs.Faces.Info.{counts_members, refusal_members, tables_member}
 use Rattle.subset_lines.specs.Faces.Outlines.{outlines_members}
 use Rattle.subset_lines.specs.Faces.Pictures.{pictures_member}
-use Rattle.subset_lines.proofs.Written.{both, then}
+use Rattle.plain_text.proofs.Written.{both, then}
 use Rattle.subset_lines.proofs.faces.info.json.write_members.Goals as goal
 
 pub returns : goal.returns

@@ -2,7 +2,7 @@ use Rattle.std.proofs.Common.{◌++◌, [], map}
 use Rattle.std.specs.Prelude.{codes}
 use Rattle.std.specs.Option.{option_copied}
 use Rattle.subset_lines.specs.Faces.Info.{strings, string_or_null}
-use Rattle.subset_lines.proofs.Written.{both, then}
+use Rattle.plain_text.proofs.Written.{both, then}
 use Rattle.subset_lines.proofs.faces.info.json.write_refusal_members.Goals as goal
 
 pub returns : goal.returns

@@ -1,6 +1,6 @@
 use Rattle.std.proofs.Common.{drop, map, []}
 use Rattle.subset_lines.specs.Faces.Info.{strings}
-use Rattle.subset_lines.proofs.Written.{Reaches}
+use Rattle.plain_text.proofs.Written.{Reaches}
 use Rattle.subset_lines.proofs.faces.info.json.write_strings.Given as goal
 
 abbrev pub invariant-loop-word : goal.invariant-loop-word

@@ -1,6 +1,6 @@
 use Rattle.std.proofs.Common.{drop, map}
 use Rattle.subset_lines.specs.Faces.Info.{lines_after}
-use Rattle.subset_lines.proofs.Written.{Reaches}
+use Rattle.plain_text.proofs.Written.{Reaches}
 use Rattle.subset_lines.proofs.faces.info.lines.write_lines_after.Given as goal
 
 abbrev pub invariant-loop-word : goal.invariant-loop-word

@@ -2,7 +2,7 @@ use Rattle.std.proofs.Common.{Some}
 use Rattle.std.specs.Prelude.{codes}
 use Rattle.std.specs.Option.{option_copied}
 use Rattle.subset_lines.specs.Faces.Info.{if_any}
-use Rattle.subset_lines.proofs.Written.{then}
+use Rattle.plain_text.proofs.Written.{then}
 use Rattle.subset_lines.proofs.faces.info.lines.write_refused.Goals as goal
 
 pub returns : goal.returns

@@ -1,6 +1,6 @@
 use Rattle.std.proofs.Common.{drop}
 use Rattle.subset_lines.specs.Faces.Info.{table_lines}
-use Rattle.subset_lines.proofs.Written.{Reaches}
+use Rattle.plain_text.proofs.Written.{Reaches}
 use Rattle.subset_lines.proofs.faces.info.lines.write_tables.Given as goal
 
 abbrev pub invariant-loop-table : goal.invariant-loop-table

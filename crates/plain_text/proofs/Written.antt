@@ -1,8 +1,7 @@
 -- What a writer holds while lines are written to it.
-use Rattle.std.proofs.Common.{◌≡◌, ℕ, List, [], ◌++◌, refl, sym, ap, ◌∙◌, append_assoc, append-nil, Result, Ok, Err, Bool}
-use Rattle.std.specs.Prelude.{⊤, Option, Some, None, OnOk, IfOk}
+use Rattle.std.proofs.Common.{◌≡◌, ℕ, List, [], ◌++◌, refl, sym, ap, ◌∙◌, append_assoc, append-nil, Result, Ok, Err}
+use Rattle.std.specs.Prelude.{⊤, Option, Some, None, OnOk}
 use Rattle.std.specs.Io.KnownBytes.{Appends}
-use Rattle.subset_lines.specs.Faces.Info.{word_if}
 
 -- with the rest, the writer will have gained all
 abbrev pub Reaches : Option (List ℕ) → Option (List ℕ) → List ℕ → List ℕ → Type 0
@@ -48,12 +47,3 @@ then (Err e) old now new first second a b = tt
 pub ended : {E : Type 0} (r : Result (Unit {0}) E) (old now new : Option (List ℕ)) (text : List ℕ) → Appends old now text → OnOk r (Appends now new []) → OnOk r (Appends old new text)
 ended (Ok done) old now new text a b = flushed old now new text a b
 ended (Err e) old now new text a b = tt
-
--- ---- words that are there if something holds
-
-pub word_next : (before said words : List (List ℕ)) (holds is : Bool) (word : List ℕ) → words ≡ before ++ word_if holds word → before ≡ said → holds ≡ is → words ≡ said ++ word_if is word
-word_next before said words holds is word e f g = e ∙ ap (λ l. l ++ word_if holds word) f ∙ ap (λ b. said ++ word_if b word) g
-
-pub word_last : {T E : Type 0} (r : Result T E) (view : T → List (List ℕ)) (before said : List (List ℕ)) (holds is : Bool) (word : List ℕ) → IfOk r (λ v. view v ≡ before ++ word_if holds word) → before ≡ said → holds ≡ is → IfOk r (λ v. view v ≡ said ++ word_if is word)
-word_last (Ok v) view before said holds is word e f g = word_next before said (view v) holds is word e f g
-word_last (Err e) view before said holds is word x f g = tt

@@ -2,7 +2,7 @@
 
 ghost use Rattle.std.specs.Prelude.{◌≡◌, map, IfOk, string_bytes};
 ghost use Rattle.std.specs.Str.{chars, encode_utf8_all};
-ghost use Rattle.subset_lines.specs.Characters.{is_control, is_separator, is_direction, is_plain, plain};
+ghost use Rattle.plain_text.specs.Characters.{is_control, is_separator, is_direction, is_plain, plain};
 
 use std::alloc::{AllocError, Global};
 

@@ -4,10 +4,10 @@ ghost use Rattle.std.specs.Prelude.{◌≡◌, is_some};
 ghost use Rattle.subsetter_sfnt.specs.Extras.{all_extras};
 ghost use Rattle.subsetter_sfnt.specs.FontAt.{font_at};
 ghost use Rattle.subsetter_sfnt.specs.Read.{stored};
-ghost use Rattle.glyph_kinds.specs.Alone.{bitmap_table, bitmaps_alone, has_outlines};
+ghost use Rattle.subsetter_sfnt.specs.Alone.{bitmap_table, bitmaps_alone, has_outlines};
 
+use crate::directory::table;
 use subsetter_base::Tag;
-use subsetter_sfnt::directory::table;
 
 /// Whether a face has a table.
 fn has(data: &[u8], index: u32, tag: Tag) -> bool

@@ -3,8 +3,11 @@
 ghost use Rattle.std.specs.Prelude.{◌≡◌, ◌++◌, OnOk, decimal};
 ghost use Rattle.std.specs.Io.KnownBytes.{Appends};
 
-use crate::entry::Unwritten;
 use std::io::Write;
+
+/// The writer failed.
+#[derive(Debug, Drop)]
+pub struct Unwritten;
 
 /// Writes a text.
 pub fn write_text<W: Write>(text: &[u8], out: &mut W) -> Result<(), Unwritten>
