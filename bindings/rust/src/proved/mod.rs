@@ -37,6 +37,7 @@ pub mod cmap;
 #[cfg(feature = "variable-fonts")]
 pub mod font_advances;
 pub mod font_reasons;
+#[cfg(feature = "variable-fonts")]
 pub mod glyph_kinds;
 #[cfg(feature = "program")]
 pub mod glyph_names;
@@ -78,6 +79,8 @@ pub mod pdf_text_font;
 pub mod pdf_values;
 #[cfg(feature = "variable-fonts")]
 pub mod pdf_widths;
+#[cfg(feature = "program")]
+pub mod plain_text;
 #[cfg(feature = "program")]
 pub mod subset_args;
 #[cfg(feature = "program")]

@@ -27,7 +27,7 @@ pub enum Call {
     SubsetAt,
     /// A subset with CIDs and widths.
     Embed,
-    /// The same at coordinates.
+    /// A subset with CIDs and widths at coordinates.
     EmbedAt,
     /// A font for a PDF.
     PdfFont,

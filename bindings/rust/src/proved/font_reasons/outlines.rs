@@ -254,7 +254,7 @@ fn reached_by(
     Ok(seen)
 }
 
-/// The same of the components of an outline, if it has some.
+/// The glyphs that were seen, and those of the components of an outline, if it has some.
 fn reached_in(seen: GlyphRemapper, bytes: &[u8]) -> Result<GlyphRemapper, Error> {
     match (number_at(bytes, 0), from_offset(bytes, HEADER_SIZE)) {
         (Some(contours), Some(components)) => {
@@ -267,7 +267,7 @@ fn reached_in(seen: GlyphRemapper, bytes: &[u8]) -> Result<GlyphRemapper, Error>
     }
 }
 
-/// The same of the components of a glyph.
+/// The glyphs that were seen, and those of the components of a glyph.
 fn reached_from(
     glyf: &[u8],
     loca: &[u8],
@@ -281,7 +281,7 @@ fn reached_from(
     }
 }
 
-/// The same of each of these glyphs.
+/// The glyphs that were seen, and those of the components of each of these glyphs.
 fn reached_from_all(
     glyf: &[u8],
     loca: &[u8],
@@ -353,7 +353,7 @@ fn format_of(font: &[u8], index: u32) -> Option<u16> {
     index_to_loc_format(head)
 }
 
-/// The same, where the face has the tables of outlines in `glyf`.
+/// What is wrong with the components of glyphs, where the face has the tables of outlines in `glyf`.
 ///
 /// # Errors
 ///

@@ -3,8 +3,8 @@
 
 use crate::proved::font_reasons::file::missing_table;
 use crate::proved::font_reasons::reason::Reason;
-use crate::proved::glyph_kinds::{bitmaps_alone, has_outlines};
 use crate::proved::subsetter_base::Tag;
+use crate::proved::subsetter_sfnt::alone::{bitmaps_alone, has_outlines};
 use crate::proved::subsetter_sfnt::directory::table;
 use crate::proved::subsetter_sfnt::fields::hhea::number_of_h_metrics;
 use crate::proved::subsetter_sfnt::fields::hmtx::{glyph_metric, last_advance};

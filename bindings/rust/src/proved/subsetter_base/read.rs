@@ -127,7 +127,7 @@ pub fn from_offset(bytes: &[u8], at: usize) -> Option<&[u8]> {
     bytes.get(at..)
 }
 
-/// The bytes behind the first four.
+/// The bytes after the first four.
 #[cfg(feature = "variable-fonts")]
 pub fn after_four(bytes: &[u8]) -> &[u8] {
     match bytes {

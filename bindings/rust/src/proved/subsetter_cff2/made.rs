@@ -38,7 +38,7 @@ pub struct PlacedDict<'a> {
 pub struct NewGlyphs {
     /// The index of each glyph's font dict among the new ones.
     pub places: Vec<u8>,
-    /// The charstrings, one behind the other.
+    /// The charstrings, one after the other.
     pub char_strings: Vec<u8>,
     /// Where each charstring ends, as an INDEX counts.
     pub ends: Vec<usize>,

@@ -56,7 +56,7 @@ pub struct Columns {
 }
 
 impl Columns {
-    /// The same lists without what they hold.
+    /// Lists with the room of these, which hold nothing.
     pub fn emptied(self) -> Self {
         let mut columns = self;
         columns.ends.clear();

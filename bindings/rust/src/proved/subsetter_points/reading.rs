@@ -131,7 +131,7 @@ fn read_header(bytes: &[u8]) -> Option<(u16, &[u8])> {
 }
 
 /// What `read_simple` reads, before the points are joined. Flags and coordinates stand in the memory of columns that are spare, whose
-/// contents don't count. Four more coordinates have room behind those of the points.
+/// contents don't count. Four more coordinates have room after those of the points.
 pub fn read_columns(alloc: Global, spare: Columns, bytes: &[u8]) -> Result<Option<Columns>, Error> {
     if bytes.is_empty() {
         return Ok(Some(spare.emptied()));

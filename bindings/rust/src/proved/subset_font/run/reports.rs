@@ -203,7 +203,7 @@ fn numbers_of(alloc: Global, glyphs: &[u16]) -> Result<Vec<String>, AllocError> 
     Ok(names)
 }
 
-/// The line of names, equal ones side by side, behind a text: the first twenty, each once, and how many more there are.
+/// The line of names, equal ones side by side, after a text: the first twenty, each once, and how many more there are.
 fn lacking_text(alloc: Global, front: &str, names: &[String]) -> Result<String, AllocError> {
     let mut text = String::from_str(alloc, front)?;
     let mut last = "";
@@ -226,7 +226,7 @@ fn lacking_text(alloc: Global, front: &str, names: &[String]) -> Result<String, 
     Ok(text)
 }
 
-/// Reports the line of names behind a text.
+/// Reports the line of names after a text.
 fn report_lacking<R: Eprint + AllocGlobal>(rt: &R, front: &str, names: &[String]) {
     if let Ok(text) = lacking_text(rt.alloc(), front, names) {
         let _ = eprintln!(rt; "{text}");

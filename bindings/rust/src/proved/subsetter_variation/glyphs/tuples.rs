@@ -39,7 +39,7 @@ const OFFSET32_SIZE: usize = 4;
 
 const OFFSET16_SIZE: usize = 2;
 
-/// dataOffset of a glyph's variations, two bytes, behind tupleVariationCount.
+/// dataOffset of a glyph's variations, two bytes, after tupleVariationCount.
 #[cfg(feature = "variable-fonts")]
 #[cfg(feature = "variable-fonts")]
 const DATA_OFFSET: usize = 2;
@@ -95,7 +95,7 @@ pub struct TupleHeaders<'a> {
     serialized: &'a [u8],
 }
 
-/// The first bytes and those behind them, if there are as many.
+/// The first bytes and those after them, if there are as many.
 #[cfg(feature = "variable-fonts")]
 #[cfg(feature = "variable-fonts")]
 fn split(n: usize, bytes: &[u8]) -> Option<(&[u8], &[u8])> {
@@ -143,7 +143,7 @@ impl<'a> Gvar<'a> {
         self.axis_count
     }
 
-    /// The same table, at a location where scalars of its first shared tuples are known.
+    /// This table at a location where scalars of its first shared tuples are known.
     #[cfg(feature = "variable-fonts")]
     #[cfg(feature = "variable-fonts")]
     pub fn located<'b>(&'b self, location: &'b [i32], scalars: &'b [i64]) -> Gvar<'b> {
@@ -236,7 +236,7 @@ pub fn tuple_headers(bytes: &[u8]) -> Option<(bool, TupleHeaders<'_>)> {
     ))
 }
 
-/// The peaks of a region, and the bytes of the header behind them.
+/// The peaks of a region, and the bytes of the header after them.
 #[cfg(feature = "variable-fonts")]
 #[cfg(feature = "variable-fonts")]
 fn peaks_in<'a>(t: &Gvar<'a>, flags: u16, bytes: &'a [u8]) -> Option<(&'a [u8], &'a [u8])> {
@@ -250,7 +250,7 @@ fn peaks_in<'a>(t: &Gvar<'a>, flags: u16, bytes: &'a [u8]) -> Option<(&'a [u8], 
     }
 }
 
-/// The region with these peaks, and the bytes of the header behind it.
+/// The region with these peaks, and the bytes of the header after it.
 #[cfg(feature = "variable-fonts")]
 #[cfg(feature = "variable-fonts")]
 fn ends_in<'a>(
@@ -269,7 +269,7 @@ fn ends_in<'a>(
     }
 }
 
-/// The region of a tuple, and the bytes of the header behind it.
+/// The region of a tuple, and the bytes of the header after it.
 #[cfg(feature = "variable-fonts")]
 #[cfg(feature = "variable-fonts")]
 fn region_in<'a>(t: &Gvar<'a>, flags: u16, bytes: &'a [u8]) -> Option<(TupleRegion<'a>, &'a [u8])> {
@@ -317,13 +317,13 @@ impl<'a> TupleHeaders<'a> {
         self.serialized
     }
 
-    /// The same tuples, whose data are these bytes.
+    /// These tuples with other data.
     pub fn with_serialized(self, serialized: &'a [u8]) -> Self {
         TupleHeaders { serialized, ..self }
     }
 }
 
-/// The next tuple, without its deltas, and those behind it, unless it is cut.
+/// The next tuple, without its deltas, and those after it, unless it is cut.
 #[cfg(feature = "variable-fonts")]
 #[cfg(feature = "variable-fonts")]
 pub fn next_header<'a>(

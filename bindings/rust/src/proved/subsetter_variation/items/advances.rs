@@ -23,7 +23,7 @@ const ADVANCE_WIDTH_MAPPING_OFFSET: usize = 8;
 /// vOrgMappingOffset of `VVAR`, four bytes.
 const V_ORG_MAPPING_OFFSET: usize = 20;
 
-/// entryFormat of a map, one byte, behind format.
+/// entryFormat of a map, one byte, after format.
 const ENTRY_FORMAT: usize = 1;
 /// mapCount, two bytes in format 0, and four in format 1.
 const MAP_COUNT: usize = 2;

@@ -156,7 +156,7 @@ fn known_delta(
     delta
 }
 
-/// The same of one of a list, where none is `MalformedFont`.
+/// What an item of a list varies by at a location, which is known then; where there is none, `MalformedFont`.
 fn listed_delta(
     s: &Store<'_>,
     at: &[i32],

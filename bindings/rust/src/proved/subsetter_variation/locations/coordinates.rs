@@ -65,7 +65,7 @@ fn unmapped_coordinates(
     Ok(coordinates)
 }
 
-/// On each axis, whose segments are behind those of the axis before.
+/// On each axis, whose segments are after those of the axis before.
 #[cfg(feature = "variable-fonts")]
 #[cfg(feature = "variable-fonts")]
 fn coordinates_at(

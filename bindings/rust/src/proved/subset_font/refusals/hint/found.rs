@@ -66,7 +66,7 @@ fn reason_for(
     shown(find_reason(error, font, request))
 }
 
-/// The same for the first request for which they show anything.
+/// What the tables show of a font that is refused, for the first request for which they show anything.
 fn first_reason(
     error: Error,
     font: &[u8],
@@ -75,12 +75,12 @@ fn first_reason(
     asked: &[RequestedGlyphs<'_>],
 ) -> Option<Hint> {
     let mut rest = asked;
-    while let [one, behind @ ..] = rest {
+    while let [one, following @ ..] = rest {
         let hint = reason_for(error, font, index, widths, one);
         if hint.is_some() {
             return hint;
         }
-        rest = behind;
+        rest = following;
     }
     None
 }
