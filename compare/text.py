@@ -255,17 +255,21 @@ def compare_line(row, commands, room):
 
 
 def read(lines, asked, programs, room, pool):
-    """For the lines as they are here (the program is ""), and as programs make them: the program, the reader, the line, the grade and the text. Programs
-    are asked at a time, and then readers."""
+    """For the lines as they are here (the program is ""), and as programs make them: the program, the reader, the line, the grade and the text."""
     config, others = writers.with_fonts(lines, room), [it for it in lines if not it.texts]
-    made = {"": [(it, it.path, 1) for it in lines]}
-    made.update(zip(programs, pool.map(lambda it: writers.write(it, others, config, room), programs)))
-    files = {name: readers.joined([it[1:] for it in pages], os.path.join(room, f"of {name}.joined")) for name, pages in made.items()}
-    pairs = [(name, reader) for reader in reversed(asked) for name in files]
-    for (name, reader), texts in zip(pairs, pool.map(lambda it: readers.texts_by(it[1], files[it[0]]), pairs)):
-        if len(texts) != len(made[name]):
-            raise readers.Unread(f"{reader} finds {len(texts)} pages of {len(made[name])} in what {name or 'this library'} makes")
-        for (line, *_), text in zip(made[name], texts):
+
+    def made(name):
+        pages = writers.write(name, others, config, room) if name else [(it, it.path, 1) for it in lines]
+        return [it[0] for it in pages], readers.joined([it[1:] for it in pages], os.path.join(room, f"of {name}.joined"))
+
+    # (each program is started before a reader waits for it)
+    files = {name: pool.submit(made, name) for name in ("", *programs)}
+    pairs = [(name, reader) for name in files for reader in reversed(asked)]
+    for (name, reader), texts in zip(pairs, pool.map(lambda it: readers.texts_by(it[1], files[it[0]].result()[1]), pairs)):
+        of = files[name].result()[0]
+        if len(texts) != len(of):
+            raise readers.Unread(f"{reader} finds {len(texts)} pages of {len(of)} in what {name or 'this library'} makes")
+        for line, text in zip(of, texts):
             yield name, reader, line, *grade(line, reader, text)
 
 
