@@ -37,6 +37,7 @@ pub mod cmap;
 #[cfg(feature = "variable-fonts")]
 pub mod font_advances;
 pub mod font_reasons;
+#[cfg(feature = "variable-fonts")]
 pub mod glyph_kinds;
 #[cfg(feature = "program")]
 pub mod glyph_names;
@@ -79,6 +80,8 @@ pub mod pdf_values;
 #[cfg(feature = "variable-fonts")]
 pub mod pdf_widths;
 #[cfg(feature = "program")]
+pub mod plain_text;
+#[cfg(feature = "program")]
 pub mod subset_args;
 #[cfg(feature = "program")]
 pub mod subset_batch;
@@ -92,12 +95,10 @@ pub mod subset_pdf;
 pub mod subset_task;
 pub mod subsetter;
 pub mod subsetter_base;
-#[cfg(feature = "variable-fonts")]
 pub mod subsetter_blend;
 #[cfg(feature = "variable-fonts")]
 pub mod subsetter_boxes;
 pub mod subsetter_cff;
-#[cfg(feature = "variable-fonts")]
 pub mod subsetter_cff2;
 #[cfg(feature = "variable-fonts")]
 pub mod subsetter_cff_at;

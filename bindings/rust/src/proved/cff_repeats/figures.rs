@@ -15,9 +15,9 @@ const ENDCHAR: [u8; 1] = [14];
 pub struct Figure<'a> {
     /// The number of its font dict in the old table.
     pub number: u8,
-    /// A number in front of its charstring.
+    /// A number before its charstring.
     pub width: Option<CharStringNumber>,
-    /// What is behind that.
+    /// What is after that.
     pub body: &'a [u8],
 }
 

@@ -23,7 +23,7 @@ fn repeated(alloc: Global, table: &Table<'_>, figures: &[Option<u16>]) -> Result
     write_table(alloc, new, figures.len() as u16)
 }
 
-/// The two pieces, one behind the other.
+/// The two pieces, one after the other.
 fn joined(pieces: CffPieces) -> Result<Vec<u8>, Error> {
     let mut bytes = pieces.front;
     bytes.extend_from_slice(&pieces.char_strings)?;

@@ -38,7 +38,7 @@ const NUM_TABLES: usize = 2;
 const ENCODING_RECORDS: usize = 4;
 /// How many bytes an encoding record has.
 const ENCODING_RECORD_SIZE: usize = 8;
-/// encodingID of a record, two bytes, behind platformID.
+/// encodingID of a record, two bytes, after platformID.
 const ENCODING_ID: usize = 2;
 /// subtableOffset of a record, four bytes.
 const SUBTABLE_OFFSET: usize = 4;

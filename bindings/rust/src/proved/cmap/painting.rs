@@ -12,7 +12,7 @@ use crate::rattle::alloc::{AllocError, Global};
 /// One more than the last character of Unicode.
 const CHARACTERS: usize = 0x110000;
 
-/// The places of all characters and one behind them, each open.
+/// The places of all characters and one after them, each open.
 fn all_open(alloc: Global) -> Result<Vec<u32>, AllocError> {
     let mut places = Vec::with_capacity(alloc, CHARACTERS + 1)?;
     for place in 0..CHARACTERS as u32 + 1 {

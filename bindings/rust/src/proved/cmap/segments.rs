@@ -7,7 +7,7 @@ use crate::proved::subsetter_base::read::number_at;
 pub(crate) const SEG_COUNT_X2: usize = 6;
 /// endCode of each segment, two bytes.
 pub(crate) const END_CODES: usize = 14;
-/// startCode of each segment, behind the end codes and reservedPad, where there are no segments; then idDelta and
+/// startCode of each segment, after the end codes and reservedPad, where there are no segments; then idDelta and
 /// idRangeOffset of each, two bytes each.
 const START_CODES: usize = 16;
 

@@ -18,9 +18,9 @@ use crate::rattle::alloc::Global;
 pub struct GlyphAdvances {
     /// unitsPerEm: how many units the em has. It isn't 0.
     pub units_per_em: u16,
-    /// Of each given glyph, in the order given, the advance width.
+    /// The advance width of each given glyph, in the order given.
     pub widths: Vec<u16>,
-    /// Of each given glyph the advance height; one em where the font has none.
+    /// The advance height of each given glyph; one em where the font has none.
     pub heights: Vec<u16>,
 }
 

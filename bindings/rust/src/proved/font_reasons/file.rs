@@ -66,7 +66,7 @@ fn by_magic(magic: Option<u16>) -> Reason {
     }
 }
 
-/// The same by its first number, too.
+/// What a file is that begins as no font does, by its first number or by the number where EOT has its own.
 fn other_format(front: Option<u16>, magic: Option<u16>) -> Reason {
     match front {
         Some(TYPE_1) => Reason::Type1,

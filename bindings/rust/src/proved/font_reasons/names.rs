@@ -25,7 +25,7 @@ fn lost_string(storage: &[u8], it: NameRecord) -> Option<Reason> {
     }
 }
 
-/// The same, by the record at an offset.
+/// Whether the string of the kept name with its record at an offset isn't inside the storage.
 fn lost_at(name: &[u8], storage: &[u8], at: usize) -> Option<Reason> {
     let record = Reader::new_at(name, at).read::<NameRecord>()?;
     lost_string(storage, record)
@@ -58,7 +58,7 @@ fn lost_in(name: &[u8]) -> Option<Reason> {
     first_lost(name, storage, count)
 }
 
-/// The same, where the table has version 0.
+/// The first kept name of a table of version 0 whose string isn't inside the storage.
 fn lost_name_of(name: &[u8]) -> Option<Reason> {
     if number_at(name, 0)? == 0 {
         return lost_in(name);

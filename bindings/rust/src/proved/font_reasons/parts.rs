@@ -3,8 +3,8 @@
 
 use crate::proved::font_reasons::file::missing_table;
 use crate::proved::font_reasons::reason::Reason;
-use crate::proved::glyph_kinds::{bitmaps_alone, has_outlines};
 use crate::proved::subsetter_base::Tag;
+use crate::proved::subsetter_sfnt::alone::{bitmaps_alone, has_outlines};
 use crate::proved::subsetter_sfnt::directory::table;
 use crate::proved::subsetter_sfnt::fields::hhea::number_of_h_metrics;
 use crate::proved::subsetter_sfnt::fields::hmtx::{glyph_metric, last_advance};
@@ -39,12 +39,6 @@ pub fn no_table(font: &[u8], index: u32, tag: Tag) -> Option<Reason> {
         Some(_) => None,
         None => Some(missing_table(font, index, tag)),
     }
-}
-
-/// Whether a face lacks a table that only this request needs, if it needs one.
-#[cfg(feature = "program")]
-pub fn no_needed_table(font: &[u8], index: u32, needs: Option<Tag>) -> Option<Reason> {
-    no_table(font, index, needs?)
 }
 
 /// What is wrong with numberOfHMetrics of `hhea`, by the length of `hmtx`.

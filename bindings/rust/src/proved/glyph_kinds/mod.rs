@@ -7,24 +7,15 @@
 //! let is_blank = kinds[0] == 1 << 16;          // an empty outline, and no other picture
 //! ```
 
-mod alone;
-#[cfg(feature = "variable-fonts")]
 mod bitmaps;
-#[cfg(feature = "variable-fonts")]
 mod call;
-#[cfg(feature = "variable-fonts")]
 mod colour;
 #[cfg(feature = "program")]
 mod counts;
-#[cfg(feature = "variable-fonts")]
 mod graphics;
-#[cfg(feature = "variable-fonts")]
 mod outlines;
-#[cfg(feature = "variable-fonts")]
 mod strikes;
 
-pub use alone::{bitmaps_alone, has_outlines};
-#[cfg(feature = "variable-fonts")]
 pub use call::kinds_of;
 #[cfg(feature = "program")]
 pub use call::unseen_glyphs;

@@ -15,7 +15,7 @@ pub struct Run<'a> {
     pub left: u16,
     /// How many of them were taken.
     pub taken: u32,
-    /// The bytes behind.
+    /// The bytes after.
     pub rest: &'a [u8],
 }
 
@@ -35,7 +35,7 @@ fn left_at(format: u8, bytes: &[u8]) -> Option<u16> {
 }
 
 /// The bytes from a place on.
-fn behind(bytes: &[u8], at: usize) -> &[u8] {
+fn following(bytes: &[u8], at: usize) -> &[u8] {
     bytes.get(at..).unwrap_or(&[])
 }
 
@@ -57,7 +57,7 @@ fn run_at(format: u8, bytes: &[u8]) -> Option<Run<'_>> {
         first,
         left,
         taken: 0,
-        rest: behind(bytes, 2 + usize::from(format)),
+        rest: following(bytes, 2 + usize::from(format)),
     })
 }
 
@@ -138,5 +138,5 @@ pub fn sids_at(
     if offset <= 2 {
         return Ok(Vec::new(alloc));
     }
-    sids_in(alloc, count, behind(cff, offset))
+    sids_in(alloc, count, following(cff, offset))
 }

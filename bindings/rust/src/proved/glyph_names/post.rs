@@ -25,20 +25,20 @@ fn strings_in(alloc: Global, most: usize, bytes: &[u8]) -> Result<Vec<&[u8]>, Al
     let mut strings = Vec::new(alloc);
     let mut rest = bytes;
     for _ in 0..most {
-        let (string, behind) = match first_string(rest) {
-            Some((string, behind)) => (string, behind),
+        let (string, following) = match first_string(rest) {
+            Some((string, following)) => (string, following),
             _ => {
                 return Ok(strings);
             }
         };
         strings.push(string)?;
-        rest = behind;
+        rest = following;
     }
     Ok(strings)
 }
 
-/// The bytes behind the indexes.
-fn behind_indexes(post: &[u8]) -> &[u8] {
+/// The bytes after the indexes.
+fn past_indexes(post: &[u8]) -> &[u8] {
     match num_glyphs(post) {
         Some(count) => post.get(INDEXES + 2 * usize::from(count)..).unwrap_or(&[]),
         None => &[],
@@ -47,7 +47,7 @@ fn behind_indexes(post: &[u8]) -> &[u8] {
 
 /// The font's own names.
 pub fn own_names(alloc: Global, post: &[u8]) -> Result<Vec<&[u8]>, AllocError> {
-    strings_in(alloc, OWN_NAMES, behind_indexes(post))
+    strings_in(alloc, OWN_NAMES, past_indexes(post))
 }
 
 /// A name of the Macintosh; an empty one where it has no such number.

@@ -31,7 +31,8 @@ fn room_in(maxp: &[u8]) -> u16 {
     times_in(points).min(times_in(contours))
 }
 
-/// The same where `maxp` has these fields, and its depth leaves room for one more.
+/// How many parts leave the points and the contours of a glyph 16 bits, where `maxp` has these fields and its depth leaves room for one
+/// more.
 fn most_in(maxp: &[u8]) -> u16 {
     if maxp.len() >= SIZE && u16_at(maxp, MAX_COMPONENT_DEPTH) < u16::MAX {
         return room_in(maxp);

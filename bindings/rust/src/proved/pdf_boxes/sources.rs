@@ -25,7 +25,7 @@ fn flattened<'a>(
     Decompiler::with_limits(global, local, limits).flatten(alloc, charstring)
 }
 
-/// The same within these limits on a run; none where it can't be run.
+/// A charstring without its subroutines, within these limits on a run; none where it can't be run.
 fn flat_of<'a>(
     alloc: Global,
     table: &Table<'a>,
@@ -126,7 +126,7 @@ fn top_in(
     Ok(Some(bounds.y_max))
 }
 
-/// The same, 0 where the glyph has no box.
+/// The top of a glyph's box; 0 where the glyph has no box.
 fn top_or_zero(
     alloc: Global,
     table: &Table<'_>,

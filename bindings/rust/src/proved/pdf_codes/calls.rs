@@ -13,9 +13,9 @@ use crate::rattle::alloc::Global;
 
 /// The codes of glyphs in use, and their texts.
 pub struct ShownCodes {
-    /// Of each entry the code, which strings hold.
+    /// The code of each entry, which strings hold.
     pub codes: Vec<u16>,
-    /// Of each entry whether readers find its text by its code; else ActualText says it (ISO 32000-1, 14.9.4).
+    /// Whether readers find the text of an entry by its code; else ActualText says it (ISO 32000-1, 14.9.4).
     pub is_said: Vec<bool>,
     /// The ToUnicode CMap.
     pub to_unicode: Vec<u8>,

@@ -39,7 +39,7 @@ pub fn glyphs_of(alloc: Global, shown: &[Shown<'_>]) -> Result<Vec<u16>, Error> 
     Ok(glyphs)
 }
 
-/// The texts in UTF-16, one behind the other.
+/// The texts in UTF-16, one after the other.
 pub fn units_of_all(alloc: Global, shown: &[Shown<'_>]) -> Result<Vec<u16>, Error> {
     let mut units = Vec::with_capacity(alloc, shown.len())?;
     for entry in shown {
@@ -65,9 +65,9 @@ pub fn entries_of<'a>(
     let mut entries = Vec::with_capacity(alloc, shown.len())?;
     let mut rest = units;
     for entry in shown {
-        let (text, behind) = rest.split_at(count_of(entry.text, rest));
+        let (text, following) = rest.split_at(count_of(entry.text, rest));
         entries.push(entry_of(*entry, text))?;
-        rest = behind;
+        rest = following;
     }
     Ok(entries)
 }

@@ -8,9 +8,9 @@ pub struct Choice<'a> {
     pub units: u16,
     /// The advance of each glyph, in units of the font.
     pub advances: &'a [u16],
-    /// Of each glyph whether it has ink.
+    /// Whether a glyph has ink.
     pub inked: &'a [bool],
-    /// Of each glyph whether it may be a part: its picture is an outline alone, in a box within 16,384 units of its origin.
+    /// Whether a glyph may be a part: its picture is an outline alone, in a box within 16,384 units of its origin.
     pub can_be_part: &'a [bool],
     /// How many parts an own glyph may have; 0: there are none.
     pub most_parts: u16,

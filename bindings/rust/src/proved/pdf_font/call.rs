@@ -2,7 +2,6 @@
 //! The call.
 
 use crate::proved::cid_embed_at::embed_with_variations_and_options;
-use crate::proved::glyph_kinds::bitmaps_alone;
 use crate::proved::pdf_codes::{glyphs_of, has_long_text, Shown};
 use crate::proved::pdf_font::error::FontError;
 use crate::proved::pdf_font::font::{filled, PdfFont};
@@ -10,6 +9,7 @@ use crate::proved::pdf_source::{new_font, FontOptions};
 use crate::proved::pdf_values::{is_permitted, permission_of, Permission};
 use crate::proved::subsetter::{Extras, Options, Tag};
 use crate::proved::subsetter_base::Error;
+use crate::proved::subsetter_sfnt::alone::bitmaps_alone;
 use crate::proved::subsetter_sfnt::face::Face;
 use crate::proved::subsetter_sfnt::parse::parse;
 use crate::proved::subsetter_variable::check_opening_at;

@@ -22,15 +22,15 @@ pub struct PdfFont {
     pub kind: ProgramKind,
     /// How many glyphs the program has: its CIDs are those below.
     pub glyph_count: u16,
-    /// Of each entry the CID.
+    /// The CID of each entry.
     pub cids: Vec<u16>,
-    /// Of each entry the code, which strings hold.
+    /// The code of each entry, which strings hold.
     pub codes: Vec<u16>,
-    /// Of each entry whether its text is found by its code; else ActualText says it (ISO 32000-1, 14.9.4).
+    /// Whether readers find the text of an entry by its code; else ActualText says it (ISO 32000-1, 14.9.4).
     pub is_said: Vec<bool>,
-    /// Of each CID the width, in thousandths of the em.
+    /// The width of each CID, in thousandths of the em.
     pub widths: Vec<u32>,
-    /// The same in the font's units.
+    /// The width of each CID, in the font's units.
     pub exact_widths: Vec<u16>,
     /// unitsPerEm: how many of these units the em has.
     pub units_per_em: u16,

@@ -13,7 +13,7 @@ use crate::rattle::alloc::Global;
 
 /// Columns of vertical writing, in thousandths of the em.
 pub struct Columns {
-    /// Of each CID from 0 on that a string can show.
+    /// The column of each CID from 0 on that a string can show.
     pub each: Vec<Column>,
     /// DW2: the most frequent one.
     pub default: DefaultColumn,

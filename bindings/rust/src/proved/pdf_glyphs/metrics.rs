@@ -45,7 +45,7 @@ fn advance_of(tables: VerticalTables<'_>, glyph: u16) -> Option<u16> {
     glyph_advance(vmtx, count, glyph)
 }
 
-/// The same with what it varies by, if it does.
+/// The advance height of a glyph, with what it varies by, if it does.
 fn advance_at(
     tables: VerticalTables<'_>,
     variation: Option<HeightVariation<'_>>,
@@ -84,7 +84,7 @@ fn by_top(tables: VerticalTables<'_>, glyph: u16, top: i16) -> Option<i32> {
     Some(i32::from(top) + i32::from(bearing))
 }
 
-/// The same of a top that may be given.
+/// The sum of a glyph's top, if it is given, and its top side bearing.
 fn by_given_top(tables: VerticalTables<'_>, glyph: u16, top: Option<i16>) -> Option<i32> {
     by_top(tables, glyph, top?)
 }
@@ -97,7 +97,7 @@ fn vorg_y(tables: VerticalTables<'_>, _glyph: u16, recorded: Option<i16>) -> Opt
     }
 }
 
-/// The same with what it varies by, if it does.
+/// The y of the origin that VORG has, with what it varies by, if it does.
 fn vorg_y_at(
     tables: VerticalTables<'_>,
     variation: Option<HeightVariation<'_>>,

@@ -11,7 +11,7 @@ use crate::rattle::alloc::Global;
 const DEFAULT_VERT_ORIGIN_Y: usize = 4;
 /// numVertOriginYMetrics, two bytes.
 const NUM_VERT_ORIGIN_Y_METRICS: usize = 6;
-/// Where the first record's glyphIndex is, two bytes, and behind it vertOriginY.
+/// Where the first record's glyphIndex is, two bytes, and after it vertOriginY.
 const GLYPH_INDEX: usize = 8;
 
 const VERT_ORIGIN_Y: usize = 10;
@@ -76,7 +76,7 @@ fn put_record(origins: &mut Vec<Option<i16>>, mapper: &GlyphRemapper, found: Opt
     }
 }
 
-/// Of each glyph the y that its first record has.
+/// The y of each glyph's first record.
 pub fn origins_of(
     alloc: Global,
     vorg: Option<&[u8]>,

@@ -21,8 +21,8 @@ fn is_coordinate(axis: Axis, settings: &[(Tag, i32)], bytes: &[u8]) -> bool {
     }
 }
 
-/// The bytes behind the coordinates of all axes, where they are the font's.
-fn behind_coordinates<'a>(
+/// The bytes after the coordinates of all axes, where they are the font's.
+fn after_coordinates<'a>(
     axes: &[Axis],
     settings: &[(Tag, i32)],
     bytes: &'a [u8],
@@ -37,14 +37,14 @@ fn behind_coordinates<'a>(
     Some(rest)
 }
 
-/// The bytes behind the coordinates of a record.
-fn behind_flags<'a>(axes: &[Axis], settings: &[(Tag, i32)], bytes: &'a [u8]) -> Option<&'a [u8]> {
-    behind_coordinates(axes, settings, after_four(bytes))
+/// The bytes after the coordinates of a record.
+fn past_flags<'a>(axes: &[Axis], settings: &[(Tag, i32)], bytes: &'a [u8]) -> Option<&'a [u8]> {
+    after_coordinates(axes, settings, after_four(bytes))
 }
 
 /// Whether a record has the font's coordinates.
 fn is_there(axes: &[Axis], settings: &[(Tag, i32)], bytes: &[u8]) -> bool {
-    behind_flags(axes, settings, bytes).is_some()
+    past_flags(axes, settings, bytes).is_some()
 }
 
 /// The first of so many records that has the font's coordinates.
@@ -84,7 +84,7 @@ fn is_own(id: u16) -> bool {
 
 /// The ID of a record's PostScript name, if it has one.
 fn own_id(axes: &[Axis], settings: &[(Tag, i32)], bytes: &[u8]) -> Option<u16> {
-    let rest = behind_flags(axes, settings, bytes)?;
+    let rest = past_flags(axes, settings, bytes)?;
     Reader::new(rest).read::<u16>()
 }
 

@@ -10,11 +10,11 @@ use crate::proved::pdf_text::{Descriptor, FontColumns, FontValues, OwnCmap};
 #[derive(Clone, Copy)]
 pub struct FontView<'a> {
     pub values: FontValues<'a>,
-    /// Of each entry the CID.
+    /// The CID of each entry.
     pub cids: &'a [u16],
-    /// Of each entry the code.
+    /// The code of each entry.
     pub codes: &'a [u16],
-    /// Of each entry whether its text is found by its code.
+    /// Whether readers find the text of an entry by its code.
     pub is_said: &'a [bool],
 }
 

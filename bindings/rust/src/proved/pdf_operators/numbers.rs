@@ -41,7 +41,7 @@ fn write_thousandths(text: &mut Vec<u8>, n: u32) -> Result<(), Error> {
     write_three_digits(text, n)
 }
 
-/// Writes what is behind the whole of so many millionths.
+/// Writes what is after the whole of so many millionths.
 fn write_fraction(text: &mut Vec<u8>, n: u32) -> Result<(), Error> {
     if n == 0 {
         Ok(())

@@ -96,7 +96,7 @@ pub fn is_spanned(direction: Direction, clusters: &[&[Item<'_>]], pieces: &[Piec
 
 // ---- parts
 
-/// Puts clusters behind parts, each as one.
+/// Puts clusters after parts, each as one.
 fn push_singles<'a, 'b>(
     parts: &mut Vec<&'b [&'a [Item<'a>]]>,
     clusters: &'b [&'a [Item<'a>]],
@@ -111,7 +111,7 @@ fn push_singles<'a, 'b>(
     Ok(())
 }
 
-/// Puts a word behind parts, or its clusters where it is too long.
+/// Puts a word after parts, or its clusters where it is too long.
 fn push_word<'a, 'b>(
     parts: &mut Vec<&'b [&'a [Item<'a>]]>,
     word: &'b [&'a [Item<'a>]],
@@ -123,7 +123,7 @@ fn push_word<'a, 'b>(
     Ok(())
 }
 
-/// Puts words behind parts.
+/// Puts words after parts.
 fn push_words<'a, 'b>(
     parts: &mut Vec<&'b [&'a [Item<'a>]]>,
     words: &[&'b [&'a [Item<'a>]]],

@@ -22,11 +22,11 @@ pub struct Font<'a> {
     pub units: u16,
     /// The metrics of each glyph.
     pub metrics: &'a [GlyphMetrics],
-    /// Of each glyph whether it has ink.
+    /// Whether a glyph has ink.
     pub inked: &'a [bool],
 }
 
-/// Behind a glyph.
+/// After a glyph.
 #[derive(Clone, Copy)]
 pub struct Stop {
     /// How far a reader's pen went back before the glyph, in thousandths of the em.
@@ -49,7 +49,7 @@ pub struct Advance {
     pub y: i32,
 }
 
-/// Behind a glyph, before it is known whether the numbers have 32 bits.
+/// After a glyph, before it is known whether the numbers have 32 bits.
 #[derive(Clone, Copy)]
 pub struct Wide {
     back: i64,
@@ -105,7 +105,7 @@ fn thousandths(length: i64, units: u16) -> i64 {
     nearest(thousandfold(length), u64::from(units))
 }
 
-/// Where the shaper's pen is at a glyph: before the advance, or behind it where glyphs are written from the last to the first.
+/// Where the shaper's pen is at a glyph: before the advance, or after it where glyphs are written from the last to the first.
 fn pen_at(is_turned: bool, pen: i32, advance: i32) -> i64 {
     if is_turned {
         i64::from(pen) - i64::from(advance)
@@ -128,7 +128,7 @@ fn x_of(stop: Stop, piece: Piece) -> i64 {
     pen_at(stop.is_turned, stop.x, piece.x_advance) + i64::from(piece.x)
 }
 
-/// The same upwards.
+/// How far up a glyph's origin is to be, in units of the font.
 fn y_of(stop: Stop, piece: Piece) -> i64 {
     pen_at(stop.is_turned, stop.y, piece.y_advance) + i64::from(piece.y)
 }
@@ -155,8 +155,8 @@ fn back_from(from: i32, to: i64) -> i64 {
     i64::from(from) - to
 }
 
-/// The pens behind a piece.
-fn pens_behind(font: Font<'_>, direction: Direction, stop: Stop, piece: Piece) -> Wide {
+/// The pens after a piece.
+fn pens_after(font: Font<'_>, direction: Direction, stop: Stop, piece: Piece) -> Wide {
     let metrics = metrics_of(font, piece.figure);
     let shown = moved(origin_at(font, direction, stop, piece), metrics.position);
     Wide {
@@ -186,7 +186,7 @@ fn first_three(wide: Wide) -> Option<Stop> {
     })
 }
 
-/// The last two numbers behind the first three, if they have 32 bits.
+/// The last two numbers after the first three, if they have 32 bits.
 fn last_two(wide: Wide, first: Stop) -> Option<Stop> {
     Some(Stop {
         at: in_32_bits(wide.at)?,
@@ -201,9 +201,9 @@ fn narrow(wide: Wide) -> Option<Stop> {
     last_two(wide, first)
 }
 
-/// The stop behind a piece, if its numbers have 32 bits.
+/// The stop after a piece, if its numbers have 32 bits.
 pub fn next(font: Font<'_>, direction: Direction, stop: Stop, piece: Piece) -> Option<Stop> {
-    narrow(pens_behind(font, direction, stop, piece))
+    narrow(pens_after(font, direction, stop, piece))
 }
 
 /// How far a reader's pen is before the end of the line, in thousandths of the em, if that has 32 bits.
@@ -221,8 +221,8 @@ fn pen_of(x: i64, y: i64) -> Option<Advance> {
     })
 }
 
-/// A pen behind a glyph, if its numbers have 32 bits.
-fn pen_behind(pen: Advance, item: &Item<'_>) -> Option<Advance> {
+/// A pen after a glyph, if its numbers have 32 bits.
+fn pen_past(pen: Advance, item: &Item<'_>) -> Option<Advance> {
     pen_of(
         moved(i64::from(pen.x), item.x_advance),
         moved(i64::from(pen.y), item.y_advance),
@@ -233,7 +233,7 @@ fn pen_behind(pen: Advance, item: &Item<'_>) -> Option<Advance> {
 pub fn advance_of(items: &[Item<'_>]) -> Option<Advance> {
     let mut pen = Advance { x: 0, y: 0 };
     for item in items {
-        match pen_behind(pen, item) {
+        match pen_past(pen, item) {
             Some(next) => pen = next,
             None => return None,
         }

@@ -19,13 +19,13 @@ use crate::rattle::alloc::Global;
 
 // ---- a piece
 
-/// Puts an operation behind others.
+/// Puts an operation after others.
 fn push<'a>(operations: &mut Vec<Operation<'a>>, operation: Operation<'a>) -> Result<(), RunError> {
     operations.push(operation)?;
     Ok(())
 }
 
-/// Puts what shows a piece behind others: from a stop on to the next.
+/// Puts what shows a piece after others: from a stop on to the next.
 fn push_shown(
     operations: &mut Vec<Operation<'_>>,
     stop: Stop,
@@ -38,7 +38,7 @@ fn push_shown(
     push(operations, Operation::Show(next.back, pair_of(piece)))
 }
 
-/// Puts what shows a piece behind others, and gives the stop behind it.
+/// Puts what shows a piece after others, and gives the stop after it.
 fn push_piece(
     operations: &mut Vec<Operation<'_>>,
     font: Font<'_>,
@@ -47,15 +47,15 @@ fn push_piece(
     piece: Piece,
 ) -> Result<Stop, RunError> {
     match next(font, direction, stop, piece) {
-        Some(behind) => {
-            push_shown(operations, stop, behind, piece)?;
-            Ok(behind)
+        Some(following) => {
+            push_shown(operations, stop, following, piece)?;
+            Ok(following)
         }
         None => Err(RunError::InvalidText),
     }
 }
 
-/// Puts what shows pieces behind others, and gives the stop behind them.
+/// Puts what shows pieces after others, and gives the stop after them.
 fn push_pieces(
     operations: &mut Vec<Operation<'_>>,
     font: Font<'_>,
@@ -63,16 +63,16 @@ fn push_pieces(
     stop: Stop,
     pieces: &[Piece],
 ) -> Result<Stop, RunError> {
-    let mut behind = stop;
+    let mut following = stop;
     for piece in pieces {
-        behind = push_piece(operations, font, direction, behind, *piece)?;
+        following = push_piece(operations, font, direction, following, *piece)?;
     }
-    Ok(behind)
+    Ok(following)
 }
 
 // ---- a part
 
-/// Puts what shows pieces behind others, with an ActualText around it.
+/// Puts what shows pieces after others, with an ActualText around it.
 fn push_span<'a>(
     operations: &mut Vec<Operation<'a>>,
     font: Font<'_>,
@@ -85,12 +85,12 @@ fn push_span<'a>(
         return Err(RunError::InvalidText);
     }
     push(operations, Operation::Begin(clusters))?;
-    let behind = push_pieces(operations, font, direction, stop, pieces)?;
+    let following = push_pieces(operations, font, direction, stop, pieces)?;
     push(operations, Operation::End)?;
-    Ok(behind)
+    Ok(following)
 }
 
-/// Puts what shows a part behind others, and gives the stop behind it.
+/// Puts what shows a part after others, and gives the stop after it.
 fn push_part<'a>(
     alloc: Global,
     operations: &mut Vec<Operation<'a>>,
@@ -133,7 +133,7 @@ fn push_ends(operations: &mut Vec<Operation<'_>>, back: i32, rise: i32) -> Resul
     push_level(operations, rise)
 }
 
-/// The same behind a stop, if the number has 32 bits.
+/// Takes the pen after a stop to the end, and the text rise to 0, if the number has 32 bits.
 fn push_end(
     operations: &mut Vec<Operation<'_>>,
     font: Font<'_>,
@@ -250,7 +250,7 @@ fn write_run(
     }
 }
 
-/// The operators that show a run, for a content stream: between BT and ET, behind Tf and Td or Tm, where the character and
+/// The operators that show a run, for a content stream: between BT and ET, after Tf and Td or Tm, where the character and
 /// word spacing and the text rise are 0 and the scaling is 100. The size of the font is in thousandths of a unit of text
 /// space. The pen goes on by the run's advance, and the text rise is 0 then. Codes of earlier runs stay, after an error too.
 ///

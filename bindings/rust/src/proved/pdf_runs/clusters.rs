@@ -12,8 +12,8 @@ fn front<'a, 'b>(items: &'b [Item<'a>], count: usize) -> &'b [Item<'a>] {
     &items[..count]
 }
 
-/// The glyphs behind so many.
-fn behind<'a, 'b>(items: &'b [Item<'a>], count: usize) -> &'b [Item<'a>] {
+/// The glyphs after so many.
+fn following<'a, 'b>(items: &'b [Item<'a>], count: usize) -> &'b [Item<'a>] {
     &items[count..]
 }
 
@@ -29,7 +29,7 @@ fn continued(items: &[Item<'_>]) -> usize {
 
 /// How many glyphs the first cluster has.
 fn cluster_size(items: &[Item<'_>]) -> usize {
-    1 + continued(behind(items, 1))
+    1 + continued(following(items, 1))
 }
 
 /// The clusters of a run: each has the glyphs from one with a text up to the next one with a text.
@@ -47,7 +47,7 @@ pub fn clusters_of_run<'a>(
         let count = cluster_size(rest);
         let first = front(rest, count);
         found.push(first)?;
-        let after = behind(rest, count);
+        let after = following(rest, count);
         rest = after;
     }
     Ok(found)

@@ -63,7 +63,7 @@ fn code_of(pairs: &mut Remapper<u16, Pair>, pair: Pair) -> Result<u16, Error> {
     pairs.remap(pair)
 }
 
-/// Puts a pair behind new ones, if neither they nor others have it.
+/// Puts a pair after new ones, if neither they nor others have it.
 fn add_new(
     pairs: &Remapper<u16, Pair>,
     new: &mut Remapper<u32, Pair>,
@@ -122,7 +122,7 @@ fn codes_with_room(
     Ok(codes)
 }
 
-/// The codes of pieces, whose pairs go behind the earlier ones. The codes of earlier pieces stay, after an error too.
+/// The codes of pieces, whose pairs go after the earlier ones. The codes of earlier pieces stay, after an error too.
 ///
 /// # Errors
 ///

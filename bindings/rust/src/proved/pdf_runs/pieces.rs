@@ -104,7 +104,7 @@ fn bearer(direction: Direction, share: &[char]) -> usize {
     0
 }
 
-/// Puts blanks behind others, which say the characters from a place to another, as they are seen.
+/// Puts blanks after others, which say the characters from a place to another, as they are seen.
 fn push_blanks(
     pieces: &mut Vec<Piece>,
     direction: Direction,
@@ -118,7 +118,7 @@ fn push_blanks(
     Ok(())
 }
 
-/// Puts a glyph with what it says behind others, and blanks for its other characters.
+/// Puts a glyph with what it says after others, and blanks for its other characters.
 fn push_spread(
     pieces: &mut Vec<Piece>,
     direction: Direction,
@@ -155,7 +155,7 @@ pub fn text_of<'a>(items: &[Item<'a>]) -> &'a [char] {
     }
 }
 
-/// Puts the pieces of a cluster behind others.
+/// Puts the pieces of a cluster after others.
 fn push_cluster(
     pieces: &mut Vec<Piece>,
     direction: Direction,

@@ -16,12 +16,12 @@ fn first_count(text: &[char], count: usize) -> usize {
     (1 + text.len().saturating_sub(count)).min(text.len())
 }
 
-/// The characters behind so many.
-fn behind(text: &[char], count: usize) -> &[char] {
+/// The characters after so many.
+fn following(text: &[char], count: usize) -> &[char] {
     &text[count..]
 }
 
-/// The character at a place, or nothing behind the last one.
+/// The character at a place, or nothing after the last one.
 fn one_at(text: &[char], place: usize) -> &[char] {
     if place < text.len() {
         &text[place..place + 1]
@@ -36,7 +36,7 @@ fn share(text: &[char], count: usize, place: usize) -> &[char] {
     if place == 0 {
         return &text[..first];
     }
-    one_at(behind(text, first), place - 1)
+    one_at(following(text, first), place - 1)
 }
 
 /// The characters of the glyph at a place from left to right or from top to bottom, of so many.

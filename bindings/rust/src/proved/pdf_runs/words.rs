@@ -23,8 +23,8 @@ fn front<'a, 'b>(clusters: &'b [&'a [Item<'a>]], count: usize) -> &'b [&'a [Item
     &clusters[..count]
 }
 
-/// The clusters behind so many.
-fn behind<'a, 'b>(clusters: &'b [&'a [Item<'a>]], count: usize) -> &'b [&'a [Item<'a>]] {
+/// The clusters after so many.
+fn following<'a, 'b>(clusters: &'b [&'a [Item<'a>]], count: usize) -> &'b [&'a [Item<'a>]] {
     &clusters[count..]
 }
 
@@ -45,7 +45,7 @@ fn word_count<'a>(clusters: &[&'a [Item<'a>]]) -> usize {
     if is_blank(clusters[0]) {
         return 1;
     }
-    1 + word_rest(behind(clusters, 1))
+    1 + word_rest(following(clusters, 1))
 }
 
 /// The words of a run, given its clusters: those one after the other that aren't blank. A blank cluster is alone.
@@ -63,7 +63,7 @@ pub fn words_of_run<'a, 'b>(
         let count = word_count(rest);
         let first = front(rest, count);
         found.push(first)?;
-        let after = behind(rest, count);
+        let after = following(rest, count);
         rest = after;
     }
     Ok(found)

@@ -19,7 +19,7 @@ fn write_positioned(
     write_glyph(text, glyph)
 }
 
-/// Writes glyphs, one behind the other.
+/// Writes glyphs, one after the other.
 fn write_glyphs(text: &mut Vec<u8>, frame: Frame, glyphs: &[SheetGlyph<'_>]) -> Result<(), Error> {
     let mut place = 0;
     for glyph in glyphs {

@@ -38,7 +38,7 @@ pub fn body_of(alloc: Global, values: &[Vec<u8>]) -> Result<Body, Error> {
     Ok(Body { text, offsets })
 }
 
-/// Puts offsets behind others, which so many bytes stand before.
+/// Puts offsets after others, which so many bytes stand before.
 fn push_offsets(offsets: &mut Vec<usize>, start: usize, more: &[usize]) -> Result<(), Error> {
     for offset in more {
         offsets.push(start + *offset)?;
@@ -46,7 +46,7 @@ fn push_offsets(offsets: &mut Vec<usize>, start: usize, more: &[usize]) -> Resul
     Ok(())
 }
 
-/// Puts objects behind others, with the offset of each in their text.
+/// Puts objects after others, with the offset of each in their text.
 pub fn push_objects(body: &mut Body, text: &[u8], offsets: &[usize]) -> Result<(), Error> {
     push_offsets(&mut body.offsets, body.text.len(), offsets)?;
     body.text.extend_from_slice(text)?;

@@ -65,13 +65,13 @@ fn line_content(alloc: Global, frame: Frame, operators: &[u8]) -> Result<Vec<u8>
     Ok(text)
 }
 
-/// The same as a stream.
+/// The stream of a line's page.
 fn content_value(alloc: Global, frame: Frame, operators: &[u8]) -> Result<Vec<u8>, Error> {
     let content = line_content(alloc, frame, operators)?;
     stream_value(alloc, &content)
 }
 
-/// Puts the page of a line and its content, which is the next object, behind other values.
+/// Puts the page of a line and its content, which is the next object, after other values.
 fn push_line(
     alloc: Global,
     values: &mut Vec<Vec<u8>>,
@@ -86,7 +86,7 @@ fn push_line(
     Ok(())
 }
 
-/// Puts the pages of lines and their contents behind other values.
+/// Puts the pages of lines and their contents after other values.
 fn push_lines(
     alloc: Global,
     values: &mut Vec<Vec<u8>>,

@@ -99,7 +99,7 @@ fn content_value(alloc: Global, frame: Frame, glyphs: &[SheetGlyph<'_>]) -> Resu
 
 // ---- objects
 
-/// Puts a page and its content, which is the next object, behind other values.
+/// Puts a page and its content, which is the next object, after other values.
 fn push_page(
     alloc: Global,
     values: &mut Vec<Vec<u8>>,
@@ -118,7 +118,7 @@ fn page_size(count: usize) -> usize {
     count.min(192)
 }
 
-/// Puts so many pages and their contents behind other values.
+/// Puts so many pages and their contents after other values.
 fn push_pages(
     alloc: Global,
     values: &mut Vec<Vec<u8>>,
@@ -136,7 +136,7 @@ fn push_pages(
     Ok(())
 }
 
-/// Puts all pages and their contents behind other values.
+/// Puts all pages and their contents after other values.
 fn push_all(
     alloc: Global,
     values: &mut Vec<Vec<u8>>,

@@ -12,7 +12,7 @@ use crate::proved::pdf_text::{most_objects, write_objects, FontValues};
 use crate::proved::subsetter_base::Error;
 use crate::rattle::alloc::Global;
 
-/// The number of the font's first object behind so many pages, which has so many at most.
+/// The number of the font's first object after so many pages, which has so many at most.
 fn font_number(count: usize, most: u32) -> Result<u32, Error> {
     if count >= 2_147_483_648 {
         return Err(Error::OverflowError);
@@ -39,7 +39,7 @@ fn front_for(
     lines_front(alloc, values.columns.is_some(), first, lines)
 }
 
-/// Header and objects of a file: these values, and behind them those of a font, of which this is the number.
+/// Header and objects of a file: these values, and after them those of a font, of which this is the number.
 fn body_with(
     alloc: Global,
     front: &[Vec<u8>],
@@ -52,7 +52,7 @@ fn body_with(
     Ok(body)
 }
 
-/// The file of these values, and of those of a font behind them, of which this is the number.
+/// The file of these values, and of those of a font after them, of which this is the number.
 fn file_with(
     alloc: Global,
     front: &[Vec<u8>],

@@ -19,7 +19,7 @@ fn is_set(settings: &[(Tag, i32)], tag: Tag) -> bool {
     settings.iter().any(|setting| setting.0 == tag)
 }
 
-/// Whether a tag is listed behind these settings: no axis has it, and none of the settings is for it.
+/// Whether a tag is listed after these settings: no axis has it, and none of the settings is for it.
 fn is_listed(axes: &[Axis], before: &[(Tag, i32)], tag: Tag) -> bool {
     !has_axis(axes, tag) && !is_set(before, tag)
 }

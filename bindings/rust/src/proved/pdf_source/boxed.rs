@@ -12,11 +12,11 @@ use crate::proved::subsetter_sfnt::laying::checksum::checksum;
 const FILE_SUM: u32 = 0xB1B0AFBA;
 /// checksumAdjustment, four bytes.
 pub(crate) const CHECKSUM_ADJUSTMENT: usize = 8;
-/// xMin, and behind it yMin, xMax and yMax, two bytes each.
+/// xMin, and after it yMin, xMax and yMax, two bytes each.
 const X_MIN: usize = 36;
-/// The checksum of a record of the directory, four bytes behind its tag.
+/// The checksum of a record of the directory, four bytes after its tag.
 const RECORD_CHECKSUM: usize = 4;
-/// How many bytes are in front of the records of the directory, and how many a record has.
+/// How many bytes are before the records of the directory, and how many a record has.
 const TABLE_RECORDS: u32 = 12;
 
 const TABLE_RECORD_SIZE: u32 = 16;

@@ -29,7 +29,7 @@ pub struct Profile {
     pub count: u16,
     /// The width of each.
     pub widths: Vec<u32>,
-    /// The same in the font's units.
+    /// The width of each in the font's units.
     pub exact: ExactWidths,
     pub values: Values,
     /// The box that the `head` of the program gets, if it is another.

@@ -90,7 +90,7 @@ fn widened_in(alloc: Global, face: &Face<'_>, advances: &[u16]) -> Result<Option
     laid_out(alloc, face, &head, &new)
 }
 
-/// The same of a file.
+/// The file with another `CFF `; none where each width in the file's `CFF ` is its glyph's advance.
 fn widened_by(alloc: Global, advances: &[u16], file: &[u8]) -> Result<Option<Vec<u8>>, Error> {
     match parse(file, 0, Extras::ALL) {
         Ok(face) => widened_in(alloc, &face, advances),

@@ -20,7 +20,7 @@ fn whole_bytes(alloc: Global, count: u16) -> Result<Vec<u8>, Error> {
     Ok(bytes)
 }
 
-/// Writes the bits behind the last whole byte.
+/// Writes the bits after the last whole byte.
 fn write_last(bytes: &mut Vec<u8>, ones: u16) -> Result<(), Error> {
     if ones > 0 {
         bytes.push(last_byte(ones))?;

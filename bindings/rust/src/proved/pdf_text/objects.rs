@@ -25,10 +25,10 @@ pub enum Object {
     Cmap,
 }
 
-/// Objects one behind the other, and where each begins.
+/// Objects one after the other, and where each begins.
 pub struct FontObjects {
     pub text: Vec<u8>,
-    /// Of each object in bytes, from the beginning of the text; the first has the number that was given, each other the next.
+    /// Where each object begins, in bytes from the beginning of the text; the first has the number that was given, each other the next.
     pub offsets: Vec<usize>,
 }
 
@@ -123,7 +123,7 @@ fn write_object(
 
 // ---- all objects
 
-/// Puts an object behind others, if it is wanted.
+/// Puts an object after others, if it is wanted.
 fn push_when(objects: &mut Vec<Object>, wanted: bool, object: Object) -> Result<(), Error> {
     if wanted {
         objects.push(object)?;
@@ -195,7 +195,7 @@ fn references_from(first: u32, values: FontValues<'_>) -> References {
     }
 }
 
-/// Writes objects one behind the other, the first with this number.
+/// Writes objects one after the other, the first with this number.
 fn write_all(
     alloc: Global,
     first: u32,
@@ -222,7 +222,7 @@ fn checked(first: u32, most: u32) -> Result<(), Error> {
     Ok(())
 }
 
-/// The objects of a font, whole, one behind the other, with numbers from `first` on: the composite font, its CIDFont, the font
+/// The objects of a font, whole, one after the other, with numbers from `first` on: the composite font, its CIDFont, the font
 /// descriptor, the font program, ToUnicode, CIDToGIDMap if it is a stream, CIDSet if there is one, and the CMap if the file has
 /// its own. `first` is above 0, and each number has generation 0. For files that aren't encrypted: streams are as they are, with
 /// no filter.

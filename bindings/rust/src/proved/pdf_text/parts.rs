@@ -16,7 +16,7 @@ pub struct FontPart<'a> {
     /// Which object it is.
     pub role: Object,
     pub number: u32,
-    /// The entries of its dictionary, each with a blank behind it, but for a stream's Length.
+    /// The entries of its dictionary, each with a blank after it, but for a stream's Length.
     pub entries: Vec<u8>,
     /// Where the strings of the entries are, in order.
     pub strings: Vec<StringRange>,

@@ -11,7 +11,7 @@ use crate::rattle::alloc::Global;
 #[repr(C)]
 pub struct StringRange {
     pub start: usize,
-    /// Behind its last byte.
+    /// After its last byte.
     pub end: usize,
 }
 
@@ -20,17 +20,17 @@ pub struct StringRange {
 pub enum Place {
     /// In no string.
     Outside,
-    /// Behind a `<` that is in no string.
+    /// After a `<` that is in no string.
     Angle,
     /// In a hexadecimal string.
     Hexadecimal,
     /// In a literal string, within so many parentheses of its own.
     Literal(usize),
-    /// Behind a backslash there.
+    /// After a backslash there.
     Escaped(usize),
 }
 
-/// Behind a byte that is in no string.
+/// After a byte that is in no string.
 fn from_outside(byte: u8) -> Place {
     match byte {
         b'(' => Place::Literal(0),
@@ -39,7 +39,7 @@ fn from_outside(byte: u8) -> Place {
     }
 }
 
-/// Behind a byte behind a `<`.
+/// After a byte after a `<`.
 fn from_angle(byte: u8) -> Place {
     if byte == b'<' || byte == b'>' {
         Place::Outside
@@ -48,7 +48,7 @@ fn from_angle(byte: u8) -> Place {
     }
 }
 
-/// Behind a parenthesis that closes.
+/// After a parenthesis that closes.
 fn closed(depth: usize) -> Place {
     if depth == 0 {
         Place::Outside
@@ -57,7 +57,7 @@ fn closed(depth: usize) -> Place {
     }
 }
 
-/// Behind a byte of a literal string.
+/// After a byte of a literal string.
 fn from_literal(depth: usize, byte: u8) -> Place {
     match byte {
         b'\\' => Place::Escaped(depth),
@@ -67,7 +67,7 @@ fn from_literal(depth: usize, byte: u8) -> Place {
     }
 }
 
-/// Behind a byte.
+/// After a byte.
 fn next(place: Place, byte: u8) -> Place {
     match place {
         Place::Outside => from_outside(byte),
@@ -101,7 +101,7 @@ fn start_at(place: Place, start: usize, at: usize) -> usize {
     }
 }
 
-/// Puts a string behind others, if it ends.
+/// Puts a string after others, if it ends.
 fn push_when(
     strings: &mut Vec<StringRange>,
     ends: bool,

@@ -6,8 +6,8 @@ use crate::rattle::prelude::Vec;
 use crate::proved::subsetter_base::Error;
 use crate::rattle::alloc::Global;
 
-/// The bytes behind a number, one at a time.
-fn digest_behind(start: u64, bytes: &[u8]) -> u64 {
+/// The bytes after a number, one at a time.
+fn digest_after(start: u64, bytes: &[u8]) -> u64 {
     let mut h = start;
     for b in bytes {
         h = (65_599 * h + u64::from(*b) + 1) % 4_294_967_291;
@@ -15,7 +15,7 @@ fn digest_behind(start: u64, bytes: &[u8]) -> u64 {
     h
 }
 
-/// What the first four of sixteen bytes count: each and one, by the power of 65,599 that the bytes behind it multiply it by.
+/// What the first four of sixteen bytes count: each and one, by the power of 65,599 that the bytes after it multiply it by.
 fn first(a: u8, b: u8, c: u8, d: u8) -> u64 {
     412_560_925 * (u64::from(a) + 1)
         + 1_384_565_098 * (u64::from(b) + 1)
@@ -23,7 +23,7 @@ fn first(a: u8, b: u8, c: u8, d: u8) -> u64 {
         + 2_768_719_420 * (u64::from(d) + 1)
 }
 
-/// What the four bytes behind these count.
+/// What the four bytes after these count.
 fn second(a: u8, b: u8, c: u8, d: u8) -> u64 {
     647_177_936 * (u64::from(a) + 1)
         + 990_682_743 * (u64::from(b) + 1)
@@ -52,15 +52,15 @@ fn fourth(a: u8, b: u8, c: u8, d: u8) -> u64 {
 fn digest(bytes: &[u8]) -> u64 {
     let mut h = 0_u64;
     let mut rest = bytes;
-    while let [b0, b1, b2, b3, b4, b5, b6, b7, b8, b9, b10, b11, b12, b13, b14, b15, behind @ ..] =
+    while let [b0, b1, b2, b3, b4, b5, b6, b7, b8, b9, b10, b11, b12, b13, b14, b15, following @ ..] =
         rest
     {
         let front = first(*b0, *b1, *b2, *b3) + second(*b4, *b5, *b6, *b7);
         let back = third(*b8, *b9, *b10, *b11) + fourth(*b12, *b13, *b14, *b15);
         h = (995_218_484 * h + front + back) % 4_294_967_291;
-        rest = behind;
+        rest = following;
     }
-    digest_behind(h, rest)
+    digest_after(h, rest)
 }
 
 /// The letter that a number has in base 26.

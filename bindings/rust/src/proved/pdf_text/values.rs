@@ -45,7 +45,7 @@ pub struct Descriptor<'a> {
 /// The columns of vertical writing.
 #[derive(Clone, Copy)]
 pub struct FontColumns<'a> {
-    /// Of each CID from 0 on that a string can show.
+    /// The column of each CID from 0 on that a string can show.
     pub each: &'a [Column],
     /// DW2.
     pub default: DefaultColumn,
@@ -56,7 +56,7 @@ pub struct FontColumns<'a> {
 pub struct FontValues<'a> {
     pub kind: ProgramKind,
     pub descriptor: Descriptor<'a>,
-    /// Of each CID from 0 on, in thousandths of the em.
+    /// The width of each CID from 0 on, in thousandths of the em.
     pub widths: &'a [u32],
     /// DW.
     pub default_width: u32,

@@ -62,7 +62,7 @@ fn tag_in(program: &[u8], tag: Option<SubsetTag>) -> [u8; 6] {
     }
 }
 
-/// What is behind the tag of a name.
+/// What is after the tag of a name.
 fn untagged(name: &[u8]) -> &[u8] {
     if name.len() < 6 {
         return &[];

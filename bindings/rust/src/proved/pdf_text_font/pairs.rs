@@ -149,7 +149,7 @@ fn value_of<T: Copy>(none: T, values: &[T], owns: &[T], drawing: Drawing) -> T {
     }
 }
 
-/// Of each code what a list has for its glyph, another one for its own glyph, and for a blank a value of its own.
+/// What a list has for the glyph of each code, another one for its own glyph, and for a blank a value of its own.
 pub fn values_of<T: Copy>(
     alloc: Global,
     none: T,

@@ -13,12 +13,12 @@ pub fn thousandths(v: i32, units: u32) -> i32 {
     nearest(thousandfold(v), u64::from(units)) as i32
 }
 
-/// The same, rounded down.
+/// A length of so many units to the em, in thousandths, rounded down.
 pub fn lowered(v: i32, units: u32) -> i32 {
     thousandfold(v).div_euclid(i64::from(units)) as i32
 }
 
-/// The same, rounded up.
+/// A length of so many units to the em, in thousandths, rounded up.
 pub fn raised(v: i32, units: u32) -> i32 {
     -lowered(-v, units)
 }

@@ -13,7 +13,7 @@ use crate::rattle::alloc::Global;
 #[derive(Clone, Copy)]
 pub struct Change<'a> {
     pub width: Option<CharStringNumber>,
-    /// What is behind the old width.
+    /// What is after the old width.
     pub body: &'a [u8],
 }
 

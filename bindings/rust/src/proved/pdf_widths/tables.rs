@@ -90,7 +90,7 @@ fn laid_out(
     }
 }
 
-/// What is in front of the CharStrings INDEX.
+/// What is before the CharStrings INDEX.
 fn front<'a>(table: &Table<'a>) -> Option<&'a [u8]> {
     let bytes = table.front.bytes;
     let place = table.top.char_strings?;

@@ -18,23 +18,23 @@ pub struct Halves {
     pub more: bool,
 }
 
-/// The halves of a digit and of those behind it.
-fn behind_digit(digit: u8, behind: Halves) -> Halves {
-    let count = u64::from(digit.saturating_sub(b'0')) * 131_072 + behind.count;
+/// The halves of a digit and of those after it.
+fn after_digit(digit: u8, following: Halves) -> Halves {
+    let count = u64::from(digit.saturating_sub(b'0')) * 131_072 + following.count;
     Halves {
         count: count / 10,
-        more: behind.more || count % 10 != 0,
+        more: following.more || count % 10 != 0,
     }
 }
 
-/// The halves of the digits behind a point.
-fn halves_behind(digits: &[u8]) -> Halves {
+/// The halves of the digits after a point.
+fn halves_after(digits: &[u8]) -> Halves {
     let mut halves = Halves {
         count: 0,
         more: false,
     };
     for i in 0..digits.len() {
-        halves = behind_digit(digits[digits.len() - 1 - i], halves);
+        halves = after_digit(digits[digits.len() - 1 - i], halves);
     }
     halves
 }
@@ -54,16 +54,16 @@ fn is_digits(text: &str) -> bool {
     text.len() > 0 && are_digits(text.as_bytes())
 }
 
-/// A number of digits in front of a point and behind it.
+/// A number of digits before a point and after it.
 fn decimal_of(whole: &str, digits: &str) -> Option<Halves> {
     if !is_digits(digits) {
         return None;
     }
     let units = u16_of(whole)?;
-    let behind = halves_behind(digits.as_bytes());
+    let following = halves_after(digits.as_bytes());
     Some(Halves {
-        count: u64::from(units) * 131_072 + behind.count,
-        more: behind.more,
+        count: u64::from(units) * 131_072 + following.count,
+        more: following.more,
     })
 }
 
@@ -106,7 +106,7 @@ fn positive(count: u64) -> i64 {
     count as i64
 }
 
-/// A value behind a minus, in 65536ths.
+/// A value after a minus, in 65536ths.
 fn below_zero(word: &str) -> Option<i32> {
     let size = size_of(word)?;
     fixed(negative(quarters_of(size)))
@@ -118,10 +118,10 @@ fn above_zero(word: &str) -> Option<i32> {
     fixed(positive(quarters_of(size)))
 }
 
-/// A value with a minus between two texts, in 65536ths: nothing is in front of it.
-fn with_minus(front: &str, behind: &str) -> Option<i32> {
+/// A value with a minus between two texts, in 65536ths: nothing is before it.
+fn with_minus(front: &str, following: &str) -> Option<i32> {
     if front.len() == 0 {
-        below_zero(behind)
+        below_zero(following)
     } else {
         None
     }
@@ -130,7 +130,7 @@ fn with_minus(front: &str, behind: &str) -> Option<i32> {
 /// A value, in 65536ths.
 fn value_of(word: &str) -> Option<i32> {
     match word.split_once('-') {
-        Some((front, behind)) => with_minus(front, behind),
+        Some((front, following)) => with_minus(front, following),
         None => above_zero(word),
     }
 }

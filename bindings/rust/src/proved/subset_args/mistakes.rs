@@ -17,15 +17,15 @@ pub enum Wrong {
     /// It is one argument too many.
     Further,
     /// It is one argument too many after `--axes IN INDEX` or `--info IN INDEX`.
-    BehindShown,
-    /// It is an option, and is behind IN.
+    AfterShown,
+    /// It is an option, and is after IN.
     Late,
     /// It is `--axes` or `--info`, and isn't the first argument.
     ShownLate,
     /// The FILE of `--batch` is missing.
     NoBatchFile,
     /// It is one argument too many after `--batch FILE`.
-    BehindBatch,
+    AfterBatch,
     /// It is `--batch`, and isn't the first argument.
     BatchLate,
     /// It looks like an option, and is none.

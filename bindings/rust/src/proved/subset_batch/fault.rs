@@ -14,33 +14,33 @@ pub enum Wanted {
     Object,
     /// The name of a member, in quotation marks.
     Name,
-    /// `:` behind a name.
+    /// `:` after a name.
     Colon,
     /// A string, a number, `true`, `false`, `null` or an array.
     Value,
     /// A string or a number, in an array.
     Item,
-    /// `,` or `}` behind a member.
+    /// `,` or `}` after a member.
     CommaOrBrace,
-    /// `,` or `]` behind a member of an array.
+    /// `,` or `]` after a member of an array.
     CommaOrBracket,
     /// The quotation mark that ends a string.
     Quote,
     /// A character that isn't a control character below U+0020, which only an escape writes.
     Character,
-    /// One of `"`, `\`, `/`, `b`, `f`, `n`, `r`, `t` and `u` behind `\`.
+    /// One of `"`, `\`, `/`, `b`, `f`, `n`, `r`, `t` and `u` after `\`.
     Escape,
-    /// A hexadecimal digit behind `\u`.
+    /// A hexadecimal digit after `\u`.
     HexDigit,
-    /// The escape of a low surrogate, behind that of a high one.
+    /// The escape of a low surrogate, after that of a high one.
     LowSurrogate,
-    /// The escape of a character, or of a high surrogate in front of a low one.
+    /// The escape of a character, or of a high surrogate before a low one.
     Scalar,
     /// A string in UTF-8.
     Utf8,
     /// A value that the name of the member has.
     Fitting,
-    /// Nothing but white space behind the object.
+    /// Nothing but white space after the object.
     End,
 }
 
@@ -126,7 +126,7 @@ impl<T> From<AllocFailed<T>> for Unread {
     }
 }
 
-/// What is expected in front of these bytes.
+/// What is expected before these bytes.
 pub fn missing(wanted: Wanted, bytes: &[u8]) -> Unread {
     Unread::Fault(Fault::Expected(wanted, bytes.len()))
 }

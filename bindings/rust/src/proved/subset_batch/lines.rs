@@ -43,9 +43,13 @@ fn parts_of(alloc: Global, file: &[u8]) -> Result<Vec<&[u8]>, AllocError> {
 fn numbered<'a>(alloc: Global, parts: &[&'a [u8]]) -> Result<Vec<Line<'a>>, AllocError> {
     let mut lines = Vec::new(alloc);
     let mut rest = parts;
-    while let [part, behind @ ..] = rest {
-        push_line(&mut lines, parts.len().saturating_sub(behind.len()), part)?;
-        rest = behind;
+    while let [part, following @ ..] = rest {
+        push_line(
+            &mut lines,
+            parts.len().saturating_sub(following.len()),
+            part,
+        )?;
+        rest = following;
     }
     Ok(lines)
 }

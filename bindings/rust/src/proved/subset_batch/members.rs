@@ -4,7 +4,7 @@
 use crate::rattle::prelude::{String, Vec};
 
 use crate::proved::subset_batch::fault::{missing, Fault, Unread, Wanted};
-use crate::proved::subset_batch::json::blanks::{behind, byte_at, separator_at, skip_ws};
+use crate::proved::subset_batch::json::blanks::{byte_at, following, separator_at, skip_ws};
 use crate::proved::subset_batch::json::strings::string_at;
 use crate::proved::subset_batch::kinds::{fits, kind_of, Kind};
 use crate::proved::subset_batch::values::{value_at, Value};
@@ -56,19 +56,19 @@ fn many_members(alloc: Global, count: usize, bytes: &[u8]) -> Result<(Vec<Member
     let mut members = Vec::new(alloc);
     let mut rest = bytes;
     for _ in 0..count {
-        let (member, more, behind) = member_step(alloc, rest)?;
+        let (member, more, following) = member_step(alloc, rest)?;
         members.push(member)?;
         if !more {
-            return Ok((members, behind));
+            return Ok((members, following));
         }
-        rest = behind;
+        rest = following;
     }
     Err(missing(Wanted::CommaOrBrace, rest))
 }
 
-/// The members behind the brace.
+/// The members after the brace.
 pub fn members_in(alloc: Global, bytes: &[u8]) -> Result<(Vec<Member>, &[u8]), Unread> {
-    match behind(b'}', bytes) {
+    match following(b'}', bytes) {
         Some(rest) => Ok((Vec::new(alloc), rest)),
         None => many_members(alloc, bytes.len(), bytes),
     }
@@ -77,11 +77,11 @@ pub fn members_in(alloc: Global, bytes: &[u8]) -> Result<(Vec<Member>, &[u8]), U
 /// Whether one of the members has this name.
 fn has_name(name: &str, members: &[Member]) -> bool {
     let mut rest = members;
-    while let [member, behind @ ..] = rest {
+    while let [member, following @ ..] = rest {
         if member.name.as_str() == name {
             return true;
         }
-        rest = behind;
+        rest = following;
     }
     false
 }
@@ -89,11 +89,11 @@ fn has_name(name: &str, members: &[Member]) -> bool {
 /// The first name that a later member has too.
 pub fn repeated(members: &[Member]) -> Option<&str> {
     let mut rest = members;
-    while let [member, behind @ ..] = rest {
-        if has_name(member.name.as_str(), behind) {
+    while let [member, following @ ..] = rest {
+        if has_name(member.name.as_str(), following) {
             return Some(member.name.as_str());
         }
-        rest = behind;
+        rest = following;
     }
     None
 }

@@ -16,7 +16,7 @@ fn distinct(alloc: Global, members: Vec<Member>) -> Result<Vec<Member>, Unread> 
     Ok(members)
 }
 
-/// Members, behind which nothing is.
+/// Members, after which nothing is.
 fn at_end(alloc: Global, members: Vec<Member>, rest: &[u8]) -> Result<Vec<Member>, Unread> {
     match rest {
         [] => distinct(alloc, members),

@@ -30,12 +30,12 @@ fn push_both(text: &mut String, first: &str, second: &str) -> Result<(), AllocEr
     Ok(())
 }
 
-/// Adds texts, each behind a comma.
-fn push_behind(text: &mut String, texts: &[String]) -> Result<(), AllocError> {
+/// Adds texts, each after a comma.
+fn push_after(text: &mut String, texts: &[String]) -> Result<(), AllocError> {
     let mut rest = texts;
-    while let [t, behind @ ..] = rest {
+    while let [t, following @ ..] = rest {
         push_both(text, ",", t.as_str())?;
-        rest = behind;
+        rest = following;
     }
     Ok(())
 }
@@ -44,9 +44,9 @@ fn push_behind(text: &mut String, texts: &[String]) -> Result<(), AllocError> {
 fn joined(alloc: Global, texts: &[String]) -> Result<String, AllocError> {
     match texts {
         [] => Ok(String::new(alloc)),
-        [first, behind @ ..] => {
+        [first, following @ ..] => {
             let mut text = String::from_str(alloc, first.as_str())?;
-            push_behind(&mut text, behind)?;
+            push_after(&mut text, following)?;
             Ok(text)
         }
     }
@@ -80,7 +80,7 @@ fn push_value(
     Ok(())
 }
 
-/// Adds IN behind `--`.
+/// Adds IN after `--`.
 fn push_input(alloc: Global, words: &mut Vec<String>, value: &Value) -> Result<(), AllocError> {
     if let Value::Text(text) = value {
         push_word(alloc, words, "--")?;
@@ -113,9 +113,9 @@ fn push_options(
     members: &[Member],
 ) -> Result<(), AllocError> {
     let mut rest = members;
-    while let [member, behind @ ..] = rest {
+    while let [member, following @ ..] = rest {
         push_words(alloc, words, member)?;
-        rest = behind;
+        rest = following;
     }
     Ok(())
 }
@@ -127,9 +127,9 @@ fn push_inputs(
     members: &[Member],
 ) -> Result<(), AllocError> {
     let mut rest = members;
-    while let [member, behind @ ..] = rest {
+    while let [member, following @ ..] = rest {
         push_last(alloc, words, member)?;
-        rest = behind;
+        rest = following;
     }
     Ok(())
 }
@@ -148,14 +148,14 @@ fn request_in(alloc: Global, line: &[u8]) -> Result<Vec<String>, Unread> {
     Ok(words_of(alloc, &members)?)
 }
 
-/// What a line requests, as the words of a command line: options with their values, and behind `--` IN.
+/// What a line requests, as the words of a command line: options with their values, and after `--` IN.
 ///
 /// A line is one object in JSON (RFC 8259), with white space around it. Its members have the names `in`, `out`, `index` and
 /// those of the program's long options, each once. A value is a string, a number, which stands for its text, or `true` for an
 /// option without a value; `false` and `null` are as if the member weren't there. `gids`, `unicodes`, `at` and `limits` may
 /// have an array of strings and numbers, which commas join.
 ///
-/// `Unread::Fault` has what is wrong first, with the number of bytes in front of it.
+/// `Unread::Fault` has what is wrong first, with the number of bytes before it.
 pub fn read_request(alloc: Global, line: &[u8]) -> Result<Vec<String>, Unread> {
     match request_in(alloc, line) {
         Ok(words) => Ok(words),

@@ -4,7 +4,7 @@
 use crate::rattle::prelude::{String, Vec};
 
 use crate::proved::subset_batch::fault::{missing, Unread, Wanted};
-use crate::proved::subset_batch::json::blanks::{behind, separator_at, skip_ws, split_word};
+use crate::proved::subset_batch::json::blanks::{following, separator_at, skip_ws, split_word};
 use crate::proved::subset_batch::json::numbers::is_number;
 use crate::proved::subset_batch::json::strings::{string_at, text_of};
 use crate::rattle::alloc::Global;
@@ -36,7 +36,7 @@ fn number_at(alloc: Global, wanted: Wanted, bytes: &[u8]) -> Result<(String, &[u
 
 /// A string or a number.
 fn item_at(alloc: Global, wanted: Wanted, bytes: &[u8]) -> Result<(String, &[u8]), Unread> {
-    match behind(b'"', bytes) {
+    match following(b'"', bytes) {
         Some(rest) => string_at(alloc, rest),
         None => number_at(alloc, wanted, bytes),
     }
@@ -54,19 +54,19 @@ fn many_items(alloc: Global, count: usize, bytes: &[u8]) -> Result<(Vec<String>,
     let mut items = Vec::new(alloc);
     let mut rest = bytes;
     for _ in 0..count {
-        let (item, more, behind) = item_step(alloc, rest)?;
+        let (item, more, following) = item_step(alloc, rest)?;
         items.push(item)?;
         if !more {
-            return Ok((items, behind));
+            return Ok((items, following));
         }
-        rest = behind;
+        rest = following;
     }
     Err(missing(Wanted::CommaOrBracket, rest))
 }
 
-/// The members of an array, behind its bracket.
+/// The members of an array, after its bracket.
 fn items_in(alloc: Global, bytes: &[u8]) -> Result<(Vec<String>, &[u8]), Unread> {
-    match behind(b']', bytes) {
+    match following(b']', bytes) {
         Some(rest) => Ok((Vec::new(alloc), rest)),
         None => many_items(alloc, bytes.len(), bytes),
     }
@@ -98,7 +98,7 @@ fn plain_at(alloc: Global, bytes: &[u8]) -> Result<(Value, &[u8]), Unread> {
 
 /// A value.
 pub fn value_at(alloc: Global, bytes: &[u8]) -> Result<(Value, &[u8]), Unread> {
-    match behind(b'[', bytes) {
+    match following(b'[', bytes) {
         Some(rest) => {
             let (items, rest) = items_in(alloc, skip_ws(rest))?;
             Ok((Value::Texts(items), rest))

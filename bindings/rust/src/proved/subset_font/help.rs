@@ -2,7 +2,7 @@
 //! What `--help` and `--version` print.
 
 /// What `--version` prints: the version of the program, which the file `VERSION` at the top of the repository says too
-/// (that of the crate that it ports, and behind the plus its own), and that of the crate.
+/// (that of the crate that it ports, and after the plus its own), and that of the crate.
 pub const VERSION_LINE: &str = "subset_font 1.0.0, a port of the Rust crate subsetter 0.2.6\n";
 
 /// What `--help` prints.

@@ -16,10 +16,6 @@ pub struct Numbering<'a> {
     pub mapper: &'a GlyphRemapper,
 }
 
-/// The writer failed.
-#[derive(Debug)]
-pub struct Unwritten;
-
 /// The first character, and the others.
 pub fn take_first(characters: &[Option<char>]) -> (Option<char>, &[Option<char>]) {
     match characters {

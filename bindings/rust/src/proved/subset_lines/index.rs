@@ -3,9 +3,8 @@
 
 use crate::rattle::prelude::Vec;
 
-use crate::proved::subset_lines::entry::Unwritten;
+use crate::proved::plain_text::{write_text, Unwritten};
 use crate::proved::subset_lines::objects::quoted::write_quoted;
-use crate::proved::subset_lines::text::write_text;
 use crate::rattle::alloc::Global;
 use crate::rattle::io::Write;
 
@@ -41,7 +40,7 @@ fn index_bytes(alloc: Global, index: u32) -> Result<Vec<u8>, Unwritten> {
     Ok(text)
 }
 
-/// Writes the note as a JSON string behind a text, if there is one.
+/// Writes the note as a JSON string after a text, if there is one.
 pub fn write_index_string<W: Write>(
     alloc: Global,
     before: &[u8],

@@ -3,13 +3,12 @@
 
 use crate::rattle::prelude::Vec;
 
-use crate::proved::subset_lines::entry::Unwritten;
+use crate::proved::plain_text::{write_text, Unwritten};
 use crate::proved::subset_lines::objects::quoted::write_quoted;
-use crate::proved::subset_lines::text::write_text;
 use crate::rattle::alloc::Global;
 use crate::rattle::io::Write;
 
-/// Writes a character as `U+` and its number, behind a text.
+/// Writes a character as `U+` and its number, after a text.
 fn write_character<W: Write>(before: &[u8], character: char, out: &mut W) -> Result<(), Unwritten> {
     write_text(before, out)?;
     let code = u32::from(character);
@@ -75,7 +74,7 @@ fn missing_bytes(alloc: Global, characters: &[char]) -> Result<Vec<u8>, Unwritte
     Ok(text)
 }
 
-/// Writes the note as a JSON string behind a text.
+/// Writes the note as a JSON string after a text.
 fn write_string<W: Write>(
     alloc: Global,
     before: &[u8],
@@ -87,7 +86,7 @@ fn write_string<W: Write>(
     write_quoted(&text, out)
 }
 
-/// Writes the note as a JSON string behind a text; nothing where there are no characters.
+/// Writes the note as a JSON string after a text; nothing where there are no characters.
 pub fn write_missing_string<W: Write>(
     alloc: Global,
     before: &[u8],

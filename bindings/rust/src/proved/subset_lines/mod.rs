@@ -9,7 +9,6 @@
 //! write_lines(&numbering, b"", &mut lines)?;         // 36 -> 1, 68 -> 2
 //! ```
 
-pub mod characters;
 mod entry;
 mod faces;
 mod fixed;
@@ -18,9 +17,8 @@ mod missing;
 mod notes;
 mod objects;
 mod plain;
-mod text;
 
-pub use entry::{Numbering, Unwritten};
+pub use entry::Numbering;
 pub use faces::axes::{read_axes, write_axes, FontAxes};
 pub use faces::info::face::Info;
 pub use faces::info::json::write_info_json;
@@ -34,4 +32,3 @@ pub use objects::json::{json_numbers, write_json};
 pub use objects::members::json_members;
 pub use objects::pdf::json_pdf;
 pub use plain::write_lines;
-pub use text::write_text;

@@ -3,13 +3,12 @@
 
 use crate::rattle::prelude::Vec;
 
-use crate::proved::subset_lines::entry::Unwritten;
+use crate::proved::plain_text::{write_text, Unwritten};
 use crate::proved::subset_lines::faces::axes::write_tag;
 use crate::proved::subset_lines::fixed::write_labelled;
 use crate::proved::subset_lines::index::{write_index_line, write_index_string};
 use crate::proved::subset_lines::missing::{write_missing_line, write_missing_string};
 use crate::proved::subset_lines::objects::quoted::write_quoted;
-use crate::proved::subset_lines::text::write_text;
 use crate::proved::subsetter_base::Tag;
 use crate::proved::subsetter_variation::locations::axes::Axis;
 use crate::rattle::alloc::Global;
@@ -58,7 +57,7 @@ fn write_range_text<W: Write>(axis: &Axis, out: &mut W) -> Result<(), Unwritten>
     write_labelled(b" to ", axis.maximum, out)
 }
 
-/// Writes the same behind a text.
+/// Writes the same after a text.
 fn write_range<W: Write>(before: &[u8], axis: &Axis, out: &mut W) -> Result<(), Unwritten> {
     write_text(before, out)?;
     write_range_text(axis, out)
@@ -122,7 +121,7 @@ fn write_all<W: Write>(
     write_index_line(index, out)
 }
 
-/// The lines of notes: one for each, and behind them one of the axes that the font has, as `axes: wght 100 to 900`; one of
+/// The lines of notes: one for each, and after them one of the axes that the font has, as `axes: wght 100 to 900`; one of
 /// the characters without a glyph, if there are any; and one of the index of a face that the file doesn't have, if it is given. It
 /// is empty where there is nothing to note.
 ///
@@ -153,7 +152,7 @@ fn axes_bytes(alloc: Global, axes: &[Axis]) -> Result<Vec<u8>, Unwritten> {
     Ok(text)
 }
 
-/// Writes a note as a JSON string with a comma behind it.
+/// Writes a note as a JSON string with a comma after it.
 fn write_note_string<W: Write>(alloc: Global, note: Note, out: &mut W) -> Result<(), Unwritten> {
     let text = note_bytes(alloc, note)?;
     write_quoted(&text, out)?;
@@ -187,18 +186,18 @@ fn write_coordinate_strings<W: Write>(
     write_quoted(&text, out)
 }
 
-/// A comma, if there are notes in front of it.
-fn comma_behind(notes: &[Note]) -> &'static [u8] {
+/// A comma, if there are notes before it.
+fn comma_after(notes: &[Note]) -> &'static [u8] {
     match notes {
         [] => b"",
         _ => b",",
     }
 }
 
-/// A comma, if there are notes or characters in front of it.
-fn comma_behind_both(notes: &[Note], characters: &[char]) -> &'static [u8] {
+/// A comma, if there are notes or characters before it.
+fn comma_after_both(notes: &[Note], characters: &[char]) -> &'static [u8] {
     match characters {
-        [] => comma_behind(notes),
+        [] => comma_after(notes),
         _ => b",",
     }
 }
@@ -213,8 +212,8 @@ fn write_all_strings<W: Write>(
     out: &mut W,
 ) -> Result<(), Unwritten> {
     write_coordinate_strings(alloc, axes, notes, out)?;
-    write_missing_string(alloc, comma_behind(notes), characters, out)?;
-    write_index_string(alloc, comma_behind_both(notes, characters), index, out)
+    write_missing_string(alloc, comma_after(notes), characters, out)?;
+    write_index_string(alloc, comma_after_both(notes, characters), index, out)
 }
 
 /// Writes the same notes as a JSON array of strings.

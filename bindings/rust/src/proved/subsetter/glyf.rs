@@ -144,7 +144,7 @@ pub fn subset<'a>(
     Ok(list)
 }
 
-/// Puts the components of an outline with this first byte, which a simple one doesn't have, behind those that wait, and
+/// Puts the components of an outline with this first byte, which a simple one doesn't have, after those that wait, and
 /// counts the bytes of a composite. A simple outline counts as 0 here: it is never followed, and `OutlineList` counts it.
 /// `MalformedFont` where the outline has one byte or is a composite of fewer than ten.
 fn follow(

@@ -59,7 +59,7 @@ fn subset_cff(
 /// # Errors
 ///
 /// Those of `subset_with_limits`, but for what is stated of a table that isn't requested: of `name` without `names`, and of
-/// what is behind the header of 32 bytes in `post` without `glyph_names`.
+/// what is after the header of 32 bytes in `post` without `glyph_names`.
 pub fn subset_with_options(
     alloc: Global,
     data: &[u8],

@@ -98,7 +98,7 @@ impl GlyphRemapper {
         }
     }
 
-    /// The same glyphs, once more.
+    /// A copy of the mapper.
     pub fn clone(&self) -> Result<Self, Error> {
         Ok(Self {
             pages: self.pages.clone()?,

@@ -12,7 +12,7 @@ pub fn number_of(bytes: &[u8]) -> u32 {
     }
 }
 
-/// Two numbers, one behind the other.
+/// Two numbers, one after the other.
 #[derive(Clone, Copy, Debug)]
 pub struct TwoNumbers {
     /// The first.

@@ -45,7 +45,7 @@ fn curve_y(i: usize) -> bool {
     i % 8 == 2 || i % 8 == 3 || i % 8 == 4 || i % 8 == 6
 }
 
-/// The same of so many operands, of which the last may be a fifth one.
+/// Curves as they begin, of so many operands, of which the last may be a fifth one: the axis along which an operand moves.
 #[inline(always)]
 fn curves_along(first: usize, count: usize, i: usize) -> Along {
     if count % 4 == 1 && i + 1 == count && first + i >= 1 {

@@ -34,13 +34,13 @@ impl Regions for Unvaried {
     }
 }
 
-/// What is behind the first number.
-fn behind_width(charstring: &[u8]) -> Option<&[u8]> {
+/// What is after the first number.
+fn after_width(charstring: &[u8]) -> Option<&[u8]> {
     let read = read_number(charstring)?;
     Some(read.rest)
 }
 
-/// What is in front of endchar, the last operator.
+/// What is before endchar, the last operator.
 fn before_endchar(bytes: &[u8]) -> Option<&[u8]> {
     if bytes.len() == 0 {
         return None;
@@ -94,13 +94,13 @@ fn outline_box(charstring: &[u8]) -> Result<Option<Bounds>, Error> {
 ///
 /// `OutOfMemory` alone.
 pub fn charstring_box(charstring: &[u8]) -> Result<Option<Bounds>, Error> {
-    let behind = match behind_width(charstring) {
-        Some(behind) => behind,
+    let following = match after_width(charstring) {
+        Some(following) => following,
         _ => {
             return Ok(None);
         }
     };
-    let body = match before_endchar(behind) {
+    let body = match before_endchar(following) {
         Some(body) => body,
         _ => {
             return Ok(None);
@@ -124,8 +124,8 @@ pub fn flat_box(flat: &[u8]) -> Result<Option<Bounds>, Error> {
     if let Some(bounds) = outline_box(body)? {
         return Ok(Some(bounds));
     }
-    match behind_width(body) {
-        Some(behind) => outline_box(behind),
+    match after_width(body) {
+        Some(following) => outline_box(following),
         None => Ok(None),
     }
 }

@@ -45,7 +45,7 @@ pub fn curves(pen: Pen, operands: &[i64]) -> Option<Pen> {
     }
 }
 
-/// The line behind curves, where two operands are left.
+/// The line after curves, where two operands are left.
 fn end_of_curves(pen: Pen, operands: &[i64]) -> Option<Pen> {
     if operands.len() == 2 {
         return lines(pen, operands);
@@ -63,7 +63,7 @@ pub fn curves_line(pen: Pen, operands: &[i64]) -> Option<Pen> {
     }
 }
 
-/// The curve behind lines, where six operands are left, else the last lines.
+/// The curve after lines, where six operands are left, else the last lines.
 fn end_of_lines(pen: Pen, operands: &[i64]) -> Option<Pen> {
     if operands.len() == 6 {
         return curves(pen, operands);

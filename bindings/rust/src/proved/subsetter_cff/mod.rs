@@ -14,8 +14,8 @@
 //!   as they stand; just the others are read.
 //! - The number of a font dict is a byte, as FDSelect has it. The used ones are found by marking 256 flags, so they
 //!   are in ascending order without sorting. 256 of them are refused at once, before a string is read.
-//! - FDSelect of format 3 is searched by halves where no range begins before the one in front of it, which is looked at
-//!   once; else from the front, past blocks of ranges that lie before the glyph or behind it. Either way it is the first
+//! - FDSelect of format 3 is searched by halves where no range begins before the one before it, which is looked at
+//!   once; else from the front, past blocks of ranges that lie before the glyph or after it. Either way it is the first
 //!   range that has the glyph.
 //! - Numbers of strings are found by a walk through a list: there are at most 260 (Adobe, Identity, three of the top
 //!   dict, one for each of 255 font dicts).

@@ -3,7 +3,7 @@
 
 use crate::proved::subsetter_base::read::Reader;
 
-/// headerSize, one byte, behind majorVersion and minorVersion.
+/// headerSize, one byte, after majorVersion and minorVersion.
 const HEADER_SIZE: usize = 2;
 /// topDictLength, two bytes.
 const TOP_DICT_LENGTH: usize = 3;
@@ -18,7 +18,7 @@ pub struct Front2<'a> {
     /// The top dict.
     pub top: &'a [u8],
     /// The offset of the global subroutines.
-    pub behind: usize,
+    pub following: usize,
 }
 
 /// Reads the front; None where it is cut, of another major version, or has a header of fewer than 5 bytes.
@@ -30,7 +30,7 @@ pub fn parse_front(bytes: &[u8]) -> Option<Front2<'_>> {
     if major == MAJOR_VERSION && LEAST_HEADER <= header_size {
         Some(Front2 {
             top,
-            behind: header_size as usize + top_size as usize,
+            following: header_size as usize + top_size as usize,
         })
     } else {
         None

@@ -83,7 +83,7 @@ pub fn store_at<'a>(
     Ok(Variation { all, counts, first })
 }
 
-/// The same, where there is a store.
+/// What a store varies by at a location, with what is kept, where there is a store.
 pub fn optional_store_at<'a>(
     alloc: Global,
     store: Option<VariationStore<'a>>,

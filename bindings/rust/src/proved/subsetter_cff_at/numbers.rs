@@ -23,7 +23,7 @@ fn dict_number(table: &Table2<'_>, select: &FontDictSelect<'_>, glyph: u16) -> R
     }
 }
 
-/// The same of a glyph that is requested.
+/// The number of the font dict of a glyph that is requested.
 fn number_if(
     table: &Table2<'_>,
     select: &FontDictSelect<'_>,
@@ -39,7 +39,7 @@ fn number_if(
     }
 }
 
-/// The same of all glyphs.
+/// The numbers of the font dicts of all glyphs.
 pub fn find_numbers(
     alloc: Global,
     table: &Table2<'_>,

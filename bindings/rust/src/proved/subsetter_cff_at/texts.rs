@@ -16,7 +16,7 @@ use crate::proved::subsetter_type2::operators::first_byte;
 use crate::proved::subsetter_type2::subroutines::SubroutineHandler;
 use crate::rattle::alloc::Global;
 
-/// The charstrings of glyphs, one behind the other.
+/// The charstrings of glyphs, one after the other.
 pub struct Texts {
     /// Their bytes.
     pub char_strings: Vec<u8>,
@@ -99,7 +99,7 @@ fn no_texts(alloc: Global, count: usize, _limits: Limits) -> Result<Texts, Error
     })
 }
 
-/// Puts the bytes of a charstring, and its box, behind the others.
+/// Puts the bytes of a charstring, and its box, after the others.
 fn put(texts: &mut Texts, bytes: &[u8], bounds: Option<Bounds>) -> Result<(), Error> {
     texts.char_strings.extend_from_slice(bytes)?;
     texts.ends.push(texts.char_strings.len() + 1)?;
@@ -107,7 +107,7 @@ fn put(texts: &mut Texts, bytes: &[u8], bounds: Option<Bounds>) -> Result<(), Er
     Ok(())
 }
 
-/// Puts `endchar` behind the others, which has no box.
+/// Puts `endchar` after the others, which has no box.
 #[inline(always)]
 fn put_end(texts: &mut Texts) -> Result<(), Error> {
     texts.char_strings.push(first_byte::ENDCHAR)?;

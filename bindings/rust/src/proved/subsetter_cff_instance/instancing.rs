@@ -56,7 +56,7 @@ struct NewCff {
     boxes: Vec<Option<Bounds>>,
 }
 
-/// The two pieces of a table, one behind the other.
+/// The two pieces of a table, one after the other.
 fn joined(pieces: CffPieces) -> Result<Vec<u8>, AllocError> {
     let CffPieces {
         front,

@@ -81,7 +81,7 @@ fn varied_metric(
     })
 }
 
-/// The same of a glyph that is requested. `MalformedFont` where it is none of the font's.
+/// The metric of a glyph that is requested. `MalformedFont` where it is none of the font's.
 fn metric_if(
     source: &Source<'_>,
     at: &[i32],

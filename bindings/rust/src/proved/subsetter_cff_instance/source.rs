@@ -54,7 +54,8 @@ fn source_in<'a>(face: &Face<'a>) -> Option<Source<'a>> {
     })
 }
 
-/// The same. `Unimplemented` where `HVAR` or `MVAR` has a major version other than 1, else `MalformedFont` where a table is missing or cut.
+/// The tables of a font. `Unimplemented` where `HVAR` or `MVAR` has a major version other than 1, else `MalformedFont` where a table is
+/// missing or cut.
 pub fn source_or_fault<'a>(face: &Face<'a>) -> Result<Source<'a>, Error> {
     let hvar = face.stored(Tag::new(b"HVAR"));
     let mvar = face.stored(Tag::new(b"MVAR"));

@@ -45,7 +45,7 @@ fn hmtx(alloc: Global, all: &[Option<LongHorMetric>]) -> Result<Vec<u8>, Error> 
     Ok(hmtx)
 }
 
-/// The greatest advance, and what is behind it in `hhea`.
+/// The greatest advance, and what is after it in `hhea`.
 fn extreme_bytes(metrics: &[LongHorMetric], extents: Option<Extents>) -> [u8; 8] {
     let [a, b] = widest(metrics).to_be_bytes();
     let [c, d, e, f, g, h] = side_bytes(extents);

@@ -80,8 +80,8 @@ pub fn source_in<'a>(face: &Face<'a>, axes: usize) -> Option<Source<'a>> {
     })
 }
 
-/// The same. `Unimplemented` where `gvar`, `HVAR` or `MVAR` has a major version other than 1, else `MalformedFont` where a table is missing or
-/// cut.
+/// The tables of a font of so many axes. `Unimplemented` where `gvar`, `HVAR` or `MVAR` has a major version other than 1, else
+/// `MalformedFont` where a table is missing or cut.
 pub fn source_or_fault<'a>(face: &Face<'a>, axes: usize) -> Result<Source<'a>, Error> {
     let gvar = face.stored(Tag::new(b"gvar"));
     let hvar = face.stored(Tag::new(b"HVAR"));
@@ -119,7 +119,7 @@ impl<'a> Source<'a> {
         }
     }
 
-    /// The same tables, at a location where scalars of the first shared tuples are known.
+    /// These tables at a location where scalars of the first shared tuples are known.
     pub fn located<'b>(&'b self, at: &'b [i32], scalars: &'b [i64]) -> Source<'b> {
         Source {
             glyf: self.glyf,

@@ -10,6 +10,7 @@
 //! let head = face.table(Tag::HEAD);
 //! ```
 
+pub mod alone;
 pub mod directory;
 pub mod extras;
 pub mod face;

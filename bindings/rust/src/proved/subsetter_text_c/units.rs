@@ -61,8 +61,8 @@ fn joined(high: u16, low: u16) -> u32 {
     65_536 + (u32::from(high) - 0xD800) * 1024 + (u32::from(low) - 0xDC00)
 }
 
-/// What a unit is behind a high surrogate.
-fn read_behind(high: u16, unit: u16) -> Option<Read> {
+/// What a unit is after a high surrogate.
+fn read_past(high: u16, unit: u16) -> Option<Read> {
     if !is_high(high) || !is_low(unit) {
         return None;
     }
@@ -72,7 +72,7 @@ fn read_behind(high: u16, unit: u16) -> Option<Read> {
     }
 }
 
-/// What a unit is behind a character.
+/// What a unit is after a character.
 fn read_alone(unit: u16) -> Option<Read> {
     if is_high(unit) {
         return Some(Read::High(unit));
@@ -86,12 +86,12 @@ fn read_alone(unit: u16) -> Option<Read> {
 /// What a unit is.
 fn read_unit(high: Option<u16>, unit: u16) -> Option<Read> {
     match high {
-        Some(high) => read_behind(high, unit),
+        Some(high) => read_past(high, unit),
         None => read_alone(unit),
     }
 }
 
-/// The high surrogate behind which the next unit is.
+/// The high surrogate after which the next unit is.
 fn next_high(read: Read) -> Option<u16> {
     match read {
         Read::High(unit) => Some(unit),
@@ -99,7 +99,7 @@ fn next_high(read: Read) -> Option<u16> {
     }
 }
 
-/// Puts a character behind others, if one ends.
+/// Puts a character after others, if one ends.
 fn push_read(characters: &mut Vec<char>, read: Read) -> Result<(), AllocError> {
     match read {
         Read::High(_) => Ok(()),

@@ -39,19 +39,19 @@ impl<'a> Decompiler<'a> {
     /// glyphs together, `OverflowError` where the bytes pass their bound, before more of them are written.
     pub fn flatten(self, alloc: Global, charstring: CharString<'a>) -> Result<Vec<u8>, Error> {
         let mut rests: FixedStack<&'a [u8], 64> = FixedStack::new(charstring);
-        self.flatten_behind(Vec::new(alloc), charstring, &mut rests)
+        self.flatten_after(Vec::new(alloc), charstring, &mut rests)
     }
 
-    /// The charstring without its subroutines, written behind these bytes, which count too; they are lost where it can't be.
+    /// The charstring without its subroutines, written after these bytes, which count too; they are lost where it can't be.
     /// What is left of callers goes into a stack, whatever it held, which many charstrings can share.
     ///
     /// The errors are those of `flatten`.
-    pub fn flatten_behind(
+    pub fn flatten_after(
         self,
         bytes: Vec<u8>,
         charstring: CharString<'a>,
         rests: &mut FixedStack<&'a [u8], 64>,
     ) -> Result<Vec<u8>, Error> {
-        flattening::flatten_behind(bytes, &self.subroutines, &self.limits, charstring, rests)
+        flattening::flatten_after(bytes, &self.subroutines, &self.limits, charstring, rests)
     }
 }

@@ -22,7 +22,7 @@ impl Limits {
         })
     }
 
-    /// The same limits, where at most so many bytes may be written.
+    /// These limits, where at most so many bytes may be written.
     pub fn with_bytes(self, bytes: u32) -> Self {
         Limits {
             tokens: self.tokens,

@@ -31,7 +31,7 @@ pub fn axis_size(fvar: &[u8]) -> Option<u16> {
     Reader::new_at(fvar, AXIS_SIZE).read::<u16>()
 }
 
-/// instanceCount. The records of instances are behind those of axes.
+/// instanceCount. The records of instances are after those of axes.
 #[cfg(feature = "variable-fonts")]
 pub fn instance_count(fvar: &[u8]) -> Option<u16> {
     Reader::new_at(fvar, INSTANCE_COUNT).read::<u16>()

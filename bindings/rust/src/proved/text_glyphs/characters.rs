@@ -74,7 +74,7 @@ fn with_codes(
     let mut found = Vec::with_capacity(alloc, characters.len())?;
     let mut rest = characters;
     let mut left = glyphs;
-    while let [character, behind @ ..] = rest {
+    while let [character, following @ ..] = rest {
         let (glyph, others) = match left {
             [glyph, others @ ..] => (glyph, others),
             _ => {
@@ -82,7 +82,7 @@ fn with_codes(
             }
         };
         found.push(if_coded(encoding, *character, *glyph))?;
-        rest = behind;
+        rest = following;
         left = others;
     }
     Ok(found)

@@ -20,7 +20,7 @@ pub(crate) const NUM_TABLES: usize = 2;
 pub(crate) const ENCODING_RECORDS: usize = 4;
 /// How many bytes an encoding record has.
 pub(crate) const ENCODING_RECORD_SIZE: usize = 8;
-/// encodingID of a record, two bytes, behind platformID.
+/// encodingID of a record, two bytes, after platformID.
 pub(crate) const ENCODING_ID: usize = 2;
 /// subtableOffset of a record, four bytes.
 pub(crate) const SUBTABLE_OFFSET: usize = 4;
@@ -71,7 +71,7 @@ fn encoded(cmap: &[u8], encoding: Encoding) -> Option<&[u8]> {
     find_encoded(cmap, count, encoding)
 }
 
-/// The same, with its encoding.
+/// The first table of an encoding, with the encoding.
 fn in_encoding(cmap: &[u8], encoding: Encoding) -> Option<CharacterTable<'_>> {
     match encoded(cmap, encoding) {
         Some(table) => Some(CharacterTable::Other(encoding, table)),

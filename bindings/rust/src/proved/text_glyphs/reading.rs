@@ -17,7 +17,7 @@ pub struct Entry {
     pub glyph: u16,
     /// The place of its first character.
     pub start: usize,
-    /// The place behind its last character.
+    /// The place after its last character.
     pub end: usize,
 }
 
@@ -33,7 +33,7 @@ pub struct ReadText {
 /// Where the text of the next entry begins.
 #[derive(Clone, Copy)]
 pub(crate) struct Begun {
-    /// Whether it begins behind another entry.
+    /// Whether it begins after another entry.
     pub(crate) follows: bool,
     /// The place.
     pub(crate) from: usize,
@@ -75,21 +75,21 @@ fn with_sequences(
     let mut glyphs = Vec::with_capacity(alloc, text.len())?;
     let mut rest = text;
     let mut left = own;
-    while let [character, behind @ ..] = rest {
+    while let [character, following @ ..] = rest {
         let (glyph, others) = match left {
             [glyph, others @ ..] => (glyph, others),
             _ => {
                 return Ok(glyphs);
             }
         };
-        glyphs.push(sequence_before(source, *character, behind).unwrap_or(*glyph))?;
-        rest = behind;
+        glyphs.push(sequence_before(source, *character, following).unwrap_or(*glyph))?;
+        rest = following;
         left = others;
     }
     Ok(glyphs)
 }
 
-/// The same, of characters whose own glyphs have to be found.
+/// The glyph of each of these characters, whose own glyphs have to be found.
 fn glyphs_in(
     alloc: Global,
     source: &TextSource<'_>,
@@ -136,7 +136,7 @@ fn entry_at(
     })
 }
 
-/// Where the text of the next entry begins, behind a character at a place.
+/// Where the text of the next entry begins, after a character at a place.
 fn next_begun(begun: Begun, place: usize, character: char) -> Begun {
     if is_ignorable(character) && !begun.follows {
         return begun;
@@ -165,7 +165,7 @@ fn entries_by(alloc: Global, text: &[char], glyphs: &[u16]) -> Result<Vec<Entry>
     let mut place = 0;
     let mut rest = text;
     let mut left = glyphs;
-    while let [character, behind @ ..] = rest {
+    while let [character, following @ ..] = rest {
         let (glyph, others) = match left {
             [glyph, others @ ..] => (glyph, others),
             _ => {
@@ -174,11 +174,11 @@ fn entries_by(alloc: Global, text: &[char], glyphs: &[u16]) -> Result<Vec<Entry>
         };
         push_entry(
             &mut entries,
-            entry_at(begun, place, *character, behind, *glyph),
+            entry_at(begun, place, *character, following, *glyph),
         )?;
         begun = next_begun(begun, place, *character);
         place += 1;
-        rest = behind;
+        rest = following;
         left = others;
     }
     Ok(entries)
@@ -208,7 +208,7 @@ fn missing_by(alloc: Global, text: &[char], glyphs: &[u16]) -> Result<Vec<usize>
     let mut place = 0;
     let mut rest = text;
     let mut left = glyphs;
-    while let [character, behind @ ..] = rest {
+    while let [character, following @ ..] = rest {
         let (glyph, others) = match left {
             [glyph, others @ ..] => (glyph, others),
             _ => {
@@ -217,7 +217,7 @@ fn missing_by(alloc: Global, text: &[char], glyphs: &[u16]) -> Result<Vec<usize>
         };
         push_place(&mut places, missing_at(place, *character, *glyph))?;
         place += 1;
-        rest = behind;
+        rest = following;
         left = others;
     }
     Ok(places)

@@ -85,7 +85,7 @@ fn all_found(alloc: Global, lines: &[Mapping<'_>], texts: &[&[u16]]) -> Result<V
 pub struct Texts {
     /// The ToUnicode CMap.
     pub to_unicode: Vec<u8>,
-    /// Of each line whether readers find its text by its code.
+    /// Whether readers find the text of a line by its code.
     pub is_said: Vec<bool>,
 }
 

@@ -48,7 +48,7 @@ fn write_front(text: &mut Vec<u8>) -> Result<(), Error> {
     Ok(())
 }
 
-/// Writes what stands behind the name.
+/// Writes what stands after the name.
 fn write_back(text: &mut Vec<u8>, vertical: bool) -> Result<(), Error> {
     if vertical {
         text.extend_from_slice(b" def\n/CMapType 1 def\n/WMode 1 def\n")?;

@@ -43,37 +43,37 @@ fn run(width: u32, widths: &[u32]) -> usize {
 fn listed(most: usize, default: u32, widths: &[u32]) -> usize {
     let mut n = 0;
     let mut rest = widths;
-    while let [w, behind @ ..] = rest {
+    while let [w, following @ ..] = rest {
         if n == most || *w == default || six_equal(rest) {
             return n;
         }
         n += 1;
-        rest = behind;
+        rest = following;
     }
     n
 }
 
-/// What opens at a width, and how many of those behind it are settled with it.
+/// What opens at a width, and how many of those after it are settled with it.
 fn opened<'a>(
     most: usize,
     first: usize,
     default: u32,
     width: u32,
-    behind: &[u32],
+    following: &[u32],
     widths: &'a [u32],
 ) -> (Option<Part<'a>>, usize) {
     if width == default {
         return (None, 0);
     }
     if six_equal(widths) {
-        let n = run(width, behind);
+        let n = run(width, following);
         return (Some(Part::Same(first, first + n, width)), n);
     }
-    let n = listed(most, default, behind);
+    let n = listed(most, default, following);
     (Some(Part::Each(first, &widths[..n + 1])), n)
 }
 
-/// Puts a part behind others, if there is one.
+/// Puts a part after others, if there is one.
 fn push_part<'a>(parts: &mut Vec<Part<'a>>, part: Option<Part<'a>>) -> Result<(), Error> {
     if let Some(part) = part {
         parts.push(part)?;
@@ -81,7 +81,7 @@ fn push_part<'a>(parts: &mut Vec<Part<'a>>, part: Option<Part<'a>>) -> Result<()
     Ok(())
 }
 
-/// Goes past a width, and puts behind the parts what opens there, if it isn't settled; how many of the next are settled.
+/// Goes past a width, and puts after the parts what opens there, if it isn't settled; how many of the next are settled.
 fn step<'a>(
     parts: &mut Vec<Part<'a>>,
     most: usize,
@@ -89,18 +89,18 @@ fn step<'a>(
     first: usize,
     default: u32,
     width: u32,
-    behind: &[u32],
+    following: &[u32],
     widths: &'a [u32],
 ) -> Result<usize, Error> {
     if settled > 0 {
         return Ok(settled - 1);
     }
-    let (part, more) = opened(most, first, default, width, behind, widths);
+    let (part, more) = opened(most, first, default, width, following, widths);
     push_part(parts, part)?;
     Ok(more)
 }
 
-/// The parts of an array for widths from CID 0 on. Behind its first a list has at most so many.
+/// The parts of an array for widths from CID 0 on. After its first a list has at most so many.
 pub fn parts_of(
     alloc: Global,
     most: usize,
@@ -111,12 +111,12 @@ pub fn parts_of(
     let mut settled = 0;
     let mut first = 0;
     let mut rest = widths;
-    while let [width, behind @ ..] = rest {
+    while let [width, following @ ..] = rest {
         settled = step(
-            &mut parts, most, settled, first, default, *width, behind, rest,
+            &mut parts, most, settled, first, default, *width, following, rest,
         )?;
         first += 1;
-        rest = behind;
+        rest = following;
     }
     Ok(parts)
 }
@@ -147,9 +147,12 @@ pub fn lists_of(alloc: Global, most: usize, widths: &[u32]) -> Result<Vec<Part<'
     let mut parts = Vec::new(alloc);
     let mut first = 0;
     while first < widths.len() {
-        let behind = first + most.min(widths.len() - first);
-        push_part(&mut parts, Some(Part::Each(first, &widths[first..behind])))?;
-        first = behind;
+        let following = first + most.min(widths.len() - first);
+        push_part(
+            &mut parts,
+            Some(Part::Each(first, &widths[first..following])),
+        )?;
+        first = following;
     }
     Ok(parts)
 }

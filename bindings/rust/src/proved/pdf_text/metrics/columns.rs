@@ -39,7 +39,7 @@ fn alike(a: Column, b: Column) -> bool {
     a.advance == b.advance && a.x == b.x && a.y == b.y
 }
 
-/// The mark of a column behind another with its mark.
+/// The mark of a column after another with its mark.
 fn mark(default: DefaultColumn, own: u32, before: Column, m: u32, column: Column) -> u32 {
     if is_default(default, column) {
         return 0;

@@ -6,7 +6,7 @@ use crate::rattle::prelude::String;
 use crate::proved::subset_args::mistakes::{mistake_in, Mistake, Wrong};
 use crate::proved::subset_args::options::chosen::Chosen;
 use crate::proved::subset_args::options::joined::{
-    joined, says_position, wrong_behind, wrong_place, Given,
+    joined, says_position, wrong_after, wrong_place, Given,
 };
 use crate::proved::subset_args::options::names::{kind_of, Kind};
 use crate::proved::subset_args::words::u32_of;
@@ -84,8 +84,8 @@ fn numbers(list: &str) -> Result<Option<&str>, Mistake<'_>> {
     Ok(Some(list))
 }
 
-/// The list of glyphs behind INDEX, which options may have in its place.
-fn listed_behind<'a>(are_given: bool, words: &'a [String]) -> Result<Option<&'a str>, Mistake<'a>> {
+/// The list of glyphs after INDEX, which options may have in its place.
+fn listed_after<'a>(are_given: bool, words: &'a [String]) -> Result<Option<&'a str>, Mistake<'a>> {
     match (are_given, words) {
         (false, []) => Err(mistake_in(Wrong::NoGlyphs, "")),
         (false, [list]) => numbers(list),
@@ -95,7 +95,7 @@ fn listed_behind<'a>(are_given: bool, words: &'a [String]) -> Result<Option<&'a 
     }
 }
 
-/// IN, OUT and INDEX, and what is behind them.
+/// IN, OUT and INDEX, and what is after them.
 fn plain_with<'a>(
     chosen: Chosen<'a>,
     input: &'a str,
@@ -103,7 +103,7 @@ fn plain_with<'a>(
     index: u32,
     words: &'a [String],
 ) -> Result<Asked<'a>, Mistake<'a>> {
-    let listed = listed_behind(chosen.sources.are_given(), words)?;
+    let listed = listed_after(chosen.sources.are_given(), words)?;
     if let Some(wrong) = wrong_pdf(&chosen, Some(output)) {
         return Err(wrong);
     }
@@ -116,21 +116,21 @@ fn plain_with<'a>(
     })
 }
 
-/// IN and OUT, and what is behind them.
+/// IN and OUT, and what is after them.
 fn plain_at<'a>(
     chosen: Chosen<'a>,
     input: &'a str,
     output: &'a str,
     words: &'a [String],
 ) -> Result<Asked<'a>, Mistake<'a>> {
-    let (index, behind) = match words {
-        [index, behind @ ..] => (index, behind),
+    let (index, following) = match words {
+        [index, following @ ..] => (index, following),
         _ => {
             return Err(mistake_in(Wrong::NoIndex, ""));
         }
     };
     match u32_of(index) {
-        Some(number) => plain_with(chosen, input, output, number, behind),
+        Some(number) => plain_with(chosen, input, output, number, following),
         None => Err(mistake_in(Wrong::Index, index)),
     }
 }
@@ -140,33 +140,33 @@ fn plain<'a>(chosen: Chosen<'a>, words: &'a [String]) -> Result<Asked<'a>, Mista
     match words {
         [] => Err(mistake_in(Wrong::NoInput, "")),
         [_] => Err(mistake_in(Wrong::NoOutput, "")),
-        [input, output, behind @ ..] => {
+        [input, output, following @ ..] => {
             if names_position(&chosen) {
                 return Err(mistake_in(Wrong::BesideInput, output));
             }
-            plain_at(chosen, input, output, behind)
+            plain_at(chosen, input, output, following)
         }
     }
 }
 
-/// What the options in front of other arguments say.
+/// What the options before other arguments say.
 #[derive(Clone, Copy)]
 pub enum Parsed<'a> {
     /// The help is wanted.
     Help,
     /// The version is wanted.
     Version,
-    /// What is chosen, whether `--` ended the options, and the arguments behind them.
+    /// What is chosen, whether `--` ended the options, and the arguments after them.
     Chosen(Chosen<'a>, bool, &'a [String]),
 }
 
-/// An option that is no option behind IN.
-fn unless_behind<'a>(
-    is_behind: bool,
+/// An option that is no option after IN.
+fn unless_after<'a>(
+    is_after: bool,
     word: &'a str,
     parsed: Parsed<'a>,
 ) -> Result<Parsed<'a>, Mistake<'a>> {
-    if is_behind {
+    if is_after {
         return Err(mistake_in(Wrong::Late, word));
     }
     Ok(parsed)
@@ -183,46 +183,48 @@ fn is_plain(chosen: Chosen<'_>, words: &[String]) -> bool {
 /// A value in the same word, where the arguments from it on aren't of the plain form: then it is IN.
 fn joined_at<'a>(
     chosen: Chosen<'_>,
-    is_behind: bool,
+    is_after: bool,
     word: &'a str,
     words: &[String],
 ) -> Option<Given<'a>> {
-    if !is_behind && is_plain(chosen, words) {
+    if !is_after && is_plain(chosen, words) {
         return None;
     }
     joined(word)
 }
 
-/// What the options in front of IN, or behind it, say, besides what is chosen already.
+/// What the options before IN, or after it, say, besides what is chosen already.
 pub fn parse_options<'a>(
     chosen: Chosen<'a>,
-    is_behind: bool,
+    is_after: bool,
     words: &'a [String],
 ) -> Result<Parsed<'a>, Mistake<'a>> {
-    let (word, behind) = match words {
-        [word, behind @ ..] => (word, behind),
+    let (word, following) = match words {
+        [word, following @ ..] => (word, following),
         _ => {
             return Ok(Parsed::Chosen(chosen, false, words));
         }
     };
     match kind_of(word) {
-        Kind::Switch(switch) => parse_options(chosen.with_switch(switch, word)?, is_behind, behind),
+        Kind::Switch(switch) => {
+            parse_options(chosen.with_switch(switch, word)?, is_after, following)
+        }
         Kind::Setting(setting) => {
-            let (value, rest) = match behind {
+            let (value, rest) = match following {
                 [value, rest @ ..] => (value, rest),
                 _ => {
                     return Err(mistake_in(Wrong::NoValue, word));
                 }
             };
-            parse_options(chosen.with_setting(setting, word, value)?, is_behind, rest)
+            parse_options(chosen.with_setting(setting, word, value)?, is_after, rest)
         }
-        Kind::Help => unless_behind(is_behind, word, Parsed::Help),
-        Kind::Version => unless_behind(is_behind, word, Parsed::Version),
-        Kind::End => Ok(Parsed::Chosen(chosen, true, behind)),
-        Kind::Place => match joined_at(chosen, is_behind, word, words) {
+        Kind::Help => unless_after(is_after, word, Parsed::Help),
+        Kind::Version => unless_after(is_after, word, Parsed::Version),
+        Kind::End => Ok(Parsed::Chosen(chosen, true, following)),
+        Kind::Place => match joined_at(chosen, is_after, word, words) {
             Some(given) => {
                 let more = chosen.with_setting(given.setting, given.word, given.value)?;
-                parse_options(more, is_behind, behind)
+                parse_options(more, is_after, following)
             }
             None => Ok(Parsed::Chosen(chosen, false, words)),
         },
@@ -251,14 +253,14 @@ fn free<'a>(chosen: Chosen<'a>, input: &'a str) -> Result<Asked<'a>, Mistake<'a>
     })
 }
 
-/// The first option behind IN, or `--axes`, `--info` or `--batch` there.
+/// The first option after IN, or `--axes`, `--info` or `--batch` there.
 fn first_late(words: &[String]) -> Option<Mistake<'_>> {
     let mut rest = words;
-    while let [word, behind @ ..] = rest {
-        if let Some(wrong) = wrong_behind(word) {
+    while let [word, following @ ..] = rest {
+        if let Some(wrong) = wrong_after(word) {
             return Some(mistake_in(wrong, word));
         }
-        rest = behind;
+        rest = following;
     }
     None
 }
@@ -266,11 +268,11 @@ fn first_late(words: &[String]) -> Option<Mistake<'_>> {
 /// Whether one of the arguments says OUT or INDEX.
 fn say_position(words: &[String]) -> bool {
     let mut rest = words;
-    while let [word, behind @ ..] = rest {
+    while let [word, following @ ..] = rest {
         if says_position(word) {
             return true;
         }
-        rest = behind;
+        rest = following;
     }
     false
 }
@@ -279,20 +281,20 @@ fn say_position(words: &[String]) -> bool {
 fn beside_input<'a>(
     wrong: Mistake<'a>,
     chosen: &Chosen<'_>,
-    behind: &'a [String],
+    following: &'a [String],
     word: &'a str,
     words: &[String],
 ) -> Mistake<'a> {
     if names_position(chosen) || say_position(words) {
         return mistake_in(Wrong::BesideInput, word);
     }
-    match first_late(behind) {
+    match first_late(following) {
         Some(late) => late,
         None => wrong,
     }
 }
 
-/// What is wrong with an argument in the place of IN or behind it, by itself: nothing where it is behind `--`.
+/// What is wrong with an argument in the place of IN or after it, by itself: nothing where it is after `--`.
 fn wrong_at(is_ended: bool, word: &str) -> Option<Wrong> {
     if is_ended {
         None
@@ -301,54 +303,54 @@ fn wrong_at(is_ended: bool, word: &str) -> Option<Wrong> {
     }
 }
 
-/// The same of a second argument.
+/// What is wrong with a second argument.
 fn second<'a>(
     wrong: Mistake<'a>,
     chosen: &Chosen<'_>,
     is_ended: bool,
-    behind: &'a [String],
+    following: &'a [String],
     word: &'a str,
     words: &[String],
 ) -> Mistake<'a> {
     match wrong_at(is_ended, word) {
         Some(wrong) => mistake_in(wrong, word),
-        None => beside_input(wrong, chosen, behind, word, words),
+        None => beside_input(wrong, chosen, following, word, words),
     }
 }
 
-/// IN with all options, and the arguments behind these.
+/// IN with all options, and the arguments after these.
 fn before<'a>(
     wrong: Mistake<'a>,
     chosen: Chosen<'a>,
     is_ended: bool,
     input: &'a str,
-    behind: &'a [String],
+    following: &'a [String],
     words: &'a [String],
 ) -> Result<Asked<'a>, Mistake<'a>> {
     match words {
         [] => free(chosen, input),
-        [word, others @ ..] => Err(second(wrong, &chosen, is_ended, behind, word, others)),
+        [word, others @ ..] => Err(second(wrong, &chosen, is_ended, following, word, others)),
     }
 }
 
-/// IN, alone beside the options behind it.
+/// IN, alone beside the options after it.
 fn alone<'a>(
     wrong: Mistake<'a>,
     input: &'a str,
-    behind: &'a [String],
+    following: &'a [String],
     parsed: Parsed<'a>,
 ) -> Result<Asked<'a>, Mistake<'a>> {
     match parsed {
         Parsed::Help => Err(wrong),
         Parsed::Version => Err(wrong),
         Parsed::Chosen(chosen, is_ended, words) => {
-            before(wrong, chosen, is_ended, input, behind, words)
+            before(wrong, chosen, is_ended, input, following, words)
         }
     }
 }
 
-/// The options behind IN; there are none behind `--`.
-fn parse_behind<'a>(
+/// The options after IN; there are none after `--`.
+fn parse_after<'a>(
     chosen: Chosen<'a>,
     is_ended: bool,
     words: &'a [String],
@@ -366,8 +368,8 @@ fn from_input<'a>(
     is_ended: bool,
     words: &'a [String],
 ) -> Result<Asked<'a>, Mistake<'a>> {
-    let (input, behind) = match words {
-        [input, behind @ ..] => (input, behind),
+    let (input, following) = match words {
+        [input, following @ ..] => (input, following),
         _ => {
             return Err(wrong);
         }
@@ -375,8 +377,8 @@ fn from_input<'a>(
     if let Some(wrong) = wrong_at(is_ended, input) {
         return Err(mistake_in(wrong, input));
     }
-    match parse_behind(chosen, is_ended, behind) {
-        Ok(parsed) => alone(wrong, input, behind, parsed),
+    match parse_after(chosen, is_ended, following) {
+        Ok(parsed) => alone(wrong, input, following, parsed),
         Err(other) => Err(other),
     }
 }

@@ -89,10 +89,10 @@ fn numbers_listed<'a>(alloc: Global, list: &'a str) -> Result<Vec<Glyphs>, Unrea
 fn each_requested<'a>(alloc: Global, sources: &[Source<'a>]) -> Result<Vec<Glyphs>, Unread<'a>> {
     let mut glyphs = Vec::new(alloc);
     let mut rest = sources;
-    while let [source, behind @ ..] = rest {
+    while let [source, following @ ..] = rest {
         let more = by_source(alloc, *source)?;
         push_glyphs(&mut glyphs, more)?;
-        rest = behind;
+        rest = following;
     }
     Ok(glyphs)
 }
@@ -139,14 +139,14 @@ fn stream_kind(source: Source<'_>) -> Option<FileKind> {
 pub fn wrong_stream<'a>(is_taken: bool, sources: &[Source<'_>]) -> Option<Mistake<'a>> {
     let mut is_taken = is_taken;
     let mut rest = sources;
-    while let [source, behind @ ..] = rest {
+    while let [source, following @ ..] = rest {
         if let Some(kind) = stream_kind(*source) {
             if is_taken {
                 return Some(mistake_in(Wrong::InputTwice, file_option(kind)));
             }
             is_taken = true;
         }
-        rest = behind;
+        rest = following;
     }
     None
 }

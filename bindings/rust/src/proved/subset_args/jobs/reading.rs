@@ -71,7 +71,7 @@ fn read_job<'a>(
     }
 }
 
-/// What the options and the arguments behind them request.
+/// What the options and the arguments after them request.
 fn read_parsed<'a>(alloc: Global, parsed: Parsed<'a>) -> Result<Command, Unread<'a>> {
     match parsed {
         Parsed::Help => Ok(Command::Help),
@@ -96,7 +96,7 @@ fn instead_of<'a>(input: &'a str, wrong: Mistake<'a>) -> Mistake<'a> {
         return wrong;
     }
     if is_option(kind_of(input)) || topic_of(input).is_some() {
-        mistake_in(Wrong::BehindShown, input)
+        mistake_in(Wrong::AfterShown, input)
     } else {
         mistake_in(Wrong::Unknown, input)
     }
@@ -104,7 +104,7 @@ fn instead_of<'a>(input: &'a str, wrong: Mistake<'a>) -> Mistake<'a> {
 
 /// What is wrong where an argument follows INDEX.
 fn after_index<'a>(input: &'a str, word: &'a str) -> Mistake<'a> {
-    instead_of(input, mistake_in(Wrong::BehindShown, word))
+    instead_of(input, mistake_in(Wrong::AfterShown, word))
 }
 
 /// What the arguments `FONT [INDEX]` show. INDEX is 0 where it isn't given.
@@ -125,25 +125,25 @@ fn read_shown<'a>(topic: Topic, json: bool, words: &'a [String]) -> Result<Comma
 
 /// What the arguments `[--json] FONT [INDEX]` show.
 fn read_topic<'a>(topic: Topic, words: &'a [String]) -> Result<Command, Unread<'a>> {
-    let (word, behind) = match words {
-        [word, behind @ ..] => (word, behind),
+    let (word, following) = match words {
+        [word, following @ ..] => (word, following),
         _ => {
             return Err(Unread::Mistake(mistake_in(Wrong::NoInput, "")));
         }
     };
     if word.as_str() == "--json" {
-        read_shown(topic, true, behind)
+        read_shown(topic, true, following)
     } else {
         read_shown(topic, false, words)
     }
 }
 
-/// What the arguments behind `--batch` request: FILE.
+/// What the arguments after `--batch` request: FILE.
 fn read_batch<'a>(words: &'a [String]) -> Result<Command, Unread<'a>> {
     match words {
         [] => Err(Unread::Mistake(mistake_in(Wrong::NoBatchFile, ""))),
         [file] => Ok(Command::Batch(file.clone()?)),
-        [_, word, ..] => Err(Unread::Mistake(mistake_in(Wrong::BehindBatch, word))),
+        [_, word, ..] => Err(Unread::Mistake(mistake_in(Wrong::AfterBatch, word))),
     }
 }
 
@@ -154,17 +154,17 @@ fn read_batch<'a>(words: &'a [String]) -> Result<Command, Unread<'a>> {
 ///
 /// The error is what is wrong first, read from left to right.
 pub fn read_words<'a>(alloc: Global, words: &'a [String]) -> Result<Command, Unread<'a>> {
-    let (word, behind) = match words {
-        [word, behind @ ..] => (word, behind),
+    let (word, following) = match words {
+        [word, following @ ..] => (word, following),
         _ => {
             return read_by_options(alloc, words);
         }
     };
     if is_batch(word) {
-        return read_batch(behind);
+        return read_batch(following);
     }
     match topic_of(word) {
-        Some(topic) => read_topic(topic, behind),
+        Some(topic) => read_topic(topic, following),
         None => read_by_options(alloc, words),
     }
 }

@@ -31,7 +31,7 @@ fn hex_in_32(word: &str) -> Option<u32> {
     u32::from_str_radix(word, 16).ok()
 }
 
-/// The same, if it is at most 10FFFF.
+/// The number of one or more hexadecimal digits, if it is at most 10FFFF.
 fn hex_of(word: &str) -> Option<u32> {
     let code = hex_in_32(word)?;
     if code < 0x110000 {
@@ -41,12 +41,12 @@ fn hex_of(word: &str) -> Option<u32> {
     }
 }
 
-/// Whether a text is in front of the plus of `U+0041`.
+/// Whether a text is before the plus of `U+0041`.
 fn is_mark(word: &str) -> bool {
     word == "U" || word == "u"
 }
 
-/// The code whose digits are behind a mark and a plus.
+/// The code whose digits are after a mark and a plus.
 fn marked(mark: &str, digits: &str) -> Option<u32> {
     if is_mark(mark) {
         hex_of(digits)

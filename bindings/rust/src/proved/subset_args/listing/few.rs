@@ -36,13 +36,13 @@ fn size_of(kind: FileKind, part: &str) -> u64 {
 pub fn are_few(kind: FileKind, parts: &[&str]) -> bool {
     let mut left = MOST;
     let mut rest = parts;
-    while let [part, behind @ ..] = rest {
+    while let [part, following @ ..] = rest {
         let size = size_of(kind, part);
         if size > left {
             return false;
         }
         left -= size;
-        rest = behind;
+        rest = following;
     }
     true
 }

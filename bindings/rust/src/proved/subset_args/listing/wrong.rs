@@ -99,11 +99,11 @@ fn list_option(listing: Listing) -> &'static str {
 /// The first wrong part; where none is wrong, the list is too long.
 fn first_wrong<'a>(listing: Listing, parts: &[&'a str]) -> Mistake<'a> {
     let mut rest = parts;
-    while let [part, behind @ ..] = rest {
+    while let [part, following @ ..] = rest {
         if let Some(wrong) = wrong_part(listing, part) {
             return mistake_in(wrong, part);
         }
-        rest = behind;
+        rest = following;
     }
     mistake_in(Wrong::TooMany, list_option(listing))
 }

@@ -89,8 +89,8 @@ pub fn is_option(kind: Kind) -> bool {
     }
 }
 
-/// What is wrong with an argument behind IN that is an option.
-pub fn wrong_behind(word: &str) -> Option<Wrong> {
+/// What is wrong with an argument after IN that is an option.
+pub fn wrong_after(word: &str) -> Option<Wrong> {
     if is_option(kind_of(word)) || joined(word).is_some() {
         return Some(Wrong::Late);
     }

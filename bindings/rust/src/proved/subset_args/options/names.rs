@@ -87,7 +87,7 @@ pub enum Source<'a> {
     Characters(&'a str),
 }
 
-/// What an argument in front of IN is.
+/// What an argument before IN is.
 #[derive(Clone, Copy, Debug)]
 pub enum Kind {
     Switch(Switch),
@@ -176,7 +176,7 @@ pub fn setting_of(word: &str) -> Option<Setting> {
     }
 }
 
-/// What an argument in front of IN is.
+/// What an argument before IN is.
 pub fn kind_of(word: &str) -> Kind {
     if let Some(switch) = switch_of(word) {
         return Kind::Switch(switch);

@@ -4,14 +4,14 @@
 use crate::proved::subset_args::is_blank;
 use crate::proved::subset_batch::fault::{missing, Unread, Wanted};
 
-/// The bytes behind the white space at the front.
+/// The bytes after the white space at the front.
 pub fn skip_ws(bytes: &[u8]) -> &[u8] {
     let mut rest = bytes;
-    while let [b, behind @ ..] = rest {
+    while let [b, following @ ..] = rest {
         if !is_blank(*b) {
             return rest;
         }
-        rest = behind;
+        rest = following;
     }
     rest
 }
@@ -29,22 +29,22 @@ fn ends_word(b: u8) -> bool {
 /// How many bytes the word at the front has.
 fn word_len(bytes: &[u8]) -> usize {
     let mut rest = bytes;
-    while let [b, behind @ ..] = rest {
+    while let [b, following @ ..] = rest {
         if ends_word(*b) {
             return bytes.len().saturating_sub(rest.len());
         }
-        rest = behind;
+        rest = following;
     }
     bytes.len()
 }
 
-/// The word at the front, and the bytes behind it.
+/// The word at the front, and the bytes after it.
 pub fn split_word(bytes: &[u8]) -> (&[u8], &[u8]) {
     bytes.split_at(word_len(bytes))
 }
 
-/// The bytes behind this one, if it is first.
-pub fn behind(byte: u8, bytes: &[u8]) -> Option<&[u8]> {
+/// The bytes after this one, if it is first.
+pub fn following(byte: u8, bytes: &[u8]) -> Option<&[u8]> {
     match bytes {
         [] => None,
         [b, rest @ ..] => {
@@ -57,9 +57,9 @@ pub fn behind(byte: u8, bytes: &[u8]) -> Option<&[u8]> {
     }
 }
 
-/// The bytes behind this one, which is expected.
+/// The bytes after this one, which is expected.
 pub fn byte_at(byte: u8, wanted: Wanted, bytes: &[u8]) -> Result<&[u8], Unread> {
-    match behind(byte, bytes) {
+    match following(byte, bytes) {
         Some(rest) => Ok(rest),
         None => Err(missing(wanted, bytes)),
     }
@@ -81,7 +81,7 @@ fn separator_in(close: u8, wanted: Wanted, bytes: &[u8]) -> Result<(bool, &[u8])
     }
 }
 
-/// The same behind white space.
+/// Whether a comma is first after white space, which a member follows, or the byte that closes.
 pub fn separator_at(close: u8, wanted: Wanted, bytes: &[u8]) -> Result<(bool, &[u8]), Unread> {
     separator_in(close, wanted, skip_ws(bytes))
 }

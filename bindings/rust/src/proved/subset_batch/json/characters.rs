@@ -7,7 +7,7 @@ use crate::proved::subset_batch::fault::{missing, Unread, Wanted};
 use crate::proved::subset_batch::json::blanks::byte_at;
 use crate::rattle::alloc::AllocError;
 
-/// The first code unit that is the first half of a surrogate pair, the first that is the second half, and the first behind these.
+/// The first code unit that is the first half of a surrogate pair, the first that is the second half, and the first after these.
 const FIRST_HIGH: u32 = 0xD800;
 
 const FIRST_LOW: u32 = 0xDC00;
@@ -22,13 +22,13 @@ const OF_EACH_HIGH: u32 = 1024;
 /// What one step reads of a string.
 #[derive(Clone, Copy, Debug)]
 pub enum Character {
-    /// A byte of an unescaped character, or what a letter behind a backslash stands for.
+    /// A byte of an unescaped character, or what a letter after a backslash stands for.
     Byte(u8),
     /// What `\u` writes.
     Scalar(char),
 }
 
-/// What a letter behind a backslash stands for.
+/// What a letter after a backslash stands for.
 fn escaped(e: u8) -> Option<u8> {
     match e {
         b'"' => Some(b'"'),
@@ -119,7 +119,7 @@ fn unicode_at(bytes: &[u8]) -> Result<(Character, &[u8]), Unread> {
     coded(code, rest, bytes)
 }
 
-/// What is behind a backslash.
+/// What is after a backslash.
 fn escape_at(bytes: &[u8]) -> Result<(Character, &[u8]), Unread> {
     match bytes {
         [] => Err(missing(Wanted::Escape, bytes)),

@@ -4,11 +4,11 @@
 /// Whether bytes are digits.
 fn are_digits(bytes: &[u8]) -> bool {
     let mut rest = bytes;
-    while let [b, behind @ ..] = rest {
+    while let [b, following @ ..] = rest {
         if !b.is_ascii_digit() {
             return false;
         }
-        rest = behind;
+        rest = following;
     }
     true
 }
@@ -31,16 +31,16 @@ fn is_byte(byte: u8, b: u8) -> bool {
 /// The index of the first byte that is this one, or the number of bytes.
 fn place_of(byte: u8, bytes: &[u8]) -> usize {
     let mut rest = bytes;
-    while let [b, behind @ ..] = rest {
+    while let [b, following @ ..] = rest {
         if is_byte(byte, *b) {
             return bytes.len().saturating_sub(rest.len());
         }
-        rest = behind;
+        rest = following;
     }
     bytes.len()
 }
 
-/// What is in front of a byte, and behind it.
+/// What is before a byte, and after it.
 fn split_once(byte: u8, bytes: &[u8]) -> Option<(&[u8], &[u8])> {
     let at = place_of(byte, bytes);
     if at < bytes.len() {

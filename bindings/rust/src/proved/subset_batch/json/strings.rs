@@ -4,13 +4,13 @@
 use crate::rattle::prelude::{String, Vec};
 
 use crate::proved::subset_batch::fault::{missing, Unread, Wanted};
-use crate::proved::subset_batch::json::blanks::behind;
+use crate::proved::subset_batch::json::blanks::following;
 use crate::proved::subset_batch::json::characters::{char_at, push_character, Character};
 use crate::rattle::alloc::{AllocError, Global};
 
-/// Whether a string goes on, and the bytes behind its quotation mark if it doesn't.
+/// Whether a string goes on, and the bytes after its quotation mark if it doesn't.
 fn goes_on(bytes: &[u8]) -> (bool, &[u8]) {
-    match behind(b'"', bytes) {
+    match following(b'"', bytes) {
         Some(rest) => (false, rest),
         None => (true, bytes),
     }
@@ -28,19 +28,19 @@ fn many_chars(alloc: Global, count: usize, bytes: &[u8]) -> Result<(Vec<u8>, &[u
     let mut text = Vec::new(alloc);
     let mut rest = bytes;
     for _ in 0..count {
-        let (character, more, behind) = char_step(rest)?;
+        let (character, more, following) = char_step(rest)?;
         push_character(&mut text, character)?;
         if !more {
-            return Ok((text, behind));
+            return Ok((text, following));
         }
-        rest = behind;
+        rest = following;
     }
     Err(missing(Wanted::Quote, rest))
 }
 
-/// The characters behind the first quotation mark.
+/// The characters after the first quotation mark.
 fn chars_at(alloc: Global, bytes: &[u8]) -> Result<(Vec<u8>, &[u8]), Unread> {
-    match behind(b'"', bytes) {
+    match following(b'"', bytes) {
         Some(rest) => Ok((Vec::new(alloc), rest)),
         None => many_chars(alloc, bytes.len(), bytes),
     }
@@ -54,7 +54,7 @@ pub fn text_of(alloc: Global, bytes: &[u8]) -> Result<Option<String>, AllocError
     }
 }
 
-/// The string behind its first quotation mark.
+/// The string after its first quotation mark.
 pub fn string_at(alloc: Global, bytes: &[u8]) -> Result<(String, &[u8]), Unread> {
     let (chars, rest) = chars_at(alloc, bytes)?;
     match text_of(alloc, &chars)? {

@@ -3,11 +3,11 @@
 
 use crate::rattle::prelude::{AllocGlobal, Input, Print, String, Vec};
 
+use crate::proved::plain_text::characters::plain_text;
 use crate::proved::subset_args::{Job, Plain};
 use crate::proved::subset_font::making::outcome::{make_planned, Outcome};
 use crate::proved::subset_font::output::{write_font, write_numbers, write_page};
 use crate::proved::subset_font::run::job::{open_font, room_of};
-use crate::proved::subset_lines::characters::plain_text;
 use crate::proved::subset_task::batch::answers::{failed, Answer, Object};
 use crate::proved::subset_task::reading::read_whole;
 use crate::proved::subset_task::refusals::failure::{file_at, file_by, given, pdf_file, Failure};

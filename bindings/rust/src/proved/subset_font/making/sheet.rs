@@ -134,7 +134,7 @@ fn member_of(alloc: Global, sheet: &Sheet) -> Result<Vec<u8>, AllocError> {
     json_pdf(alloc, size, name, &sheet.font.codes).map_err(|_| AllocError)
 }
 
-/// Members of a JSON object, and behind them that of a PDF, if there is one.
+/// Members of a JSON object, and after them that of a PDF, if there is one.
 pub fn with_pdf(
     alloc: Global,
     members: Vec<u8>,

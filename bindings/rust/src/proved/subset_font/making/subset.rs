@@ -45,7 +45,7 @@ fn make_plain(
     Ok((subset, mapper))
 }
 
-/// The same with the text of the widths.
+/// The subset for glyphs, their new numbers, and the text of the widths.
 fn make_with_widths(
     alloc: Global,
     font: &[u8],

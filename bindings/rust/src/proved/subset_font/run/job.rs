@@ -62,7 +62,7 @@ pub fn room_of<F: OpenFile + Read, S: Read>(
     }
 }
 
-/// Does a plan between a reader and three writers, the last of them behind a buffer.
+/// Does a plan between a reader and three writers, the last of them after a buffer.
 fn carry_buffered<R: Read, P: Write, W: Write, L: Write>(
     alloc: Global,
     plan: &Plan<'_>,

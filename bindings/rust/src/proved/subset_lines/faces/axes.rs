@@ -3,13 +3,12 @@
 
 use crate::rattle::prelude::{Cast, Vec};
 
-use crate::proved::subset_lines::entry::Unwritten;
-use crate::proved::subset_lines::faces::names::{write_behind, NameTable};
+use crate::proved::plain_text::{write_text, Unwritten};
+use crate::proved::subset_lines::faces::names::{write_after, NameTable};
 use crate::proved::subset_lines::faces::outlines::{write_outlines, Outlines};
 use crate::proved::subset_lines::faces::settings::{write_each, SettingForm};
 use crate::proved::subset_lines::fixed::write_fixed;
 use crate::proved::subset_lines::plain::flush;
-use crate::proved::subset_lines::text::write_text;
 use crate::proved::subsetter_base::read::{after_four, Reader};
 use crate::proved::subsetter_base::{Error, Tag};
 use crate::proved::subsetter_variation::fvar::{
@@ -38,7 +37,7 @@ fn records_at(
     Ok(records)
 }
 
-/// The records of named instances behind so many axes.
+/// The records of named instances after so many axes.
 fn instances_of(
     alloc: Global,
     at: u16,
@@ -118,17 +117,17 @@ pub fn write_tag<W: Write>(tag: Tag, out: &mut W) -> Result<(), Unwritten> {
     write_text(&tag_bytes(tag), out)
 }
 
-/// Writes a coordinate behind a blank.
-fn write_behind_blank<W: Write>(value: i32, out: &mut W) -> Result<(), Unwritten> {
+/// Writes a coordinate after a blank.
+fn write_after_blank<W: Write>(value: i32, out: &mut W) -> Result<(), Unwritten> {
     write_text(b" ", out)?;
     write_fixed(value, out)
 }
 
 /// Writes the least coordinate of an axis, its default and its greatest coordinate.
 fn write_numbers<W: Write>(axis: &Axis, out: &mut W) -> Result<(), Unwritten> {
-    write_behind_blank(axis.minimum, out)?;
-    write_behind_blank(axis.default, out)?;
-    write_behind_blank(axis.maximum, out)
+    write_after_blank(axis.minimum, out)?;
+    write_after_blank(axis.default, out)?;
+    write_after_blank(axis.maximum, out)
 }
 
 /// Writes the line of an axis.
@@ -169,7 +168,7 @@ fn write_instance<W: Write>(
 ) -> Result<(), Unwritten> {
     write_text(b"instance ", out)?;
     write_settings(axes, after_four(bytes), out)?;
-    write_behind(names.of_instance(bytes), out)?;
+    write_after(names.of_instance(bytes), out)?;
     write_text(b"\n", out)
 }
 

@@ -3,10 +3,9 @@
 
 use crate::rattle::prelude::Vec;
 
-use crate::proved::subset_lines::entry::Unwritten;
+use crate::proved::plain_text::{write_count, write_text, Unwritten};
 use crate::proved::subset_lines::faces::axes::{tag_bytes, write_tag};
 use crate::proved::subset_lines::objects::quoted::write_quoted;
-use crate::proved::subset_lines::text::{write_count, write_text};
 use crate::proved::subsetter_base::Tag;
 use crate::rattle::alloc::Global;
 use crate::rattle::io::Write;
@@ -142,7 +141,7 @@ fn write_object<W: Write>(table: &TableSize, out: &mut W) -> Result<(), Unwritte
     write_sizes_close(table, out)
 }
 
-/// Writes the same behind a text.
+/// Writes the same after a text.
 fn write_table_object<W: Write>(
     before: &[u8],
     table: &TableSize,
@@ -162,7 +161,7 @@ fn write_table_objects<W: Write>(tables: &[TableSize], out: &mut W) -> Result<()
     Ok(())
 }
 
-/// Writes the member `"sizes"` of the JSON object, in bytes of both files, with a comma in front of it.
+/// Writes the member `"sizes"` of the JSON object, in bytes of both files, with a comma before it.
 pub fn write_sizes_member<W: Write>(old: u64, new: u64, out: &mut W) -> Result<(), Unwritten> {
     write_count(b",\"sizes\":{\"old\":", old, out)?;
     write_count(b",\"new\":", new, out)?;
@@ -175,7 +174,7 @@ fn write_tables_open<W: Write>(tables: &[TableSize], out: &mut W) -> Result<(), 
     write_table_objects(tables, out)
 }
 
-/// Writes the member `"tables"` of the JSON object, with a comma in front of it.
+/// Writes the member `"tables"` of the JSON object, with a comma before it.
 pub fn write_tables_member<W: Write>(tables: &[TableSize], out: &mut W) -> Result<(), Unwritten> {
     write_tables_open(tables, out)?;
     write_text(b"]", out)

@@ -3,7 +3,7 @@
 
 use crate::rattle::prelude::Vec;
 
-use crate::proved::subset_lines::entry::Unwritten;
+use crate::proved::plain_text::{write_text, Unwritten};
 use crate::proved::subset_lines::faces::axes::{tag_bytes, FontAxes};
 use crate::proved::subset_lines::faces::names::write_units;
 use crate::proved::subset_lines::faces::outlines::{write_outlines_members, Outlines};
@@ -11,7 +11,6 @@ use crate::proved::subset_lines::faces::settings::{write_each, SettingForm};
 use crate::proved::subset_lines::fixed::write_labelled;
 use crate::proved::subset_lines::objects::quoted::write_quoted;
 use crate::proved::subset_lines::plain::flush;
-use crate::proved::subset_lines::text::write_text;
 use crate::proved::subsetter_base::read::after_four;
 use crate::proved::subsetter_base::Tag;
 use crate::proved::subsetter_variation::locations::axes::Axis;
@@ -43,7 +42,7 @@ fn write_axis_object<W: Write>(axis: &Axis, out: &mut W) -> Result<(), Unwritten
     write_axis_numbers(axis, out)
 }
 
-/// Writes the object of an axis, behind a text.
+/// Writes the object of an axis, after a text.
 fn write_axis<W: Write>(before: &[u8], axis: &Axis, out: &mut W) -> Result<(), Unwritten> {
     write_text(before, out)?;
     write_axis_object(axis, out)
@@ -115,7 +114,7 @@ fn write_instance_object<W: Write>(
     write_instance_settings(&all.axes, after_four(bytes), out)
 }
 
-/// Writes the same behind a text.
+/// Writes the same after a text.
 fn write_instance<W: Write>(
     alloc: Global,
     before: &[u8],

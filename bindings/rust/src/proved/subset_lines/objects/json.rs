@@ -3,10 +3,10 @@
 
 use crate::rattle::prelude::Vec;
 
-use crate::proved::subset_lines::entry::{name_at, take_first, Numbering, Unwritten};
+use crate::proved::plain_text::{write_text, Unwritten};
+use crate::proved::subset_lines::entry::{name_at, take_first, Numbering};
 use crate::proved::subset_lines::objects::quoted::write_shown;
 use crate::proved::subset_lines::plain::flush;
-use crate::proved::subset_lines::text::write_text;
 use crate::proved::subsetter_base::GlyphRemapper;
 use crate::rattle::alloc::Global;
 use crate::rattle::io::Write;
@@ -57,7 +57,7 @@ fn write_name<W: Write>(name: &[u8], out: &mut W) -> Result<(), Unwritten> {
     write_shown(name, out)
 }
 
-/// Writes the object of a glyph, behind a text.
+/// Writes the object of a glyph, after a text.
 fn write_object<W: Write>(
     before: &[u8],
     character: Option<char>,
@@ -118,12 +118,12 @@ fn write_widths<W: Write>(text: &[u8], out: &mut W) -> Result<(), Unwritten> {
 fn write_between<W: Write>(
     front: &[u8],
     numbering: &Numbering<'_>,
-    behind: &[u8],
+    following: &[u8],
     out: &mut W,
 ) -> Result<(), Unwritten> {
     write_text(front, out)?;
     write_entries(numbering, out)?;
-    write_text(behind, out)
+    write_text(following, out)
 }
 
 /// Writes the member that has the glyphs, and what opens the object.
@@ -156,7 +156,7 @@ pub fn write_json<W: Write>(
     flush(out)
 }
 
-/// Writes a number behind a text.
+/// Writes a number after a text.
 fn write_number<W: Write>(before: &[u8], number: u32, out: &mut W) -> Result<(), Unwritten> {
     write_text(before, out)?;
     if write!(out, "{number}").is_err() {

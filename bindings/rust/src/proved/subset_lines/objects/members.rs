@@ -3,12 +3,11 @@
 
 use crate::rattle::prelude::Vec;
 
-use crate::proved::subset_lines::entry::Unwritten;
+use crate::proved::plain_text::{write_text, Unwritten};
 use crate::proved::subset_lines::faces::sizes::{
     write_sizes_member, write_tables_member, TableSize,
 };
 use crate::proved::subset_lines::notes::{write_notes_array, Note};
-use crate::proved::subset_lines::text::write_text;
 use crate::proved::subsetter_variation::locations::axes::Axis;
 use crate::rattle::alloc::Global;
 use crate::rattle::io::Write;

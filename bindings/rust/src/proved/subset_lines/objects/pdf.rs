@@ -3,9 +3,8 @@
 
 use crate::rattle::prelude::Vec;
 
-use crate::proved::subset_lines::entry::Unwritten;
+use crate::proved::plain_text::{write_count, write_text, Unwritten};
 use crate::proved::subset_lines::objects::quoted::write_quoted;
-use crate::proved::subset_lines::text::{write_count, write_text};
 use crate::rattle::alloc::Global;
 use crate::rattle::io::Write;
 
@@ -51,7 +50,7 @@ fn write_member<W: Write>(
     write_text(b"}", out)
 }
 
-/// The text of the member `"pdf"` of a JSON object, with a comma in front of it: the bytes of the PDF, the name of its font, and
+/// The text of the member `"pdf"` of a JSON object, with a comma before it: the bytes of the PDF, the name of its font, and
 /// the code of each glyph.
 ///
 /// `Unwritten` where a request for memory was refused.

@@ -3,8 +3,8 @@
 
 use crate::rattle::prelude::{String, Vec};
 
+use crate::proved::plain_text::Unwritten;
 use crate::proved::subset_batch::{write_done, write_failed};
-use crate::proved::subset_lines::Unwritten;
 use crate::rattle::alloc::{AllocError, Global};
 use crate::rattle::io;
 use crate::rattle::io::{ErrorKind, Write};

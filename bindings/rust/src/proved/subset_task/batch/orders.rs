@@ -30,11 +30,11 @@ fn is_given_stream(name: Option<&str>) -> bool {
 /// Whether one of the files of glyphs is standard input.
 fn lists_in_stream(glyphs: &[Glyphs]) -> bool {
     let mut rest = glyphs;
-    while let [one, behind @ ..] = rest {
+    while let [one, following @ ..] = rest {
         if is_given_stream(list_file(one)) {
             return true;
         }
-        rest = behind;
+        rest = following;
     }
     false
 }

@@ -114,7 +114,7 @@ fn too_long(alloc: Global) -> Answer {
     failed(TOO_LONG, String::from_str(alloc, text))
 }
 
-/// A request behind others, and how far it is, where lists may have so many more numbers.
+/// A request after others, and how far it is, where lists may have so many more numbers.
 fn admit(
     alloc: Global,
     before: &[Request],
@@ -130,7 +130,7 @@ fn admit(
     (Some(job), state)
 }
 
-/// The request of a line behind others by what the line requests, and how far it is, where lists may have so many more numbers.
+/// The request of a line after others by what the line requests, and how far it is, where lists may have so many more numbers.
 fn begin(
     alloc: Global,
     before: &[Request],
@@ -164,7 +164,7 @@ fn add_names(alloc: Global, names: &mut HashMap<String, ()>, job: &Job) -> Resul
     add_name(alloc, names, pdf_file(job))
 }
 
-/// The same of a request that may be wrong.
+/// Adds the names of the files that a request writes, where it may be wrong.
 fn add_names_if(
     alloc: Global,
     names: &mut HashMap<String, ()>,
@@ -213,10 +213,10 @@ pub fn requests_of(alloc: Global, file: &[u8]) -> Result<Batch, AllocError> {
     let mut left = MOST_NUMBERS;
     let lines = lines_of(alloc, file)?;
     let mut rest = lines.as_slice();
-    while let [line, behind @ ..] = rest {
+    while let [line, following @ ..] = rest {
         let order = order_of(alloc, line.bytes);
         push_order(alloc, &mut batch, &mut names, &mut left, *line, order)?;
-        rest = behind;
+        rest = following;
     }
     Ok(batch)
 }
@@ -235,7 +235,7 @@ pub fn due<'a>(requests: &'a [Request], states: &[State], index: usize) -> Optio
     }
 }
 
-/// The same if it is of this source.
+/// What the request of an index requests, if it is of this source and still to be done.
 pub fn due_of<'a>(
     requests: &'a [Request],
     states: &[State],

@@ -27,9 +27,9 @@ fn push_missing(found: &mut Vec<char>, character: char) -> Result<(), AllocError
 pub fn first_missing(alloc: Global, characters: &[char]) -> Result<Vec<char>, AllocError> {
     let mut found = Vec::new(alloc);
     let mut rest = characters;
-    while let [character, behind @ ..] = rest {
+    while let [character, following @ ..] = rest {
         push_missing(&mut found, *character)?;
-        rest = behind;
+        rest = following;
     }
     Ok(found)
 }

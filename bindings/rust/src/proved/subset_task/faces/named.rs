@@ -13,12 +13,12 @@ use crate::proved::subsetter_sfnt::directory::{header_offset, table};
 use crate::proved::subsetter_variation::locations::axes::Axis;
 use crate::rattle::alloc::{AllocError, Global};
 
-/// What a name has behind a text, which may differ from it in the case of ASCII letters. None where it doesn't begin so.
-fn behind_same<'a>(text: &[u8], name: &'a [u8]) -> Option<&'a [u8]> {
+/// What a name has after a text, which may differ from it in the case of ASCII letters. None where it doesn't begin so.
+fn after_same<'a>(text: &[u8], name: &'a [u8]) -> Option<&'a [u8]> {
     let mut rest = name;
     for byte in text {
-        let (first, behind) = match rest {
-            [first, behind @ ..] => (first, behind),
+        let (first, following) = match rest {
+            [first, following @ ..] => (first, following),
             _ => {
                 return None;
             }
@@ -26,7 +26,7 @@ fn behind_same<'a>(text: &[u8], name: &'a [u8]) -> Option<&'a [u8]> {
         if !byte.eq_ignore_ascii_case(first) {
             return None;
         }
-        rest = behind;
+        rest = following;
     }
     Some(rest)
 }
@@ -37,8 +37,8 @@ fn is_text_of(units: &[u8], name: &[u8]) -> bool {
     let mut rest = units;
     while let [high, low, more @ ..] = rest {
         let mut room = [0; 4];
-        match behind_same(encoded(*high, *low, &mut room), left) {
-            Some(behind) => left = behind,
+        match after_same(encoded(*high, *low, &mut room), left) {
+            Some(following) => left = following,
             None => return false,
         }
         rest = more;
@@ -87,7 +87,7 @@ fn coordinate_of(bytes: &[u8]) -> i32 {
     }
 }
 
-/// The coordinates of each axis, from the bytes behind the flags of a record.
+/// The coordinates of each axis, from the bytes after the flags of a record.
 fn settings_of(alloc: Global, axes: &[Axis], bytes: &[u8]) -> Result<Vec<(Tag, i32)>, AllocError> {
     let mut settings = Vec::new(alloc);
     let mut rest = bytes;
@@ -138,7 +138,7 @@ pub fn face_settings(
     }
 }
 
-/// Adds the name of the instance of a record, if it has one, behind a text, and answers whether it has one.
+/// Adds the name of the instance of a record, if it has one, after a text, and answers whether it has one.
 fn push_name(
     text: &mut Vec<u8>,
     alloc: Global,
@@ -163,7 +163,7 @@ fn push_name(
     Ok(true)
 }
 
-/// What is in front of the next name, behind one if there is one.
+/// What is before the next name, after one if there is one.
 fn before_next(before: &[u8], found: bool) -> &[u8] {
     if found {
         b", "
@@ -172,8 +172,8 @@ fn before_next(before: &[u8], found: bool) -> &[u8] {
     }
 }
 
-/// The names of the instances of records, the first behind a text.
-fn names_behind(
+/// The names of the instances of records, the first after a text.
+fn names_after(
     alloc: Global,
     front: &[u8],
     names: &NameTable<'_>,
@@ -219,7 +219,7 @@ fn few_names(
     names: &NameTable<'_>,
     records: &[&[u8]],
 ) -> Result<Vec<u8>, AllocError> {
-    let text = names_behind(alloc, b"named instances: ", names, few_records(records))?;
+    let text = names_after(alloc, b"named instances: ", names, few_records(records))?;
     let text = with_more(alloc, text, records.len().saturating_sub(MOST_NAMES))?;
     line_of_names(text)
 }

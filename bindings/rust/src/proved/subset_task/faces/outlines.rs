@@ -13,7 +13,7 @@ pub fn outlines_of(font: &[u8], index: u32) -> Outlines {
     }
 }
 
-/// The same of a face without `glyf`.
+/// What the outlines of a face without `glyf` are.
 fn other_outlines(font: &[u8], index: u32) -> Outlines {
     match (table(font, index, Tag::CFF), table(font, index, Tag::CFF2)) {
         (Some(_), _) => Outlines::Cff,

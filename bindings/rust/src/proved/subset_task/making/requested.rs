@@ -102,9 +102,9 @@ fn part(text: &[char], entry: Entry) -> &[char] {
 fn texts_of(alloc: Global, text: &[char], entries: &[Entry]) -> Result<Vec<char>, AllocError> {
     let mut texts = Vec::with_capacity(alloc, text.len())?;
     let mut rest = entries;
-    while let [entry, behind @ ..] = rest {
+    while let [entry, following @ ..] = rest {
         texts.extend_from_slice(part(text, *entry))?;
-        rest = behind;
+        rest = following;
     }
     Ok(texts)
 }
@@ -172,7 +172,7 @@ fn lacking(alloc: Global, characters: &[char], glyphs: &[u16]) -> Result<Vec<cha
     let mut found = Vec::new(alloc);
     let mut rest = characters;
     let mut left = glyphs;
-    while let [character, behind @ ..] = rest {
+    while let [character, following @ ..] = rest {
         let (glyph, others) = match left {
             [glyph, others @ ..] => (glyph, others),
             _ => {
@@ -182,7 +182,7 @@ fn lacking(alloc: Global, characters: &[char], glyphs: &[u16]) -> Result<Vec<cha
         if *glyph == 0 {
             found.push(*character)?;
         }
-        rest = behind;
+        rest = following;
         left = others;
     }
     Ok(found)
@@ -317,10 +317,10 @@ fn pick_each(
 ) -> Result<Picked, Failure> {
     let mut picked = Picked::new(alloc);
     let mut rest = asked;
-    while let [one, behind @ ..] = rest {
+    while let [one, following @ ..] = rest {
         let more = pick_one(alloc, font, index, one)?;
         push_picked(&mut picked, &more)?;
-        rest = behind;
+        rest = following;
     }
     Ok(picked)
 }

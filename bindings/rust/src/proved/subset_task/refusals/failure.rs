@@ -115,7 +115,7 @@ pub fn list_file(glyphs: &Glyphs) -> Option<&str> {
     }
 }
 
-/// The same of the request of a place.
+/// The name of the file that lists the glyphs of the request at a place, if one does.
 pub fn file_at(glyphs: &[Glyphs], place: usize) -> Option<&str> {
     match glyphs.get(place) {
         Some(one) => list_file(one),

@@ -152,7 +152,7 @@ pub fn each_requested<'a>(
     let mut requested = Vec::new(alloc);
     let mut rest = glyphs;
     let mut left = lists;
-    while let [one, behind @ ..] = rest {
+    while let [one, following @ ..] = rest {
         let (list, others) = match left {
             [list, others @ ..] => (list, others),
             _ => {
@@ -160,7 +160,7 @@ pub fn each_requested<'a>(
             }
         };
         push_requested(&mut requested, requested_of(one, list)).map_err(no_memory)?;
-        rest = behind;
+        rest = following;
         left = others;
     }
     Ok(requested)
@@ -184,7 +184,7 @@ fn task_of<'a>(job: &'a Job, pieces: &'a [RequestedGlyphs<'a>]) -> Task<'a> {
     }
 }
 
-/// The same at the coordinates of a named instance, if one is requested.
+/// What a job requests at the coordinates of a named instance, if one is requested.
 pub fn plan_of<'a>(job: &'a Job, pieces: &'a [RequestedGlyphs<'a>]) -> Plan<'a> {
     Plan {
         task: task_of(job, pieces),

@@ -16,9 +16,9 @@ use crate::proved::subsetter_sfnt::laying::room::put;
 const VERSION_1_0: u32 = 0x00010000;
 /// The version without them.
 const VERSION_0_5: u32 = 0x00005000;
-/// maxZones, two bytes, behind numGlyphs; the fields up to maxSizeOfInstructions bound instructions.
+/// maxZones, two bytes, after numGlyphs; the fields up to maxSizeOfInstructions bound instructions.
 const MAX_ZONES: usize = 8;
-/// maxComponentElements, behind numGlyphs.
+/// maxComponentElements, after numGlyphs.
 const MAX_COMPONENT_ELEMENTS: usize = 22;
 
 /// Version 1.0 for TrueType outlines, 0.5 for CFF ones.
@@ -37,7 +37,7 @@ fn further_fields(maxp: &[u8], flavor: FontFlavor) -> &[u8] {
     }
 }
 
-/// maxZones 1, and 0 for the six fields behind it, which bound instructions.
+/// maxZones 1, and 0 for the six fields after it, which bound instructions.
 const NO_INSTRUCTIONS: [u8; 14] = [0, 1, 0, 0, 0, 0, 0, 0, 0, 0, 0, 0, 0, 0];
 
 /// Writes the fields after numGlyphs, for outlines without instructions.

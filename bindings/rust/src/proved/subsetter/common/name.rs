@@ -2,7 +2,7 @@
 //! `name`, the names of a font (OpenType, "name").
 //!
 //! Version 0 has records, each of which has for a platform, an encoding, a language and a name the offset of its string in the
-//! storage behind the records. The new table keeps the Unicode records of the names 0 to 14 but the description, and
+//! storage after the records. The new table keeps the Unicode records of the names 0 to 14 but the description, and
 //! stores each string once. A table of another version is copied.
 //!
 //! The source's table is read without copying (`Table`). What a subset keeps of it is `NewNames`, which is written into
@@ -24,7 +24,7 @@ use crate::proved::subsetter_sfnt::laying::room::put;
 use crate::rattle::alloc::Global;
 use crate::rattle::collections::HashMap;
 
-/// The names below this one are kept: 15 is reserved, and those behind it are of families.
+/// The names below this one are kept: 15 is reserved, and those after it are of families.
 const KEPT_NAMES: u16 = 15;
 /// The name that describes the typeface.
 const DESCRIPTION: u16 = 10;
@@ -59,7 +59,7 @@ fn linear_offset(strings: &[&[u8]], string: &[u8]) -> Option<usize> {
     None
 }
 
-/// Keeps where a string begins that stands behind so many, if these are 32 or more.
+/// Keeps where a string begins that stands after so many, if these are 32 or more.
 fn remember_hashed<'a>(
     hashed: &mut HashMap<Text<'a>, u16>,
     count: usize,
@@ -175,7 +175,7 @@ fn write_records(w: &mut Writer, table: &Table<'_>) -> Result<(), Error> {
     Ok(())
 }
 
-/// A table as it stands, its storage right behind its records.
+/// A table as it stands, its storage right after its records.
 impl Writeable for Table<'_> {
     fn write(&self, w: &mut Writer) -> Result<(), Error> {
         let count = count_records(self);
@@ -188,7 +188,7 @@ impl Writeable for Table<'_> {
     }
 }
 
-/// The names that a subset keeps: at most 5460 records as they are written, and the strings that are behind them.
+/// The names that a subset keeps: at most 5460 records as they are written, and the strings that are after them.
 pub struct NewNames<'a> {
     records: Vec<u8>,
     strings: Strings<'a>,

@@ -70,21 +70,21 @@ pub fn is_composite(first: u8) -> bool {
     first >= 128
 }
 
-/// What stands behind a component at the front.
+/// What stands after a component at the front.
 fn rest_after<'a>(bytes: &'a [u8], component: Component<'_>) -> &'a [u8] {
     &bytes[ARGUMENTS + component.rest.len()..]
 }
 
-/// How many of the bytes behind the last component, which has these flags, are its instructions, if they are asked for.
-fn kept_len(flags: u16, behind: &[u8], hinting: bool) -> usize {
+/// How many of the bytes after the last component, which has these flags, are its instructions, if they are asked for.
+fn kept_len(flags: u16, following: &[u8], hinting: bool) -> usize {
     if hinting && has_instructions(flags) {
-        behind.len()
+        following.len()
     } else {
         0
     }
 }
 
-/// Puts a glyph that is not in the order behind those that wait.
+/// Puts a glyph that is not in the order after those that wait.
 fn push_new(order: &GlyphRemapper, waiting: &mut Vec<u16>, glyph: u16) -> Result<(), Error> {
     if order.get(glyph).is_none() {
         waiting.push(glyph)?;
@@ -92,7 +92,7 @@ fn push_new(order: &GlyphRemapper, waiting: &mut Vec<u16>, glyph: u16) -> Result
     Ok(())
 }
 
-/// Puts the component at the front, which is cut, behind those that wait, if its flags and its number are there and it is
+/// Puts the component at the front, which is cut, after those that wait, if its flags and its number are there and it is
 /// not in the order.
 fn push_cut(bytes: &[u8], order: &GlyphRemapper, waiting: &mut Vec<u16>) -> Result<(), Error> {
     if bytes.len() < ARGUMENTS {
@@ -110,7 +110,7 @@ pub struct Count {
     pub cut: bool,
 }
 
-/// Puts the components of a composite that are not in the order behind those that wait, and counts its bytes.
+/// Puts the components of a composite that are not in the order after those that wait, and counts its bytes.
 /// `MalformedFont` where it has fewer than ten. Another cut composite is refused later, as it is written.
 pub fn push_components(
     outline: &[u8],
@@ -179,7 +179,7 @@ fn cut_tail(out: &mut Vec<u8>, flags: u16, size: usize, hinting: bool) {
     }
 }
 
-/// Writes a composite with its components under their new numbers behind other bytes, and its instructions if they are requested. `MalformedFont` where it is cut.
+/// Writes a composite with its components under their new numbers after other bytes, and its instructions if they are requested. `MalformedFont` where it is cut.
 /// It is copied as it is, and then each component gets its new number in its place. Where that fails, nothing is written.
 pub fn rewrite_composite(
     out: &mut Vec<u8>,

@@ -163,12 +163,12 @@ fn write_pieces(out: &mut Vec<u8>, outline: Outline<'_>) {
         Outline::InPieces(bare) => {
             put(out, bare.front);
             put(out, &[0, 0]);
-            put(out, bare.behind);
+            put(out, bare.following);
         }
     }
 }
 
-/// Writes an outline, in the short format of `loca` with a zero byte behind an odd one.
+/// Writes an outline, in the short format of `loca` with a zero byte after an odd one.
 fn write_outline(out: &mut Vec<u8>, outline: Outline<'_>, long: bool) {
     write_pieces(out, outline);
     if !long && outline.len() % 2 == 1 {

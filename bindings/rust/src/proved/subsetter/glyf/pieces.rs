@@ -5,12 +5,12 @@
 use crate::proved::subsetter_base::read::u16_at;
 use crate::proved::subsetter_points::header::HEADER_SIZE;
 
-/// A simple outline without its instructions: what is before their length, and what is behind them. A length of
+/// A simple outline without its instructions: what is before their length, and what is after them. A length of
 /// 0 is between the two.
 #[derive(Clone, Copy)]
 pub struct Bare<'a> {
     pub front: &'a [u8],
-    pub behind: &'a [u8],
+    pub following: &'a [u8],
 }
 
 /// An outline as it is written.
@@ -41,7 +41,7 @@ fn bare_pieces(outline: &[u8]) -> Option<Bare<'_>> {
     }
     Some(Bare {
         front: &outline[..at],
-        behind: &outline[end..],
+        following: &outline[end..],
     })
 }
 
@@ -61,7 +61,7 @@ impl<'a> Outline<'a> {
     pub fn len(self) -> usize {
         match self {
             Outline::Whole(bytes) => bytes.len(),
-            Outline::InPieces(bare) => bare.front.len() + 2 + bare.behind.len(),
+            Outline::InPieces(bare) => bare.front.len() + 2 + bare.following.len(),
         }
     }
 

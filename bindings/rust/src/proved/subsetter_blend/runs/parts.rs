@@ -37,7 +37,7 @@ pub fn whole_in(parts: i64) -> Option<i32> {
     Some((parts / UNIT) as i32)
 }
 
-/// The same, where it isn't below 0.
+/// The whole number that parts are, where they are one that isn't below 0.
 #[inline(always)]
 pub fn natural_in(parts: i64) -> Option<u16> {
     let whole = whole_in(parts)?;

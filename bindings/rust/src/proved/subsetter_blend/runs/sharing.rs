@@ -42,18 +42,18 @@ fn vary_each<R: Regions>(
 ) -> Result<(), Error> {
     let mut rest = deltas;
     for i in 0..defaults.len() {
-        let (own, behind) = rest.split_at(count);
+        let (own, following) = rest.split_at(count);
         let value = vary(defaults[i], regions, data_index, own);
         if !is_within(value) {
             return Err(Error::OverflowError);
         }
         defaults[i] = value;
-        rest = behind;
+        rest = following;
     }
     Ok(())
 }
 
-/// The first n of these are defaults, which are replaced by their results; behind them are their deltas.
+/// The first n of these are defaults, which are replaced by their results; after them are their deltas.
 pub fn vary_front<R: Regions>(
     all: &mut [i64],
     n: usize,

@@ -71,7 +71,7 @@ fn may_begin(advance: Option<i16>, operator: OperatorType) -> bool {
     }
 }
 
-/// Writes the advance behind these bytes, where it isn't written yet.
+/// Writes the advance after these bytes, where it isn't written yet.
 #[inline(always)]
 fn append_width(bytes: &mut Vec<u8>, advance: Option<i16>) -> Result<(), Error> {
     if let Some(advance) = advance {
@@ -80,7 +80,7 @@ fn append_width(bytes: &mut Vec<u8>, advance: Option<i16>) -> Result<(), Error> 
     Ok(())
 }
 
-/// Writes an operator behind these bytes.
+/// Writes an operator after these bytes.
 #[inline(always)]
 fn append_code(bytes: &mut Vec<u8>, operator: Operator) -> Result<(), AllocError> {
     match operator.0 {
@@ -94,7 +94,7 @@ fn append_code(bytes: &mut Vec<u8>, operator: Operator) -> Result<(), AllocError
     }
 }
 
-/// Writes a mask behind these bytes: most operators have none.
+/// Writes a mask after these bytes: most operators have none.
 #[inline(always)]
 fn append_mask(bytes: &mut Vec<u8>, mask: &[u8]) -> Result<(), AllocError> {
     if mask.is_empty() {
@@ -103,7 +103,7 @@ fn append_mask(bytes: &mut Vec<u8>, mask: &[u8]) -> Result<(), AllocError> {
     bytes.extend_from_slice(mask)
 }
 
-/// Writes an operator and its mask behind these bytes.
+/// Writes an operator and its mask after these bytes.
 #[inline(always)]
 fn append_operator(bytes: &mut Vec<u8>, operator: Operator, mask: &[u8]) -> Result<(), Error> {
     append_code(bytes, operator)?;
@@ -121,7 +121,7 @@ fn start_point(hint: bool, at: Position) -> Position {
     }
 }
 
-/// The position behind an operator.
+/// The position after an operator.
 #[inline(always)]
 fn end_point(hint: bool, old: Position, new: Position) -> Position {
     if hint {
@@ -141,7 +141,7 @@ impl Fitting {
         })
     }
 
-    /// How many numbers are in front of the next operands.
+    /// How many numbers are before the next operands.
     #[inline(always)]
     fn front(&self) -> usize {
         match self.advance {

@@ -77,7 +77,7 @@ fn number_of(along: Along, by: i64, at: Position, to: Position) -> Option<CharSt
     }
 }
 
-/// All moves of an operator: their whole operands are written behind these bytes, and the position after them is the answer.
+/// All moves of an operator: their whole operands are written after these bytes, and the position after them is the answer.
 /// `OverflowError` where one doesn't fit.
 #[inline(always)]
 pub fn place_all(

@@ -5,7 +5,7 @@ use crate::proved::subsetter_base::error::Error;
 use crate::proved::subsetter_base::read::Reader;
 use crate::proved::subsetter_cffdata::indexes::index::{parse_index, Index};
 
-/// The parts that are one behind the other.
+/// The parts that are one after the other.
 #[derive(Clone, Copy, Debug)]
 pub struct Front<'a> {
     /// The whole table.
@@ -26,7 +26,7 @@ fn read_before<'a>(start: &'a [u8], offset: usize) -> &'a [u8] {
     &start[..start.len() - left]
 }
 
-/// Reads the parts from behind the header on; None where one of them can't be read.
+/// Reads the parts from after the header on; None where one of them can't be read.
 pub fn parse_parts<'a>(bytes: &'a [u8], start: &'a [u8]) -> Option<Front<'a>> {
     let mut r = Reader::new(start);
     parse_index::<u16>(&mut r)?;
@@ -44,8 +44,8 @@ pub fn parse_parts<'a>(bytes: &'a [u8], start: &'a [u8]) -> Option<Front<'a>> {
     })
 }
 
-/// What stands behind the header, as far as the third byte says.
-fn behind_header(bytes: &[u8]) -> Option<&[u8]> {
+/// What stands after the header, as far as the third byte says.
+fn past_header(bytes: &[u8]) -> Option<&[u8]> {
     let size = match bytes {
         [_, _, size, ..] => size,
         _ => {
@@ -66,7 +66,7 @@ pub fn parse_front<'a>(bytes: &'a [u8]) -> Result<Front<'a>, Error> {
     if *version != 1 {
         return Err(Error::CFFError);
     }
-    let start = match behind_header(bytes) {
+    let start = match past_header(bytes) {
         Some(start) => start,
         _ => {
             return Err(Error::MalformedFont);

@@ -70,7 +70,7 @@ fn vary_each(
     }
 }
 
-/// The first n of these are defaults, which give way to their results; behind them stand their deltas.
+/// The first n of these are defaults, which give way to their results; after them stand their deltas.
 fn vary_front(
     all: &mut [Option<i64>],
     n: usize,

@@ -72,7 +72,7 @@ impl PrivateStack {
         self.data_index
     }
 
-    /// Puts operands behind the others; None where there are more than 513.
+    /// Puts operands after the others; None where there are more than 513.
     pub fn push(&mut self, operands: &[Number]) -> Option<()> {
         if operands.len() > MAX_OPERANDS - self.len {
             return None;

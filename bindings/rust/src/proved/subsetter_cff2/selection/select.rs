@@ -9,7 +9,7 @@ const FORMAT_0: u8 = 0;
 pub(crate) const FORMAT_3: u8 = 3;
 
 pub(crate) const FORMAT_4: u8 = 4;
-/// fds of format 0, behind the format.
+/// fds of format 0, after the format.
 const FDS: usize = 1;
 /// nRanges of formats 3 and 4, two bytes and four.
 pub(crate) const COUNT: usize = 1;
@@ -17,11 +17,11 @@ pub(crate) const COUNT: usize = 1;
 pub(crate) const RANGES: usize = 3;
 
 pub(crate) const WIDE_RANGES: usize = 5;
-/// How many bytes a range has; the next one's first glyph is behind it.
+/// How many bytes a range has; the next one's first glyph is after it.
 const RANGE_SIZE: usize = 3;
 
 const WIDE_RANGE_SIZE: usize = 6;
-/// fd of a range, behind its first glyph.
+/// fd of a range, after its first glyph.
 const FD: usize = 2;
 
 const WIDE_FD: usize = 4;
@@ -33,7 +33,7 @@ pub struct Range {
     pub first: u32,
     /// Their font dict.
     pub dict: u16,
-    /// The first glyph behind it.
+    /// The first glyph after it.
     pub next: u32,
 }
 

@@ -22,7 +22,7 @@ fn mark_used(alloc: Global, numbers: &[u16], bound: usize) -> Result<Vec<bool>, 
     Ok(used)
 }
 
-/// Puts a place behind others, where it is marked.
+/// Puts a place after others, where it is marked.
 fn put_marked(places: &mut Vec<u16>, is_marked: bool, place: u16) -> Result<(), AllocError> {
     if is_marked {
         places.push(place)?;
@@ -67,7 +67,7 @@ fn index_in(used: &[u16], number: Option<u16>) -> u8 {
     }
 }
 
-/// The same of each glyph.
+/// Where the font dict of each glyph stands, or 0 for a glyph that isn't asked for.
 pub fn indexes_of(alloc: Global, used: &[u16], numbers: &[Option<u16>]) -> Result<Vec<u8>, Error> {
     let mut places = Vec::with_capacity(alloc, numbers.len())?;
     for number in numbers {

@@ -18,7 +18,7 @@ impl<'a> Iterator for IndexIter<'a> {
         if place >= end {
             return None;
         }
-        // Behind an entry that can't be read nothing follows.
+        // After an entry that can't be read nothing follows.
         self.offset = end;
         let entry = self.index.get(place)?;
         self.offset = place + 1;

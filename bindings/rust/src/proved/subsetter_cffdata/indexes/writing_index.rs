@@ -24,7 +24,7 @@ pub fn put_number(size: u8, n: usize, w: &mut Writer) -> Result<(), Error> {
     w.extend(&bytes[8 - size as usize..])
 }
 
-/// Writes what is before the offsets behind the items: how many items there are, how many bytes an offset takes, and the
+/// Writes what is before the offsets after the items: how many items there are, how many bytes an offset takes, and the
 /// first offset, which is 1. The total is the length of the data together with one.
 pub fn put_front(count: u16, total: u32, w: &mut Writer) -> Result<(), Error> {
     let size = size_of_offset(total);
@@ -75,7 +75,7 @@ fn index_room(counts: &Counts) -> usize {
     (3 + width * (usize::from(counts.items) + 1)).saturating_add(counts.total as usize)
 }
 
-/// Writes the offset behind each item.
+/// Writes the offset after each item.
 fn put_offsets<T: AsSlice<u8>>(size: u8, items: &[T], w: &mut Writer) -> Result<(), Error> {
     let mut offset: usize = 1;
     for item in items {

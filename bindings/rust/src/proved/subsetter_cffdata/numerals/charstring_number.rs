@@ -170,7 +170,7 @@ fn fixed_bytes(value: i32) -> NumberBytes {
     }
 }
 
-/// Writes a whole number behind these bytes, in the shortest form.
+/// Writes a whole number after these bytes, in the shortest form.
 #[inline(always)]
 fn append_integer(bytes: &mut Vec<u8>, value: i16) -> Result<(), AllocError> {
     if value >= -107 && value <= 107 {
@@ -192,7 +192,7 @@ fn append_integer(bytes: &mut Vec<u8>, value: i16) -> Result<(), AllocError> {
 }
 
 impl CharStringNumber {
-    /// Writes the number behind these bytes, in the shortest form.
+    /// Writes the number after these bytes, in the shortest form.
     #[inline(always)]
     pub fn append(&self, bytes: &mut Vec<u8>) -> Result<(), AllocError> {
         match *self {

@@ -143,8 +143,6 @@ impl Number {
     }
 
     /// An integer.
-    #[cfg(feature = "variable-fonts")]
-    #[cfg(feature = "variable-fonts")]
     pub fn from_i32(num: i32) -> Self {
         Number::Integer(IntegerNumber(num))
     }
@@ -168,7 +166,7 @@ impl Number {
         }
     }
 
-    /// The same, where it is not below zero.
+    /// The whole number that this is, where it has no fraction, fits, and isn't below zero.
     pub fn as_u32(&self) -> Option<u32> {
         u32::try_from(self.as_i32()?).ok()
     }

@@ -8,7 +8,7 @@ use crate::proved::subsetter_cffdata::reals::text::Text;
 /// What a 65536th is in units of 10 to the power -16: 5 to the power 16.
 const UNITS_OF_65536TH: u128 = 152587890625;
 
-/// The digits of a whole number behind a text, none for 0.
+/// The digits of a whole number after a text, none for 0.
 fn put_digits(text: &mut Text, n: u128) {
     if n > 0 {
         put_digits(text, n / 10);

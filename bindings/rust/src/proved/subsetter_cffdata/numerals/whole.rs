@@ -16,7 +16,7 @@ pub fn number_of_digits(ds: &[u8]) -> Option<u32> {
     Some(n as u32)
 }
 
-/// The number with zeros behind it, up to the limit.
+/// The number with zeros after it, up to the limit.
 pub fn with_zeros(n: u32, count: u32) -> Option<u32> {
     let mut size = u64::from(n);
     for _ in 0..count {
@@ -36,7 +36,7 @@ pub fn with_sign(negative: bool, size: u32) -> Option<i32> {
     i32::try_from(size).ok()
 }
 
-/// The digits with zeros behind them and a sign, where they fit.
+/// The digits with zeros after them and a sign, where they fit.
 pub fn whole_of(negative: bool, ds: &[u8], zeros: u32) -> Option<i32> {
     let size = number_of_digits(ds)?;
     let size = with_zeros(size, zeros)?;

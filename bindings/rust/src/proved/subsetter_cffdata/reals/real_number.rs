@@ -26,7 +26,7 @@ impl RealNumber {
         plain_decimal(false, &[1], power)
     }
 
-    /// Reads the text behind a byte 30.
+    /// Reads the text after a byte 30.
     #[inline(never)]
     pub fn parse_text(r: &mut Reader<'_>) -> Option<RealNumber> {
         let read = text_of(reading::tail(r))?;

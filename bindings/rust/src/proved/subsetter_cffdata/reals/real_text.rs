@@ -59,7 +59,7 @@ fn split_digits(text: &[u8]) -> DigitsRead<'_> {
     }
 }
 
-/// The digits behind a point, and what follows.
+/// The digits after a point, and what follows.
 fn split_fraction(text: &[u8]) -> DigitsRead<'_> {
     match text {
         [POINT, rest @ ..] => split_digits(rest),
@@ -82,8 +82,8 @@ fn number_up_to_999(ds: &[u8]) -> Option<u16> {
     Some(n)
 }
 
-/// The exponent behind its mark and sign.
-fn exponent_behind(negative: bool, text: &[u8]) -> Option<i32> {
+/// The exponent after its mark and sign.
+fn exponent_after(negative: bool, text: &[u8]) -> Option<i32> {
     let read = split_digits(text);
     if read.digits.is_empty() {
         return None;
@@ -99,19 +99,19 @@ fn exponent_behind(negative: bool, text: &[u8]) -> Option<i32> {
     }
 }
 
-/// The exponent behind the digits: 0 where there is none.
+/// The exponent after the digits: 0 where there is none.
 fn exponent_of(text: &[u8]) -> Option<i32> {
     match text {
         [] => Some(0),
         [EXPONENT, rest @ ..] => {
             let read = split_sign(rest);
-            exponent_behind(read.negative, read.rest)
+            exponent_after(read.negative, read.rest)
         }
         _ => None,
     }
 }
 
-/// Digits behind a text.
+/// Digits after a text.
 pub fn put_all(text: &mut Text, ds: &[u8]) {
     for d in ds {
         text.put(*d);
@@ -168,7 +168,7 @@ pub fn decimal_from(negative: bool, ds: &[u8], power: i32) -> RealNumber {
     plain_decimal(negative, kept.digits, power + kept.zeros as i32)
 }
 
-/// The power of ten of the last of so many digits behind the point.
+/// The power of ten of the last of so many digits after the point.
 fn last_power(exponent: i32, count: usize) -> i32 {
     exponent - count as i32
 }

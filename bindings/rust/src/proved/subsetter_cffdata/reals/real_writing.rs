@@ -5,7 +5,7 @@ use crate::proved::subsetter_cffdata::numerals::first_byte;
 use crate::proved::subsetter_cffdata::reals::real_text::put_all;
 use crate::proved::subsetter_cffdata::reals::text::{Text, END, MINUS, POINT, TWO_ENDS};
 
-/// Zeros behind a text.
+/// Zeros after a text.
 fn put_zeros(text: &mut Text, count: usize) {
     for _ in 0..count {
         text.put(0);

@@ -47,7 +47,7 @@ fn no_glyphs(alloc: Global) -> Result<Vec<Option<KeptGlyph>>, AllocError> {
     Ok(places)
 }
 
-/// The same slots, or slots without glyphs if there are none yet.
+/// The slots that are given, or slots without glyphs if there are none yet.
 fn all_slots(
     alloc: Global,
     places: Vec<Option<KeptGlyph>>,
@@ -77,7 +77,7 @@ impl GlyphCache {
         }
     }
 
-    /// The same with a glyph that was unfolded at a depth, if it is a simple one of few points: with so many steps before, and so
+    /// These slots with a glyph that was unfolded at a depth, if it is a simple one of few points: with so many steps before, and so many
     /// many after. It is copied, so that no more room is held than it takes, and its lists are kept.
     pub fn with(
         self,

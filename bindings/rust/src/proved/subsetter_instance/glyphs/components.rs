@@ -164,7 +164,7 @@ fn matrix_end(flags: u16, at: usize) -> usize {
     at + size
 }
 
-/// The component at the front, if it is whole, and the bytes behind it.
+/// The component at the front, if it is whole, and the bytes after it.
 fn component_at(bytes: &[u8]) -> Option<(Component, &[u8])> {
     let flags = Reader::new_at(bytes, 0).read::<u16>()?;
     let glyph = Reader::new_at(bytes, GLYPH_INDEX).read::<u16>()?;
@@ -192,8 +192,8 @@ pub fn read_components(
     components.clear();
     let mut rest = bytes;
     for read in 0..steps {
-        let (component, behind) = match component_at(rest) {
-            Some((component, behind)) => (component, behind),
+        let (component, following) = match component_at(rest) {
+            Some((component, following)) => (component, following),
             _ => {
                 return Err(Error::MalformedFont);
             }
@@ -202,7 +202,7 @@ pub fn read_components(
         if !has(component.flags, MORE_COMPONENTS) {
             return Ok((components, steps - read - 1));
         }
-        rest = behind;
+        rest = following;
     }
     Err(Error::OverflowError)
 }

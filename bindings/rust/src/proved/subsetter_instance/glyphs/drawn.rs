@@ -19,7 +19,7 @@ const UNIT: u64 = 1 << 30;
 const HALF: i64 = 1 << 29;
 /// So many of it that a sum with any coordinate is above 0.
 const ABOVE_UNITS: i64 = 1 << 31;
-/// The same in parts.
+/// What is drawn of a glyph, in parts.
 const ABOVE: i64 = 1 << 61;
 
 /// What is drawn of a glyph: its outline, and its horizontal metric.

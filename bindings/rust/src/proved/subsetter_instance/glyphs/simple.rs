@@ -46,7 +46,7 @@ pub fn coordinate_at(xs: &[i64], number: usize) -> i64 {
     }
 }
 
-/// x of the left phantom point behind n points.
+/// x of the left phantom point after n points.
 pub fn left_point(bytes: &[u8], metric: LongHorMetric, n: usize, xs: &[i64]) -> i64 {
     plus(in_parts(left_side(bytes, metric)), coordinate_at(xs, n))
 }
@@ -56,7 +56,7 @@ fn right_side(bytes: &[u8], metric: LongHorMetric) -> i32 {
     left_side(bytes, metric) + i32::from(metric.advance_width)
 }
 
-/// x of the right phantom point behind n points.
+/// x of the right phantom point after n points.
 pub fn right_point(bytes: &[u8], metric: LongHorMetric, n: usize, xs: &[i64]) -> i64 {
     plus(
         in_parts(right_side(bytes, metric)),
@@ -107,7 +107,7 @@ pub fn moved(
     }
 }
 
-/// The same coordinates, and 0 for each of the four phantom points.
+/// Coordinates, and 0 for each of the four phantom points.
 fn with_phantoms(coordinates: Vec<i16>) -> Result<Vec<i16>, AllocError> {
     let mut all = coordinates;
     all.extend_from_slice(&[0; 4])?;

@@ -104,7 +104,7 @@ impl Spare {
         self.lists.keep(xs, ys);
     }
 
-    /// The same glyph in lists that have room for it alone. Its own are kept.
+    /// A glyph in lists that have room for it alone. Its own are kept.
     pub fn exact(&mut self, alloc: Global, unfolded: Unfolded) -> Result<Unfolded, AllocError> {
         let Unfolded {
             ends,

@@ -103,7 +103,7 @@ pub fn side_bytes(extents: Option<Extents>) -> [u8; 6] {
     }
 }
 
-/// The greatest advance, and what is behind it in `hhea`.
+/// The greatest advance, and what is after it in `hhea`.
 pub fn extreme_bytes(drawn: &[Drawn]) -> [u8; 8] {
     let [a, b] = widest(drawn).to_be_bytes();
     let [c, d, e, f, g, h] = side_bytes(all_extents(drawn));

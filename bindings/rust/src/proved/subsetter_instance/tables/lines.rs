@@ -69,7 +69,7 @@ fn moved_hhea(
     Ok(new)
 }
 
-/// The same bytes.
+/// A copy of bytes.
 fn copied(alloc: Global, bytes: &[u8]) -> Result<Vec<u8>, AllocError> {
     let mut copy = Vec::with_capacity(alloc, bytes.len())?;
     copy.extend_from_slice(bytes)?;
@@ -197,7 +197,7 @@ fn coordinate_on_slant(axes: &[Axis], settings: &[(Tag, i32)]) -> Option<i32> {
     Some(clamped(axis, settings))
 }
 
-/// The same of the axes that `fvar` lists.
+/// The coordinate on `slnt`, where the axes that `fvar` lists have it.
 fn slant_by(
     alloc: Global,
     fvar: Option<&[u8]>,

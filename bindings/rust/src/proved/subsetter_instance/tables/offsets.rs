@@ -62,9 +62,9 @@ pub fn loca(
     let mut loca = Vec::with_capacity(alloc, entries * entry_size(long))?;
     let mut next = 0;
     for k in 0..order.len() {
-        let behind = usize::from(order[k]) + 1;
-        write_run(&mut loca, long, starts[k], behind.saturating_sub(next))?;
-        next = behind;
+        let following = usize::from(order[k]) + 1;
+        write_run(&mut loca, long, starts[k], following.saturating_sub(next))?;
+        next = following;
     }
     write_run(&mut loca, long, end, entries.saturating_sub(next))?;
     Ok(loca)

@@ -6,7 +6,7 @@ use crate::rattle::prelude::Vec;
 use crate::proved::subsetter_base::Error;
 use crate::proved::subsetter_points::lists::deltas::read_coordinate;
 
-/// Room for the coordinates of the phantom points of a glyph, which may be put behind those of its points.
+/// Room for the coordinates of the phantom points of a glyph, which may be put after those of its points.
 const PHANTOM_POINTS: usize = 4;
 
 /// The coordinate of each flag, by the two bits that encode its delta, in the memory of a list that is spare, and the bytes after them.

@@ -14,7 +14,7 @@ pub(crate) const CHECKSUM_ADJUSTMENT: usize = 8;
 const MAGIC_NUMBER: usize = 12;
 /// unitsPerEm, two bytes.
 const UNITS_PER_EM: usize = 18;
-/// xMin, and behind it yMin, xMax and yMax, two bytes each.
+/// xMin, and after it yMin, xMax and yMax, two bytes each.
 pub const X_MIN: usize = 36;
 
 #[cfg(feature = "variable-fonts")]

@@ -8,7 +8,7 @@ use crate::proved::subsetter_base::fields::signed_in;
 use crate::proved::subsetter_base::read::Reader;
 use crate::proved::subsetter_sfnt::laying::room::put;
 
-/// ascender, and behind it descender and lineGap, two bytes each.
+/// ascender, and after it descender and lineGap, two bytes each.
 #[cfg(feature = "variable-fonts")]
 #[cfg(feature = "variable-fonts")]
 pub const ASCENDER: usize = 4;
@@ -16,9 +16,9 @@ pub const ASCENDER: usize = 4;
 #[cfg(feature = "variable-fonts")]
 #[cfg(feature = "variable-fonts")]
 const DESCENDER: usize = 6;
-/// advanceWidthMax, and behind it minLeftSideBearing, minRightSideBearing and xMaxExtent, two bytes each.
+/// advanceWidthMax, and after it minLeftSideBearing, minRightSideBearing and xMaxExtent, two bytes each.
 pub const ADVANCE_WIDTH_MAX: usize = 10;
-/// caretSlopeRise, and behind it caretSlopeRun and caretOffset, two bytes each.
+/// caretSlopeRise, and after it caretSlopeRun and caretOffset, two bytes each.
 pub const CARET_SLOPE_RISE: usize = 18;
 /// Four reserved fields, two bytes each.
 #[cfg(feature = "variable-fonts")]

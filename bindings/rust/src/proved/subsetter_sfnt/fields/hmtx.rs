@@ -46,11 +46,11 @@ pub fn glyph_metric(hmtx: &[u8], count: u16, glyph: u16) -> Option<LongHorMetric
     } else if pairs == 0 {
         None
     } else {
-        let behind = LONG_HOR_METRIC_SIZE * pairs;
+        let following = LONG_HOR_METRIC_SIZE * pairs;
         metric_at(
             hmtx,
             LONG_HOR_METRIC_SIZE * (pairs - 1),
-            behind + LSB_SIZE * (glyph - pairs),
+            following + LSB_SIZE * (glyph - pairs),
         )
     }
 }

@@ -5,7 +5,7 @@ use crate::proved::subsetter_base::read::Reader;
 
 /// numGlyphs, two bytes.
 const NUM_GLYPHS: usize = 4;
-/// Where it ends. The fields behind it are of version 1.0 alone.
+/// Where it ends. The fields after it are of version 1.0 alone.
 pub const NUM_GLYPHS_END: usize = 6;
 
 /// numGlyphs.

@@ -5,7 +5,7 @@ use crate::proved::subsetter_base::read::{u16_at, Readable, Reader};
 use crate::proved::subsetter_base::write::{Writeable, Writer};
 use crate::proved::subsetter_base::Error;
 
-/// count, two bytes, and behind it storageOffset.
+/// count, two bytes, and after it storageOffset.
 pub const COUNT: usize = 2;
 /// storageOffset, two bytes.
 pub const STORAGE_OFFSET: usize = 4;

@@ -25,7 +25,7 @@ pub const UNDERLINE_POSITION: usize = 8;
 #[cfg(feature = "variable-fonts")]
 #[cfg(feature = "variable-fonts")]
 pub const UNDERLINE_THICKNESS: usize = 10;
-/// numGlyphs of version 2.0, two bytes, behind the header that each version has.
+/// numGlyphs of version 2.0, two bytes, after the header that each version has.
 const NUM_GLYPHS: usize = 32;
 /// Where the indexes of version 2.0 begin, two bytes each.
 pub const INDEXES: usize = 34;

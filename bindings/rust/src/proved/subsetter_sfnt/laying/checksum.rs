@@ -38,7 +38,7 @@ pub fn checksum(bytes: &[u8]) -> u32 {
     add_words(0, bytes)
 }
 
-/// How many bytes are summed at a time while others are written behind them.
+/// How many bytes are summed at a time while others are written after them.
 const PIECE: usize = 0x4000;
 
 /// The sum of the first bytes of a table that is being written, so that its bytes are summed while they are at hand.
@@ -55,7 +55,7 @@ impl Sum {
         Self { value: 0, done: 0 }
     }
 
-    /// Adds a piece of the table, if so many bytes of it are behind those that were summed.
+    /// Adds a piece of the table, if so many bytes of it are after those that were summed.
     pub fn go_on(self, table: &[u8]) -> Self {
         if table.len() - self.done < PIECE {
             return self;

@@ -34,7 +34,7 @@ fn follow<'a, const N: usize>(
     }
 }
 
-/// The flat form of a charstring behind these bytes, with room for so many rests. `OverflowError` where all of these pass
+/// The flat form of a charstring after these bytes, with room for so many rests. `OverflowError` where all of these pass
 /// the bound.
 fn flatten_within<'a, const N: usize>(
     bytes: Vec<u8>,
@@ -43,7 +43,7 @@ fn flatten_within<'a, const N: usize>(
     charstring: &'a [u8],
     rests: &mut FixedStack<&'a [u8], N>,
 ) -> Result<Vec<u8>, Error> {
-    let mut machine = Machine::new(Output::behind(bytes));
+    let mut machine = Machine::new(Output::following(bytes));
     rests.clear();
     let mut running = charstring;
     let mut tokens = limits.tokens;
@@ -68,9 +68,9 @@ fn flatten_within<'a, const N: usize>(
     Ok(machine.output.finish())
 }
 
-/// The flat form of a charstring behind these bytes. `OverflowError` where all of these pass the bound. What is left of callers
+/// The flat form of a charstring after these bytes. `OverflowError` where all of these pass the bound. What is left of callers
 /// goes into a stack, whatever it held, where it has room for them.
-pub fn flatten_behind<'a>(
+pub fn flatten_after<'a>(
     bytes: Vec<u8>,
     subroutines: &Subroutines<'a>,
     limits: &Limits,

@@ -5,7 +5,7 @@ use crate::proved::subsetter_cffdata::numerals::charstring_number::{
     read_number, CharStringNumber,
 };
 
-/// What is behind so many numbers.
+/// What is after so many numbers.
 #[inline(always)]
 fn skip_numbers(bytes: &[u8], count: usize) -> Option<&[u8]> {
     let mut rest = bytes;

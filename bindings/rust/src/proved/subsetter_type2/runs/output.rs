@@ -61,8 +61,8 @@ impl<'a> Sink<'a> for Output {
 }
 
 impl Output {
-    /// Nothing is written yet behind these bytes.
-    pub fn behind(bytes: Vec<u8>) -> Self {
+    /// Nothing is written yet after these bytes.
+    pub fn following(bytes: Vec<u8>) -> Self {
         let settled = bytes.len();
         Output {
             bytes,
@@ -117,7 +117,7 @@ impl Output {
     }
 }
 
-/// Writes the bytes of an operator behind these.
+/// Writes the bytes of an operator after these.
 #[inline(always)]
 pub fn append_operator(bytes: &mut Vec<u8>, operator: Operator) -> Result<(), Error> {
     match &operator.0 {

@@ -10,7 +10,7 @@ pub struct Stretch {
     pub tokens: usize,
     /// Where the last of its operators ends; 0 where it has none.
     pub settled: usize,
-    /// How many operands are on the stack behind it.
+    /// How many operands are on the stack after it.
     pub count: usize,
     /// Where the last of its tokens begins, if that is a number.
     pub last: usize,
@@ -27,7 +27,7 @@ fn choose(first: bool, one: usize, other: usize) -> usize {
 }
 
 impl Stretch {
-    /// Where the operands begin behind this stretch, which is behind so many bytes.
+    /// Where the operands begin after this stretch, which is after so many bytes.
     #[inline(always)]
     pub fn settled_after(&self, settled: usize, before: usize) -> usize {
         if self.settled == 0 {

@@ -46,8 +46,8 @@ fn inner_region_axis(peaks: &[u8], starts: &[u8], ends: &[u8]) -> RegionAxis {
     }
 }
 
-/// The bytes behind the first two.
-fn behind_two(bytes: &[u8]) -> &[u8] {
+/// The bytes after the first two.
+fn after_two(bytes: &[u8]) -> &[u8] {
     &bytes[2..]
 }
 
@@ -68,7 +68,7 @@ pub(crate) fn tuple_region<'a>(
     }
 }
 
-/// The scalar at a location of a region without ends of its own. The axes behind one that makes it 0 aren't read.
+/// The scalar at a location of a region without ends of its own. The axes after one that makes it 0 aren't read.
 fn peak_scalar(peaks: &[u8], at: &[i32]) -> i64 {
     let mut whole = ONE;
     let mut rest = peaks;
@@ -77,12 +77,12 @@ fn peak_scalar(peaks: &[u8], at: &[i32]) -> i64 {
         if whole == 0 {
             return 0;
         }
-        rest = behind_two(rest);
+        rest = after_two(rest);
     }
     whole
 }
 
-/// The same of a region with ends of its own.
+/// The scalar at a location of a region with ends of its own.
 fn intermediate_scalar(peaks: &[u8], starts: &[u8], ends: &[u8], at: &[i32]) -> i64 {
     let mut whole = ONE;
     let mut p = peaks;
@@ -93,9 +93,9 @@ fn intermediate_scalar(peaks: &[u8], starts: &[u8], ends: &[u8], at: &[i32]) -> 
         if whole == 0 {
             return 0;
         }
-        p = behind_two(p);
-        s = behind_two(s);
-        e = behind_two(e);
+        p = after_two(p);
+        s = after_two(s);
+        e = after_two(e);
     }
     whole
 }

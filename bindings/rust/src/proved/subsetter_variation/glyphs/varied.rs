@@ -57,7 +57,7 @@ fn own_delta(deltas: &[i16], k: usize) -> Option<i16> {
     deltas.get(k).copied()
 }
 
-/// Of each of so many points its own delta, if there are as many.
+/// The delta of each of so many points, if there are as many.
 fn all_by_point(alloc: Global, n: usize, deltas: &[i16]) -> Result<Vec<Option<i16>>, AllocError> {
     let mut list = Vec::with_capacity(alloc, n)?;
     for k in 0..n {
@@ -150,7 +150,7 @@ pub fn added(
     Ok(sums)
 }
 
-/// The sums of the points, and what a tuple that gives each a delta moves it by on top, along one axis, and the bytes behind these
+/// The sums of the points, and what a tuple that gives each a delta moves it by on top, along one axis, and the bytes after these
 /// deltas, unless they are cut.
 pub fn added_to_each<'a>(
     _coordinates: &[i16],

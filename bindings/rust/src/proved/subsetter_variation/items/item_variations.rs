@@ -114,7 +114,7 @@ fn coordinate_in(at: &[i32]) -> Option<(i32, &[i32])> {
     }
 }
 
-/// The scalar of a region at a location, in parts of 2^30. The axes behind one that makes it 0 aren't read.
+/// The scalar of a region at a location, in parts of 2^30. The axes after one that makes it 0 aren't read.
 pub fn region_scalar(region: LazyArray16<'_, RegionAxis>, at: &[i32]) -> i64 {
     let mut whole = ONE;
     let mut rest = at;
@@ -201,7 +201,7 @@ fn word_delta(r: &Row<'_>, k: u16) -> Option<i32> {
     }
 }
 
-/// A delta behind the words.
+/// A delta after the words.
 fn byte_delta(r: &Row<'_>, k: u16) -> Option<i32> {
     let place = r.words as usize + k as usize;
     if r.long {
@@ -273,7 +273,7 @@ pub(crate) fn item_delta_by(
     terms(s, at, known, &item_row(s, outer, inner)?)
 }
 
-/// The same where no scalar is known yet.
+/// What an item varies by at a location, in parts of 2^30, where no scalar is known yet.
 pub fn item_delta(s: &Store<'_>, at: &[i32], outer: u32, inner: u32) -> Option<i128> {
     let mut known = none_known();
     item_delta_by(s, at, &mut known, outer, inner)

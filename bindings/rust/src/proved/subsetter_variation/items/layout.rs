@@ -10,14 +10,14 @@ pub(crate) const ITEM_VARIATION_DATA_OFFSETS: usize = 8;
 /// How many bytes an offset has.
 pub(crate) const OFFSET32_SIZE: usize = 4;
 
-/// regionCount of a variation region list, two bytes, behind axisCount.
+/// regionCount of a variation region list, two bytes, after axisCount.
 pub(crate) const REGION_COUNT: usize = 2;
 /// variationRegions.
 pub(crate) const VARIATION_REGIONS: usize = 4;
 /// How many bytes the coordinates of a region have on an axis.
 pub(crate) const REGION_AXIS_COORDINATES_SIZE: usize = 6;
 
-/// wordDeltaCount of item variation data, two bytes, behind itemCount.
+/// wordDeltaCount of item variation data, two bytes, after itemCount.
 pub(crate) const WORD_DELTA_COUNT: usize = 2;
 /// regionIndexCount, two bytes.
 pub(crate) const REGION_INDEX_COUNT: usize = 4;

@@ -68,7 +68,7 @@ pub struct Passed {
     last: AxisValueMap,
 }
 
-/// Whether an end counts behind others: its number is above the greatest so far, and its new number isn't less than that of the last end
+/// Whether an end counts after others: its number is above the greatest so far, and its new number isn't less than that of the last end
 /// that counts.
 fn counts(passed: Passed, q: AxisValueMap) -> bool {
     passed.top < q.from && passed.last.to <= q.to

@@ -35,7 +35,7 @@ struct Run<'a> {
     bytes: &'a [u8],
 }
 
-/// The number of the first byte, and the bytes behind it.
+/// The number of the first byte, and the bytes after it.
 pub(crate) fn byte_in(bytes: &[u8]) -> Option<(u8, &[u8])> {
     match bytes {
         [b, rest @ ..] => Some((*b, rest)),
@@ -43,7 +43,7 @@ pub(crate) fn byte_in(bytes: &[u8]) -> Option<(u8, &[u8])> {
     }
 }
 
-/// The number of the first two bytes, and the bytes behind them.
+/// The number of the first two bytes, and the bytes after them.
 pub(crate) fn word_in(bytes: &[u8]) -> Option<(u16, &[u8])> {
     match bytes {
         [high, low, rest @ ..] => Some((u16::from(*high) * 256 + u16::from(*low), rest)),
@@ -79,8 +79,8 @@ fn begun<'a>(limit: u8, r: Run<'a>) -> Option<Run<'a>> {
     }
 }
 
-/// The run behind one of its numbers.
-fn behind<'a>(r: Run<'a>, bytes: &'a [u8]) -> Run<'a> {
+/// The run after one of its numbers.
+fn following<'a>(r: Run<'a>, bytes: &'a [u8]) -> Run<'a> {
     Run {
         left: r.left.saturating_sub(1),
         control: r.control,
@@ -92,13 +92,13 @@ fn behind<'a>(r: Run<'a>, bytes: &'a [u8]) -> Run<'a> {
 fn delta_in<'a>(r: Run<'a>) -> Option<(i16, Run<'a>)> {
     if r.control >= DELTAS_ARE_ZERO {
         let rest = r.bytes;
-        Some((0, behind(r, rest)))
+        Some((0, following(r, rest)))
     } else if r.control >= DELTAS_ARE_WORDS {
         let (word, rest) = word_in(r.bytes)?;
-        Some((word.to_signed(), behind(r, rest)))
+        Some((word.to_signed(), following(r, rest)))
     } else {
         let (byte, rest) = byte_in(r.bytes)?;
-        Some((i16::from(byte.to_signed()), behind(r, rest)))
+        Some((i16::from(byte.to_signed()), following(r, rest)))
     }
 }
 
@@ -111,10 +111,10 @@ fn next_delta<'a>(r: Run<'a>) -> Option<(i16, Run<'a>)> {
 fn step_in<'a>(r: Run<'a>) -> Option<(u16, Run<'a>)> {
     if r.control >= POINTS_ARE_WORDS {
         let (word, rest) = word_in(r.bytes)?;
-        Some((word, behind(r, rest)))
+        Some((word, following(r, rest)))
     } else {
         let (byte, rest) = byte_in(r.bytes)?;
-        Some((u16::from(byte), behind(r, rest)))
+        Some((u16::from(byte), following(r, rest)))
     }
 }
 
@@ -144,7 +144,7 @@ fn count_in(bytes: &[u8]) -> Option<(u16, &[u8])> {
     ))
 }
 
-/// The bytes behind the last run.
+/// The bytes after the last run.
 fn ended<'a>(r: Run<'a>) -> Option<&'a [u8]> {
     if r.left == 0 {
         Some(r.bytes)
@@ -153,7 +153,7 @@ fn ended<'a>(r: Run<'a>) -> Option<&'a [u8]> {
     }
 }
 
-/// That many deltas, in the memory of a list that is spare, and the bytes behind them. A cut list, or a run that is longer than it, is
+/// That many deltas, in the memory of a list that is spare, and the bytes after them. A cut list, or a run that is longer than it, is
 /// `MalformedFont`.
 pub fn deltas(spare: Vec<i16>, n: usize, bytes: &[u8]) -> Result<(Vec<i16>, &[u8]), Error> {
     let mut list = spare;
@@ -169,7 +169,7 @@ pub fn deltas(spare: Vec<i16>, n: usize, bytes: &[u8]) -> Result<(Vec<i16>, &[u8
     Ok((list, rest))
 }
 
-/// So many numbers, which ascend and are below the limit, in the memory of a list that is spare, and the bytes behind them.
+/// So many numbers, which ascend and are below the limit, in the memory of a list that is spare, and the bytes after them.
 fn points_from(
     spare: Vec<u32>,
     limit: u32,
@@ -193,7 +193,7 @@ fn points_from(
     Ok((list, rest))
 }
 
-/// The points that deltas are given for, none for all, in the memory of a list that is spare, and the bytes behind them. A cut list, a
+/// The points that deltas are given for, none for all, in the memory of a list that is spare, and the bytes after them. A cut list, a
 /// run that is longer than it, or a number that is given twice or isn't below the limit is `MalformedFont`.
 pub fn point_numbers<'a>(
     alloc: Global,

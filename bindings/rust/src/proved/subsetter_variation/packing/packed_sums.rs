@@ -33,7 +33,7 @@ fn add_words(sums: &mut [i64], bytes: &[u8], scalar: i64) {
     }
 }
 
-/// Adds to each sum the delta that a run, behind its first byte, has for it, times the scalar. The bytes behind the run,
+/// Adds to each sum the delta that a run, after its first byte, has for it, times the scalar. The bytes after the run,
 /// unless it is cut.
 fn add_run<'a>(sums: &mut [i64], control: u8, bytes: &'a [u8], scalar: i64) -> Option<&'a [u8]> {
     let count = sums.len();
@@ -54,17 +54,17 @@ fn add_run<'a>(sums: &mut [i64], control: u8, bytes: &'a [u8], scalar: i64) -> O
     Some(&bytes[count..])
 }
 
-/// Adds to each sum its delta times the scalar. The bytes behind the deltas, unless they are cut or a run is longer than they.
+/// Adds to each sum its delta times the scalar. The bytes after the deltas, unless they are cut or a run is longer than they.
 pub fn add_deltas<'a>(sums: &mut [i64], bytes: &'a [u8], scalar: i64) -> Option<&'a [u8]> {
     let mut at = 0;
     let mut rest = bytes;
     while at < sums.len() {
-        let (control, behind) = byte_in(rest)?;
+        let (control, following) = byte_in(rest)?;
         let past = at + usize::from(control % DELTA_RUN_COUNTS) + 1;
         if past > sums.len() {
             return None;
         }
-        rest = add_run(&mut sums[at..past], control, behind, scalar)?;
+        rest = add_run(&mut sums[at..past], control, following, scalar)?;
         at = past;
     }
     Some(rest)

@@ -61,7 +61,7 @@ fn words_of_bits(alloc: Global, bits: u16) -> Result<Vec<&'static str>, AllocErr
     with_word(words, has_bit(bits, 512), "bitmap embedding only")
 }
 
-/// The same of a face that may not have them.
+/// What the bits of fsType permit, in words; none where a face has no bits.
 pub fn permission_words(alloc: Global, bits: Option<u16>) -> Result<Vec<&'static str>, AllocError> {
     match bits {
         Some(bits) => words_of_bits(alloc, bits),

@@ -12,7 +12,7 @@ use crate::proved::subsetter_base::read::between_offsets;
 use crate::proved::subsetter_base::Error;
 use crate::rattle::alloc::Global;
 
-/// The place behind the name at a place, if one is there.
+/// The place after the name at a place, if one is there.
 fn name_end(bytes: &[u8], at: usize) -> Option<usize> {
     if at >= bytes.len() {
         return None;
@@ -25,19 +25,19 @@ fn name_end(bytes: &[u8], at: usize) -> Option<usize> {
     Some(end)
 }
 
-/// The place behind the name at a place; the end of the bytes where no name is there.
-fn behind_name(bytes: &[u8], at: usize) -> usize {
+/// The place after the name at a place; the end of the bytes where no name is there.
+fn past_name(bytes: &[u8], at: usize) -> usize {
     match name_end(bytes, at) {
         Some(end) => end,
         None => bytes.len(),
     }
 }
 
-/// The place behind so many names from a place on.
+/// The place after so many names from a place on.
 fn pass(bytes: &[u8], start: usize, count: usize) -> usize {
     let mut at = start;
     for _ in 0..count {
-        at = behind_name(bytes, at);
+        at = past_name(bytes, at);
     }
     at
 }
@@ -63,7 +63,7 @@ fn alike_len(bytes: &[u8], count: usize, len: u8) -> Option<usize> {
     }
 }
 
-/// The length byte at a place, 0 behind the last one.
+/// The length byte at a place, 0 after the last one.
 fn length_byte(bytes: &[u8], at: usize) -> u8 {
     match byte_in(Some(bytes), at) {
         Some(len) => len,
@@ -71,7 +71,7 @@ fn length_byte(bytes: &[u8], at: usize) -> u8 {
     }
 }
 
-/// The place behind so many names from a place on, found soon where eight names are alike.
+/// The place after so many names from a place on, found soon where eight names are alike.
 fn skip(bytes: &[u8], at: usize, count: usize) -> usize {
     if count == 0 {
         return at;
@@ -85,7 +85,7 @@ fn skip(bytes: &[u8], at: usize, count: usize) -> usize {
     }
 }
 
-/// The place behind eight names from a place on, and a guess of the length of those that follow.
+/// The place after eight names from a place on, and a guess of the length of those that follow.
 ///
 /// Names in a row often have one length. It is taken from the names before and not read here, so that the place of the
 /// next names waits for no byte.
@@ -99,10 +99,10 @@ fn skip_eight(bytes: &[u8], at: usize, len: u8) -> (usize, u8) {
     }
 }
 
-/// The place behind one name from a place on, or behind eight, and a guess of the length of those that follow.
+/// The place after one name from a place on, or after eight, and a guess of the length of those that follow.
 fn skip_step(bytes: &[u8], at: usize, len: u8, is_dense: bool) -> (usize, u8) {
     if is_dense {
-        (behind_name(bytes, at), len)
+        (past_name(bytes, at), len)
     } else {
         skip_eight(bytes, at, len)
     }
@@ -117,7 +117,7 @@ fn mark_of(is_dense: bool, number: usize) -> (usize, usize) {
     }
 }
 
-/// The first name of some bytes, behind its length byte; an empty one where no name is there.
+/// The first name of some bytes, after its length byte; an empty one where no name is there.
 fn first_entry(bytes: &[u8]) -> &[u8] {
     let (len, rest) = match bytes {
         [len, rest @ ..] => (len, rest),
@@ -143,7 +143,7 @@ fn mark_in(marks: &[u32], place: usize) -> Option<usize> {
     Some(*mark as usize)
 }
 
-/// So many names from a number on, each behind its length byte, where every offset is kept and all are there.
+/// So many names from a number on, each after its length byte, where every offset is kept and all are there.
 fn run_in<'a>(
     all: &'a [u8],
     marks: &[u32],
@@ -170,7 +170,7 @@ struct Mark<'a> {
     count: usize,
 }
 
-/// Names by their numbers. They stand one behind another, so the places of some are kept.
+/// Names by their numbers. They stand one after another, so the places of some are kept.
 pub(crate) struct NameList<'a> {
     all: &'a [u8],
     /// Where every name begins, or else every eighth, up to some number.
@@ -222,14 +222,14 @@ impl<'a> NameList<'a> {
         }
     }
 
-    /// The name with a number behind its length byte, an empty one where none is there.
+    /// The name with a number after its length byte, an empty one where none is there.
     pub(crate) fn entry(&self, number: usize) -> &'a [u8] {
         let Mark { bytes, count } = self.from_mark(number);
         let at = skip(bytes, 0, count);
         first_entry(&bytes[at..])
     }
 
-    /// So many names from a number on, each behind its length byte, where every offset is kept and all are there.
+    /// So many names from a number on, each after its length byte, where every offset is kept and all are there.
     pub(crate) fn entries(&self, from: usize, count: usize) -> Option<&'a [u8]> {
         run_in(self.all, &self.marks, self.is_dense, from, count)
     }
@@ -247,7 +247,7 @@ impl<'a> NameList<'a> {
         if !self.is_dense {
             return self.entry(number).len();
         }
-        let behind = self.mark(number.saturating_add(1));
-        behind.saturating_sub(self.mark(number))
+        let following = self.mark(number.saturating_add(1));
+        following.saturating_sub(self.mark(number))
     }
 }

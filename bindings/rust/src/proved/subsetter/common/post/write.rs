@@ -97,7 +97,7 @@ fn write_run(w: &mut Writer, names: &NameList<'_>, run: Run) -> Result<(), Error
     }
 }
 
-/// Puts the name with an index behind a run, if it is one of the font's own. Where it doesn't follow the run, this is written.
+/// Puts the name with an index after a run, if it is one of the font's own. Where it doesn't follow the run, this is written.
 fn go_on(w: &mut Writer, names: &NameList<'_>, run: Run, index: u16) -> Result<Run, Error> {
     if index < STANDARD_NAMES {
         return Ok(run);

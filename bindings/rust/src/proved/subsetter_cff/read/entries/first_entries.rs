@@ -28,7 +28,7 @@ pub struct EntryHere {
     pub operator: Operator,
     /// It has no operands.
     pub bare: bool,
-    /// How many bytes of the table are left behind it.
+    /// How many bytes of the table are left after it.
     pub left: u32,
 }
 
@@ -37,7 +37,7 @@ pub struct EntryHere {
 pub struct Found {
     /// What it says.
     pub value: Option<u32>,
-    /// How many bytes of the table are left behind it.
+    /// How many bytes of the table are left after it.
     pub left: u32,
 }
 
@@ -56,7 +56,7 @@ const NOTHING: Cell = Cell {
     found: None,
 };
 
-/// The cell of an entry, by those of the bytes behind it.
+/// The cell of an entry, by those of the bytes after it.
 fn entry_cell<S: Search>(
     search: &S,
     entry: EntryHere,
@@ -76,7 +76,7 @@ fn entry_cell<S: Search>(
     }
 }
 
-/// The cell of the place where so many bytes are left, by those behind it. An operand is put into a variable of its own.
+/// The cell of the place where so many bytes are left, by those after it. An operand is put into a variable of its own.
 fn next_cell<S: Search>(
     search: &S,
     bytes: &[u8],
@@ -99,18 +99,22 @@ fn next_cell<S: Search>(
         };
         return entry_cell(search, entry, None, cells);
     }
-    let behind = match cells[left].here {
-        Some(behind) => behind,
+    let following = match cells[left].here {
+        Some(following) => following,
         _ => {
             return NOTHING;
         }
     };
     let entry = EntryHere {
-        operator: behind.operator,
+        operator: following.operator,
         bare: false,
-        left: behind.left,
+        left: following.left,
     };
-    let only = if behind.bare { Some(&*operand) } else { None };
+    let only = if following.bare {
+        Some(&*operand)
+    } else {
+        None
+    };
     entry_cell(search, entry, only, cells)
 }
 

@@ -8,26 +8,26 @@ const BLOCK: usize = 256;
 /// How many blocks there can be.
 const BLOCKS: usize = 256;
 
-/// Of each block of ranges, a glyph that none begins before, and one that none ends behind.
+/// A glyph for each block of ranges that none begins before, and one that none ends after.
 #[derive(Clone, Copy, Debug)]
 pub struct Blocks {
     least: [u16; BLOCKS],
     greatest: [u16; BLOCKS],
 }
 
-/// Ranges of glyphs with one font dict each. Where none begins before the one in front of it, a glyph is looked up by halves; else
-/// blocks of ranges that all lie before the glyph or behind it are passed.
+/// Ranges of glyphs with one font dict each. Where none begins before the one before it, a glyph is looked up by halves; else
+/// blocks of ranges that all lie before the glyph or after it are passed.
 pub struct Ranges<'a> {
     data: &'a [u8],
     count: usize,
     blocks: Option<Blocks>,
 }
 
-/// Where the ranges begin, behind their number.
+/// Where the ranges begin, after their number.
 const RANGES: usize = 2;
 /// How many bytes a range has.
 const RANGE3_SIZE: usize = 3;
-/// Where the font dict of the first range is, one byte, behind its first glyph.
+/// Where the font dict of the first range is, one byte, after its first glyph.
 const FDS: usize = 4;
 
 /// How many ranges are there, each with the first glyph of the next.
@@ -147,7 +147,7 @@ fn known_of(bytes: &[u8], count: usize) -> Option<Blocks> {
 }
 
 impl<'a> Ranges<'a> {
-    /// The ranges that the bytes behind the format byte hold.
+    /// The ranges that the bytes after the format byte hold.
     pub fn new(bytes: &'a [u8]) -> Self {
         let count = count_ranges(bytes);
         Ranges {

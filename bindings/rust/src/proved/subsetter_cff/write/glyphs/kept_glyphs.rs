@@ -13,11 +13,11 @@ use crate::proved::subsetter_type2::runs::fixed_stack::FixedStack;
 use crate::proved::subsetter_type2::subroutines::SubroutineHandler;
 use crate::rattle::alloc::Global;
 
-/// A glyph that is kept, behind others.
+/// A glyph that is kept, after others.
 pub struct Kept {
     /// The number of its font dict in the source.
     pub number: u8,
-    /// Its flattened charstring, behind those of the others.
+    /// Its flattened charstring, after those of the others.
     pub bytes: Vec<u8>,
 }
 
@@ -25,7 +25,7 @@ pub struct Kept {
 pub struct KeptGlyphs {
     /// The numbers of their font dicts in the source.
     pub numbers: Vec<u8>,
-    /// Their flattened charstrings, one behind the other.
+    /// Their flattened charstrings, one after the other.
     pub char_strings: Vec<u8>,
     /// Where each charstring ends, as an INDEX counts: from 1 on.
     pub ends: Vec<usize>,
@@ -55,7 +55,7 @@ fn find_char_string<'a>(source: &Table<'a>, glyph: u16) -> Option<&'a [u8]> {
     source.char_strings.get(u32::from(glyph))
 }
 
-/// Flattens a glyph behind others. `OverflowError` where all of these pass the bound on bytes.
+/// Flattens a glyph after others. `OverflowError` where all of these pass the bound on bytes.
 fn keep_glyph<'a>(
     source: &Table<'a>,
     limits: Limits,
@@ -68,7 +68,7 @@ fn keep_glyph<'a>(
     let char_string = find_char_string(source, glyph).ok_or(Error::MalformedFont)?;
     let global = SubroutineHandler::new(source.front.subroutines);
     let local = SubroutineHandler::new(private.subroutines);
-    let bytes = Decompiler::with_limits(global, local, limits).flatten_behind(
+    let bytes = Decompiler::with_limits(global, local, limits).flatten_after(
         char_strings,
         char_string,
         rests,

@@ -6,7 +6,7 @@ use crate::proved::subsetter_base::write::Writer;
 use crate::proved::subsetter_cff::write::glyphs::flat_index::{single_size, write_single_header};
 use crate::proved::subsetter_cff::write::laying::slice_index::write_index;
 use crate::proved::subsetter_cff::write::laying::table::{name_number, TableParts};
-use crate::proved::subsetter_cff::write::new_dicts::dicts::offset_behind;
+use crate::proved::subsetter_cff::write::new_dicts::dicts::offset_after;
 use crate::proved::subsetter_cff::write::new_dicts::top_dict::{
     write_named, write_offsets, Offsets, TopDict, OFFSETS_SIZE,
 };
@@ -18,7 +18,7 @@ const DRAFT_ROOM: usize = 384;
 
 /// A front before its offsets are known: as their offsets have five bytes each, its size is.
 pub struct FrontDraft {
-    /// The entries of the top dict without offsets, and behind them the String INDEX and the Global Subr INDEX.
+    /// The entries of the top dict without offsets, and after them the String INDEX and the Global Subr INDEX.
     pub text: Writer,
     /// How many bytes these entries have.
     pub named: usize,
@@ -67,7 +67,7 @@ fn put_tail(remapper: &SidRemapper<'_>, text: &mut Writer) -> Result<(), Error> 
 
 /// The size of a front. One that passes 2147483647 is `OverflowError`.
 fn sum_front(names: usize, top: usize, tail: usize) -> Result<usize, Error> {
-    offset_behind(4, names.saturating_add(top.saturating_add(tail)))
+    offset_after(4, names.saturating_add(top.saturating_add(tail)))
 }
 
 /// The front but for its offsets. A real that is too long, an INDEX that is too large, and a front that passes 2147483647
@@ -79,7 +79,7 @@ pub fn draft_front(
 ) -> Result<FrontDraft, Error> {
     let mut text = draft_top(alloc, table, remapper)?;
     let named = text.len();
-    let top = offset_behind(named, OFFSETS_SIZE)?;
+    let top = offset_after(named, OFFSETS_SIZE)?;
     put_tail(remapper, &mut text)?;
     let tail = text.len() - named;
     let size = sum_front(table.names.len(), single_size(top as u32), tail)?;

@@ -39,7 +39,7 @@ pub struct TableParts<'a> {
     pub font_dicts: Vec<FontDictParts<'a>>,
     /// The number of each glyph's font dict; None where all have the first.
     pub numbers: Option<Vec<u8>>,
-    /// The charstrings, one behind the other.
+    /// The charstrings, one after the other.
     pub char_strings: Vec<u8>,
     /// Where each charstring ends, as an INDEX counts.
     pub ends: Vec<usize>,

@@ -10,7 +10,7 @@ use crate::proved::subsetter_cff::write::glyphs::flat_index::{header_room, write
 use crate::proved::subsetter_cff::write::laying::front::{draft_front, write_front, FrontDraft};
 use crate::proved::subsetter_cff::write::laying::table::{number_strings, TableParts};
 use crate::proved::subsetter_cff::write::new_dicts::dicts::{
-    offset_behind, put_index, select_size, size_index, write_dicts, write_select,
+    offset_after, put_index, select_size, size_index, write_dicts, write_select,
 };
 use crate::proved::subsetter_cff::write::new_dicts::top_dict::Offsets;
 use crate::proved::subsetter_cff::write::strings::sid_remapper::SidRemapper;
@@ -30,15 +30,15 @@ pub struct Pieces {
     pub font_dicts_size: usize,
 }
 
-/// A new table, in two pieces: the second one is large, and needn't be copied behind the first.
+/// A new table, in two pieces: the second one is large, and needn't be copied after the first.
 pub struct CffPieces {
     /// What is before the charstrings' data.
     pub front: Vec<u8>,
-    /// The charstrings, one behind the other.
+    /// The charstrings, one after the other.
     pub char_strings: Vec<u8>,
 }
 
-/// The pieces behind a front of a size.
+/// The pieces after a front of a size.
 fn write_pieces(
     alloc: Global,
     table: &TableParts<'_>,
@@ -48,7 +48,7 @@ fn write_pieces(
 ) -> Result<Pieces, Error> {
     let charset = charset_size(glyphs);
     let select = select_size(table, glyphs);
-    let place = offset_behind(size, charset)?;
+    let place = offset_after(size, charset)?;
     let made = write_dicts(alloc, place, remapper, &table.font_dicts)?;
     let font_dicts_size = size_index(&made.dicts)?;
     Ok(Pieces {
@@ -60,12 +60,12 @@ fn write_pieces(
     })
 }
 
-/// Where the pieces stand behind a front of a size.
+/// Where the pieces stand after a front of a size.
 fn find_offsets(size: usize, pieces: &Pieces) -> Result<Offsets, Error> {
-    let privates = offset_behind(size, pieces.charset)?;
-    let select = offset_behind(privates, pieces.privates.len())?;
-    let font_dicts = offset_behind(select, pieces.select)?;
-    let char_strings = offset_behind(font_dicts, pieces.font_dicts_size)?;
+    let privates = offset_after(size, pieces.charset)?;
+    let select = offset_after(privates, pieces.privates.len())?;
+    let font_dicts = offset_after(select, pieces.select)?;
+    let char_strings = offset_after(font_dicts, pieces.font_dicts_size)?;
     Ok(Offsets {
         charset: size as u32,
         char_strings: char_strings as u32,

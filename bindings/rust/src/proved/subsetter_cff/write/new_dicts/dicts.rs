@@ -27,14 +27,14 @@ const OFFSETS: usize = 2147483648;
 
 /// Font dicts and their private dicts.
 pub struct WrittenDicts {
-    /// The private dicts, one behind the other.
+    /// The private dicts, one after the other.
     pub privates: Writer,
     /// The font dicts.
     pub dicts: Vec<Vec<u8>>,
 }
 
-/// The offset behind a piece. An offset is at most 2147483647: a greater one is `OverflowError`.
-pub fn offset_behind(place: usize, size: usize) -> Result<usize, Error> {
+/// The offset after a piece. An offset is at most 2147483647: a greater one is `OverflowError`.
+pub fn offset_after(place: usize, size: usize) -> Result<usize, Error> {
     let end = match place.checked_add(size) {
         Some(end) => end,
         _ => {
@@ -71,7 +71,7 @@ fn font_dict_text(
     Ok(w.finish())
 }
 
-/// Puts a font dict behind others, whose private dicts stand from a place on.
+/// Puts a font dict after others, whose private dicts stand from a place on.
 fn put_dict(
     alloc: Global,
     made: &mut WrittenDicts,
@@ -81,7 +81,7 @@ fn put_dict(
 ) -> Result<(), Error> {
     let start = made.privates.len();
     write_private(dict, &mut made.privates)?;
-    offset_behind(place, made.privates.len())?;
+    offset_after(place, made.privates.len())?;
     let size = made.privates.len() - start;
     let text = font_dict_text(alloc, remapper, dict, size, place + start)?;
     made.dicts.push(text)?;
@@ -106,7 +106,7 @@ pub fn write_dicts(
     Ok(made)
 }
 
-/// Whether the private dicts are longer than a bound on bytes. They are written, one behind the other, until they are; a real
+/// Whether the private dicts are longer than a bound on bytes. They are written, one after the other, until they are; a real
 /// that is too long ends that, and is told where the table is written.
 fn privates_pass(alloc: Global, dicts: &[FontDictParts<'_>], most: u32) -> Result<bool, Error> {
     let mut w = Writer::with_capacity(alloc, PRIVATES_ROOM)?;

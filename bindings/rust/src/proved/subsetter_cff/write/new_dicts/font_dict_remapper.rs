@@ -46,7 +46,7 @@ fn end_of(numbers: &[u8]) -> usize {
     end
 }
 
-/// Puts a place behind others, where it is marked.
+/// Puts a place after others, where it is marked.
 fn put_marked(places: &mut Vec<u8>, is_marked: bool, place: u8) -> Result<(), AllocError> {
     if is_marked {
         places.push(place)?;
