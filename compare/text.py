@@ -1,7 +1,8 @@
 """Do PDF readers give lines of shaped text back, and is each glyph where the shaper has it?: text --lines N (of each script) --by LANGUAGES --skip PROGRAMS
 
-Each line of text.tsv is shaped by HarfBuzz (hb-shape, its default clusters), shown by the Python call PdfText, and embedded in a PDF of its own. By
-Rust, C and JavaScript (drivers/text.*; --by rust,c) a line without texts of single glyphs has to have the same bytes; not in the short form.
+Each line of text.tsv is shaped by HarfBuzz (hb-shape, its default clusters), shown by the Python call PdfText, and embedded in a PDF of its own; a reader
+starts once for all lines. By Rust, C and JavaScript (drivers/text.*; --by rust,c) a line without texts of single glyphs has to have the same bytes; not in
+the short form.
 
 - `qpdf --check` finds nothing in it; with all lines PDFBox's preflight finds it valid as PDF/A-1b.
 - Each outline lies within half a thousandth of the em of where the shaper has it, and so does the pen at the end of a run: operators, widths, map and
@@ -11,10 +12,11 @@ Rust, C and JavaScript (drivers/text.*; --by rust,c) a line without texts of sin
   no line ends in a column; or nearly (1), but for blanks and default ignorables. MuPDF and Ghostscript know no directions: of these the order in which
   letters or clusters stand counts, too. It fails where a reader gives back less than text.tsv says, and says where it gives more.
 
-Whole runs have the lines made by four other programs beside it (lib/writers.py), but for those with texts of single glyphs. Nothing is demanded of
-them, but that they are there: one that isn't is left out by --skip alone.
+Whole runs have the lines made by four other programs beside it (lib/writers.py), in one document each, but for those with texts of single glyphs. Nothing
+is demanded of them, but that they are there: one that isn't is left out by --skip alone.
 In text.tsv `runs` are a text, its direction, script and language each, as they stand on the line from the left; `texts` are those of single glyphs.
 """
+import concurrent.futures
 import csv
 import functools
 import json
@@ -131,7 +133,7 @@ def packed(font, content):
     return len(zlib.compress(content)) + sum(len(it.value) for it in font.parts(range(FIRST, FIRST + font.part_count), compress=True))
 
 
-def lines(words):
+def rows_of(words):
     """So many rows of each script."""
     with open(os.path.join(build.HERE, "text.tsv"), encoding="utf-8", newline="") as file:
         rows, count = list(csv.DictReader(file, delimiter="\t", quoting=csv.QUOTE_NONE)), {}
@@ -221,24 +223,15 @@ def plain(text):
     return "".join(" " if unicodedata.category(it) == "Zs" else it for it in text).strip(" \t\r\n\f")
 
 
-def grade(line, reader, path):
+def grade(line, reader, text):
     """2, 1 or 0, and the text."""
-    got, wanted = plain(readers.text_by(reader, path)), line.wanted(reader)
+    got, wanted = plain(text), line.wanted(reader)
     got = re.sub(r"[\r\n]", "", got) if line.is_vertical else got
     return 2 if got in wanted else int(IGNORED.sub("", got) in {IGNORED.sub("", it) for it in wanted}), got
 
 
-def grades_of_others(line, programs, room):
-    """The text that readers find in what other programs make of a line."""
-    for name in programs if not line.texts else ():
-        try:
-            path = writers.write(name, line, os.path.join(room, line.name))
-            yield from [((name, reader), grade(line, reader, path)[0]) for reader in readers.TEXTS] + [((name, ""), 0)]
-        except (readers.Unread, OSError) as error:
-            print(f"{line.name}: not made by {name}: {error}", flush=True)
-
-
-def compare_line(row, asked, commands, programs, room):
+def compare_line(row, commands, room):
+    """What a line is written as, but for what readers say of it; its report has the line."""
     report, path = Report(row["name"]), os.path.join(room, row["name"] + ".pdf")
     try:
         line = Line(row)
@@ -247,25 +240,37 @@ def compare_line(row, asked, commands, programs, room):
         if CANARY.is_due:
             CANARY.is_due, operators[0] = False, operators[0].replace("]TJ", "2]TJ", 1)
         found = [("file", it) for it in readers.faults_by_qpdf(path)] + [("places", it) for it in faults_of_places(line, operators, path)]
-        for reader in asked:
-            came, got = grade(line, reader, path)
-            report.counts.update({(line.script, reader, "exact"): came == 2, (line.script, reader, "near"): came > 0})
-            found += [(reader, f"{came}, not {line.floor[reader]}: {got!r}")] * (came < line.floor[reader])
-            if came > line.floor[reader]:
-                print(f"{line.name}: {reader} {came}, more than {line.floor[reader]}", flush=True)
         if not line.texts:
             report.counts.update(packed=line.packed, sheets=line.packed_sheet())
         for name, command in commands.items() if not line.texts else ():
             found += [("language", f"other bytes by {name}")] * (readers.ran(*command, line.font, runs, str(int(line.is_vertical))) != said)
             report.counts[name] += 1
-        report.counts.update({"lines": 1, (line.script, "", "near"): 1})
-        for (name, reader), came in grades_of_others(line, programs, room):
-            report.counts.update({(name, reader, "exact"): came == 2, (name, reader, "near"): came > 0 or not reader})
+        report.counts["lines"] += 1
+        report.line, line.path = line, path
     except (readers.Unread, calls().Error, LookupError, ValueError, StopIteration) as error:
         found = [("not compared", repr(error))]
     for it in found:
         report.say(*it)
     return report
+
+
+def read(lines, asked, programs, room, pool):
+    """For the lines as they are here (the program is ""), and as programs make them: the program, the reader, the line, the grade and the text."""
+    config, others = writers.with_fonts(lines, room), [it for it in lines if not it.texts]
+
+    def made(name):
+        pages = writers.write(name, others, config, room) if name else [(it, it.path, 1) for it in lines]
+        return [it[0] for it in pages], readers.joined([it[1:] for it in pages], os.path.join(room, f"of {name}.joined"))
+
+    # (each program is started before a reader waits for it)
+    files = {name: pool.submit(made, name) for name in ("", *programs)}
+    pairs = [(name, reader) for name in files for reader in reversed(asked)]
+    for (name, reader), texts in zip(pairs, pool.map(lambda it: readers.texts_by(it[1], files[it[0]].result()[1]), pairs)):
+        of = files[name].result()[0]
+        if len(texts) != len(of):
+            raise readers.Unread(f"{reader} finds {len(texts)} pages of {len(of)} in what {name or 'this library'} makes")
+        for line, text in zip(of, texts):
+            yield name, reader, line, *grade(line, reader, text)
 
 
 # The driver of each language.
@@ -275,21 +280,30 @@ DRIVERS = {"rust": lambda: [build.driver("generated", "text", "--features", "sub
 
 def main():
     words = reports.words(lines=(1000, 2), by=("rust,c,js", ""), skip=("", ",".join(writers.WRITERS)))
-    rows, asked = list(lines(words)), list(readers.TEXTS)[:2 if words.short else None]
+    rows, asked = list(rows_of(words)), list(readers.TEXTS)[:2 if words.short else None]
     fonts.install(["libharfbuzz-bin", *readers.PACKAGES, *([] if words.short else readers.PDFBOX + readers.PDFJS), *(it["package"] for it in rows)])
-    commands, programs, missing, left = {it: DRIVERS[it]() for it in words.by.split(",") if it not in ("", "python")}, *writers.there(words.skip.split(",")), Report("programs")
+    commands, programs, missing, left = {it: DRIVERS[it]() for it in words.by.split(",") if it not in ("", "python")}, *writers.there(words.skip.split(",")), Report("readers")
     for name in missing:
         left.say("left out", name)
     calls()
-    with tempfile.TemporaryDirectory(prefix="text-") as room:
-        found = reports.beside(words, compare_line, [(it, asked, commands, programs, room) for it in rows])
+    with tempfile.TemporaryDirectory(prefix="text-") as room, concurrent.futures.ThreadPoolExecutor(words.jobs) as pool:
+        found = reports.beside(words, compare_line, [(it, commands, room) for it in rows])
+        lines = [it.line for it in found if hasattr(it, "line")]
         if 0 < len(found) < len(rows):
             left.say("time", f"it ended after {len(found)} of {len(rows)} lines")
-        paths = sorted(os.path.join(room, it) for it in os.listdir(room) if it.endswith(".pdf") and not words.short)
-        for path, faults in zip(paths, readers.preflight(paths, room) if paths else ()):
+        paths = [it.path for it in lines if not words.short]
+        judged = pool.submit(readers.preflight, paths, room)
+        for name, reader, line, came, got in read(lines, asked, programs, room, pool):
+            left.counts.update({(name or line.script, reader, it): came > least for least, it in enumerate(("near", "exact"))})
+            left.counts[name or line.script] += reader == asked[0]
+            if not name and came < line.floor[reader]:
+                left.say(reader, f"{line.name}: {came}, not {line.floor[reader]}: {got!r}")
+            elif not name and came > line.floor[reader]:
+                print(f"{line.name}: {reader} {came}, more than {line.floor[reader]}", flush=True)
+        for line, faults in zip(lines, judged.result()):
             for it in faults:
-                left.say("PDF/A-1b", f"{os.path.basename(path)}: {it}")
-    counts = reports.total(found)
+                left.say("PDF/A-1b", f"{line.name}: {it}")
+    counts = reports.total([*found, left])
     if counts["lines"] > 50 and counts["packed"] > PACKED * counts["sheets"]:
         left.say("bytes", f"{counts['packed']} of fonts and pages, and {counts['sheets']} of sheets")
 
@@ -299,8 +313,8 @@ def main():
 
     scripts = list(dict.fromkeys(it["script"] for it in rows))
     print("\n".join([f"| Script | Lines | {' | '.join(asked)} |", "|---|---:|" + "---:|" * len(asked),
-                     *(f"| {name} | {counts[name, '', 'near']} | {' | '.join(said(it, [name]) for it in asked)} |" for name in [*scripts, *programs])]))
+                     *(f"| {name} | {counts[name]} | {' | '.join(said(it, [name]) for it in asked)} |" for name in [*scripts, *programs])]))
     by_all = ", ".join(f"{said(it, scripts)} by {it}" for it in asked)
-    others = "".join(f"; by the same of {counts[name, '', 'near']} lines of {name} {', '.join(said(it, [name]) for it in asked)}" for name in programs)
+    others = "".join(f"; by the same of {counts[name]} lines of {name} {', '.join(said(it, [name]) for it in asked)}" for name in programs)
     same = "".join(f"; the same bytes of {counts[name]} lines by {name}" for name in commands)
     reports.end([*found, left], counts["lines"], f"{counts['lines']} lines of {len(scripts)} kinds of text, exact (or near) {by_all}{others}{same}; {counts['packed'] / (counts['sheets'] or 1):.3f} of the bytes of sheets{f'; {len(paths)} files valid as PDF/A-1b' if paths else ''}")

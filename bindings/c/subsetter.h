@@ -79,8 +79,10 @@ enum {
     SUBSETTER_BUFFER_TOO_SMALL = 8,
     /* The limit of the depth is 0. */
     SUBSETTER_NO_DEPTH = 9,
-    /* The options have a size, a depth or a bit that this library doesn't know; or another choice or the size of a struct is wrong, or
-     * a text isn't there, as after `subsetter_free_text`. */
+    /* Of options `size` is none that this library knows (SUBSETTER_DEFAULT_OPTIONS and the like set it), `depth` is above 255, `drop`
+     * has another bit, a choice is none of its values, or a tag isn't six capitals. Or a direction, an order, a layout or the width of
+     * a unit is none of its values, or not for this text; or a font's or a text's `size` isn't that of the struct, or a text isn't
+     * there, as after `subsetter_free_text`. */
     SUBSETTER_UNKNOWN_OPTION = 10,
     /* The font's maker doesn't permit that it is embedded (`fsType` of the table `OS/2`), and `rights` isn't
      * SUBSETTER_RIGHTS_HELD; of the calls for PDF alone. */
@@ -192,7 +194,7 @@ enum {
     SUBSETTER_CALL_EMBED = 2,
     SUBSETTER_CALL_EMBED_AT = 3,
     SUBSETTER_CALL_PDF_FONT = 4,    /* also subsetter_make_text_font, with the glyphs of the runs */
-    SUBSETTER_CALL_GLYPHS_OF = 5,   /* also subsetter_glyph_kinds */
+    SUBSETTER_CALL_GLYPHS_OF = 5,   /* also subsetter_glyph_kinds, and status 13 of subsetter_make_pdf_font_of_utf8 */
     SUBSETTER_CALL_ADVANCES = 6     /* also subsetter_new_text, without glyphs */
 };
 

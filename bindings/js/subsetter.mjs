@@ -830,7 +830,8 @@ class PdfFont {
 
     objects(first) {
         const number = whole(first, 1, WORD_AT_MOST, "the first number");
-        return this.#written("subsetter_pdf_objects", number, { glyphs: [], text: [], ends: [] });
+        const write = () => this.#written("subsetter_pdf_objects", number, { glyphs: [], text: [], ends: [] });
+        return explained(write, () => `the numbers from ${number} on don't fit 32 bits`, OverflowError);
     }
 
     sheet(layout) {
@@ -1004,6 +1005,7 @@ class PdfText {
         const wanted = "items must be an iterable of objects, as [{ glyph: 5, text: \"fi\" }, { glyph: 7, xAdvance: 0 }]";
         const list = objectsOf(items, wanted), text = [], own = [];
         const rows = list.map((it) => {
+            named(it, ["glyph", "text", ...ITEM], "items");
             const glyph = whole(it.glyph, 0, 65535, "a glyph"), start = text.length;
             for (const character of it.text === undefined ? [] : charactersOf(it.text)) {
                 text.push(character);

@@ -12,6 +12,7 @@ from fractions import Fraction
 
 import build
 import fonts
+import pdf_file
 
 CLASSES = ":".join(f"/usr/share/java/{it}.jar" for it in "preflight pdfbox2 pdfbox2-tools fontbox2 xmpbox commons-logging javax.activation jaxb-api".split())
 PACKAGES = ["qpdf", "poppler-utils", "mupdf-tools", "ghostscript", "python3-pil", "python3-fonttools"]
@@ -77,6 +78,24 @@ def text_by(reader, path, *more):
     return ran(program, *more, *(path if it == "FILE" else it for it in words)).decode("utf-8", "replace")
 
 
+# What a page says that is put after each page of a joined file.
+MARK = "endofpage"
+
+
+def joined(pages, path):
+    """The path of a file of these pages (of a file, and of a number), with a page that marks its end after each."""
+    pdf = pdf_file.Pdf()
+    helvetica = pdf.put("<< /Type /Font /Subtype /Type1 /BaseFont /Helvetica >>")
+    mark = fonts.put(path + ".mark", pdf_file.pages(pdf, (200, 100), [helvetica], [f"BT /F0 24 Tf 20 40 Td ({MARK}) Tj ET"]))
+    ran("qpdf", "--empty", "--pages", *(word for it in pages for word in (it[0], str(it[1]), mark, "1")), "--", path)
+    return path
+
+
+def texts_by(reader, path):
+    """The text of each page of a joined file, by one start of a reader."""
+    return text_by(reader, path).split(MARK)[:-1]
+
+
 def picture(data):
     """A picture in grey, of PGM bytes."""
     from PIL import Image
@@ -128,6 +147,8 @@ def is_blank(it):
 
 def preflight(paths, room):
     """What PDFBox's preflight says of files as PDF/A-1b: a list of faults for each."""
+    if not paths:
+        return []
     listed = fonts.put(os.path.join(room, "preflight"), "\n".join(paths) + "\n")
     words = ["java", "-cp", CLASSES, "org.apache.pdfbox.preflight.Validator_A1b", "xml", "group", listed]
     done = subprocess.run(words, stdout=subprocess.PIPE, stderr=subprocess.PIPE, text=True)

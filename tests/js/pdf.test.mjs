@@ -69,7 +69,7 @@ test("entries, numbers and layouts", () => {
     for (const [kind, list] of entries) throws(() => subsetter.pdfFont(TTF, list), kind, JSON.stringify(list));
     const font = subsetter.pdfFont(TTF, SHOWN);
     assert.ok(latin1(font.objects(2 ** 32 - 8).bytes).startsWith("4294967288 0 obj"));
-    throws(() => font.objects(2 ** 32 - 7), OverflowError, "no number left");
+    assert.equal(throws(() => font.objects(2 ** 32 - 7), OverflowError, "no number left").message, "overflow occurred: the numbers from 4294967289 on don't fit 32 bits");
     for (const [kind, first] of [[RangeError, 0], [RangeError, 2 ** 32], [RangeError, 1.5], [TypeError, "4"], [TypeError, null], [TypeError, undefined]]) throws(() => font.objects(first), kind, first);
     for (const [kind, layout] of [[RangeError, "page"], [RangeError, ""], [TypeError, 1], [TypeError, null]]) throws(() => font.sheet(layout), kind, layout);
     assert.deepEqual(font.sheet(), font.sheet("line"));
@@ -182,7 +182,7 @@ test("runs that are refused", () => {
         [Overfull, () => text.run(many)], [MalformedFont, () => run({ glyph: 12, text: "A" })],
         [MalformedFont, () => text.advances([12])], [RangeError, () => run({ glyph: 1, text: "A", xOffset: 2 ** 31 })], [RangeError, () => text.run([], { size: -1 })],
         [RangeError, () => text.run([], { direction: "ttb" })], [TypeError, () => text.run([], { size: "12" })], [TypeError, () => text.run([], { order: "logical" })],
-        [TypeError, () => text.run("A")], [TypeError, () => run("A")], [TypeError, () => run({ glyph: 1, text: null })], [TypeError, () => text.shaped(["A"], [one])],
+        [TypeError, () => text.run("A")], [TypeError, () => run("A")], [TypeError, () => run({ glyph: 1, text: "A", xAdvanse: 9 })], [TypeError, () => run({ glyph: 1, text: null })], [TypeError, () => text.shaped(["A"], [one])],
         [TypeError, () => text.shaped("A", [{ glyph: 1, cluster: 0 }])], [TypeError, () => text.font({ codes: "source" })], [TypeError, () => new subsetter.PdfText(TTF, { tag: "ABCDEF" })],
         [RangeError, () => new subsetter.PdfText(TTF, { order: "reading" })], [UnknownKind, () => new subsetter.PdfText(new Uint8Array(2))],
     ];

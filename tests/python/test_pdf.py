@@ -99,7 +99,8 @@ def test_tags(tag):
 def test_numbers_of_objects_and_layouts():
     font = subsetter.pdf_font(TTF, SHOWN)
     assert font.objects(2**32 - 8).bytes.startswith(b"4294967288 0 obj")
-    assert type(raised(font.objects, 2**32 - 7)) is subsetter.OverflowError
+    error = raised(font.objects, 2**32 - 7)
+    assert (type(error), str(error)) == (subsetter.OverflowError, "overflow occurred: the numbers from 4294967289 on don't fit 32 bits")
     for kind, first in [(ValueError, 0), (ValueError, -1), (ValueError, 2**32), (ValueError, 2**32 + 4), (TypeError, "4"), (TypeError, 1.0)]:
         assert type(raised(font.objects, first)) is kind
     for kind, layout in [(ValueError, "page"), (ValueError, ""), (TypeError, 1), (TypeError, None)]:

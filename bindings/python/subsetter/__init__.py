@@ -1185,9 +1185,11 @@ class PdfFont:
         """
         number, font = _number("first", first, 1, 0xFFFFFFFF), self._struct()
         # (an older library has no such map)
-        if font.cid_to_gid_map_size:
-            return self._written("subsetter_make_objects", font, number)
-        return self._written("subsetter_make_pdf_objects", font.pdf, number)
+        call, given = ("subsetter_make_objects", font) if font.cid_to_gid_map_size else ("subsetter_make_pdf_objects", font.pdf)
+        try:
+            return self._written(call, given, number)
+        except OverflowError as error:
+            raise OverflowError(f"{error}: the numbers from {number} on don't fit 32 bits") from None
 
     def parts(
         self, numbers: Iterable[SupportsIndex], *, compress: bool = False, pack: Optional[Callable[[bytes], bytes]] = None,

@@ -9,7 +9,7 @@ ghost use Rattle.subsetter_base.specs.Bytes.{number};
 ghost use Rattle.subsetter_sfnt.specs.Fields.Name.{name_record_of};
 ghost use Rattle.subset_lines.specs.Faces.Names.{is_windows, serves, record_if, AreFirst, count_in, best_name, string_by, string_for, name_of, is_text, character_of, text_of_units, after_instance};
 
-use plain_text::characters::is_plain;
+use plain_text::characters::plain;
 use plain_text::{Unwritten, write_text};
 use std::alloc::{AllocError, Global};
 use std::collections::HashMap;
@@ -203,7 +203,10 @@ impl<'a> NameTable<'a> {
 fn is_text(unit: u16) -> bool
     ensures { result ≡ is_text unit }
 {
-    is_plain(u32::from(unit)) && (unit < 0xD800 || unit >= 0xE000)
+    match char::from_u32(u32::from(unit)) {
+        Some(character) => plain(character) == character,
+        None => false,
+    }
 }
 
 /// The character of a code unit, U+FFFD for half of a pair and for one that a line doesn't have.
