@@ -118,39 +118,6 @@ static inline const char *subsetter_status_text(uint32_t status)
  */
 uint32_t subsetter_error_text(uint32_t status, uint8_t *out, size_t out_size, size_t *length);
 
-/* The calls, for `subsetter_explain`. */
-enum {
-    SUBSETTER_CALL_SUBSET = 0,
-    SUBSETTER_CALL_SUBSET_AT = 1,
-    SUBSETTER_CALL_EMBED = 2,
-    SUBSETTER_CALL_EMBED_AT = 3,
-    SUBSETTER_CALL_PDF_FONT = 4,    /* also subsetter_make_text_font, with the glyphs of the runs */
-    SUBSETTER_CALL_GLYPHS_OF = 5,   /* also subsetter_glyph_kinds, and status 13 of subsetter_make_pdf_font_of_utf8 */
-    SUBSETTER_CALL_ADVANCES = 6     /* also subsetter_new_text, without glyphs */
-};
-
-/* Why a call was refused with a status, as the font shows it: the table or the glyph, in words ("glyph 60000: the font's glyphs are 0
- * to 6252"; "OS/2: fsType 0x0002 forbids embedding"). It is in UTF-8, without a zero at the end, of at most 127 bytes, for people, and
- * may change. `call` is one of SUBSETTER_CALL_.. (the calls in buffers and in memory of the library are one), and the font, the glyphs
- * and the limits are those of that call; 0 tokens and a depth of 0 are the defaults. A charstring (CFF outlines) is run within the
- * limits, once at most, and none after the first that can't be. It is told no other option and no text, and says nothing of these.
- *
- *     status = subsetter_make_subset(data, size, 0, glyphs, count, NULL, &made);
- *     if (status != SUBSETTER_DONE) {
- *         uint8_t why[127];
- *         size_t length;
- *         subsetter_explain(SUBSETTER_CALL_SUBSET, status, data, size, 0, glyphs, count, 0, 0, why, sizeof why, &length);
- *         fprintf(stderr, "%s%s%.*s\n", subsetter_status_text(status), length == 0 ? "" : ": ", (int)length, (const char *)why);
- *     }
- *
- *   0: `out` begins with the text, and `*length` is its size in bytes: 0 where the font doesn't show why.
- *   8: `out` is too small and as it was; `*length` is the exact size.
- *   7, 10 (another call): `out` is as it was, and `*length` is 0.
- */
-uint32_t subsetter_explain(uint32_t call, uint32_t status, const uint8_t *font, size_t font_size, uint32_t index,
-                           const uint16_t *glyphs, size_t glyph_count, uint32_t tokens, uint8_t depth,
-                           uint8_t *out, size_t out_size, size_t *length);
-
 /* The version of the library, as SUBSETTER_VERSION. */
 uint32_t subsetter_version(void);
 
@@ -217,6 +184,54 @@ typedef struct subsetter_coordinate {
     /* The value in 65536ths of what the axis counts: weight 650 is 650 * 65536. */
     int32_t value;
 } subsetter_coordinate;
+
+/* ---- why a call was refused */
+
+/* The calls, for `subsetter_explain_by_words`. */
+enum {
+    SUBSETTER_CALL_SUBSET = 0,
+    SUBSETTER_CALL_SUBSET_AT = 1,
+    SUBSETTER_CALL_EMBED = 2,
+    SUBSETTER_CALL_EMBED_AT = 3,
+    SUBSETTER_CALL_PDF_FONT = 4,    /* also subsetter_make_text_font, with the glyphs of the runs */
+    SUBSETTER_CALL_GLYPHS_OF = 5,   /* also subsetter_glyph_kinds, and status 13 of subsetter_make_pdf_font_of_utf8 */
+    SUBSETTER_CALL_ADVANCES = 6     /* also subsetter_new_text, without glyphs */
+};
+
+/* Why a call was refused with a status, as the font shows it: the table or the glyph, in words ("glyph 60000: the font's glyphs are 0
+ * to 6252"; "OS/2: fsType 0x0002 forbids embedding"). It is in UTF-8, without a zero at the end, of at most 127 bytes, for people, and
+ * may change. `call` is one of SUBSETTER_CALL_.. (the calls in buffers and in memory of the library are one), and the font, the
+ * coordinates, the glyphs and the options are those of that call; without coordinates there are none, and of `subsetter_pdf_options`
+ * it takes tokens and depth. A charstring is run within the limits, once at most, and none after the first that can't be. It is told
+ * no text, and says nothing of it.
+ *
+ *     status = subsetter_make_subset(data, size, 0, glyphs, count, NULL, &made);
+ *     if (status != SUBSETTER_DONE) {
+ *         uint8_t why[127];
+ *         size_t length;
+ *         subsetter_explain(SUBSETTER_CALL_SUBSET, status, data, size, 0, NULL, 0, glyphs, count, NULL, why, sizeof why, &length);
+ *         fprintf(stderr, "%s%s%.*s\n", subsetter_status_text(status), length == 0 ? "" : ": ", (int)length, (const char *)why);
+ *     }
+ *
+ *   0: `out` begins with the text, and `*length` is its size in bytes: 0 where the font doesn't show why.
+ *   8: `out` is too small and as it was; `*length` is the exact size.
+ *   7, 10 (another call, or an option): `out` is as it was, and `*length` is 0.
+ */
+uint32_t subsetter_explain_by_words(uint32_t call, uint32_t status, const uint8_t *font, size_t font_size, uint32_t index,
+                                    const subsetter_coordinate *coordinates, size_t coordinate_count,
+                                    const uint16_t *glyphs, size_t glyph_count,
+                                    const uint32_t *options, size_t option_count,
+                                    uint8_t *out, size_t out_size, size_t *length);
+
+static inline uint32_t subsetter_explain(uint32_t call, uint32_t status, const uint8_t *font, size_t font_size, uint32_t index,
+                                         const subsetter_coordinate *coordinates, size_t coordinate_count,
+                                         const uint16_t *glyphs, size_t glyph_count,
+                                         const subsetter_options *options,
+                                         uint8_t *out, size_t out_size, size_t *length)
+{
+    return subsetter_explain_by_words(call, status, font, font_size, index, coordinates, coordinate_count, glyphs, glyph_count,
+                                      subsetter_option_words(options), subsetter_option_count(options), out, out_size, length);
+}
 
 /* ---- all that a PDF has of a font (sections in brackets are those of ISO 32000-1) */
 

@@ -499,18 +499,19 @@ class Library {
     }
 
     /** What a font that is held here shows of why a call was refused, or which limits there were; nothing where memory is refused. */
-    #reason(status, name, font, index, glyphs = [], { tokens = 0, depth = 0, bytes = 0 } = {}) {
+    #reason(status, name, font, index, glyphs = [], { tokens = TOKENS, depth = DEPTH, bytes = 0, drop = 0, coordinates = [] } = {}) {
         const isOfText = name === "subsetter_text_font", call = CALLS.indexOf(isOfText ? "subsetter_pdf_font" : name);
-        const given = (at) => [call, status, font.at, font.size, index, at, glyphs.length, tokens, depth, 0, 0];
+        const given = (coordinatesAt, glyphsAt) =>
+            [call, status, font.at, font.size, index, coordinatesAt, coordinates.length / 2, glyphsAt, glyphs.length, tokens, depth, drop, 0, 0];
         try {
-            const { status: done, buffer, words } = this.#call("subsetter_explain", [listOf(2, glyphs)], given);
+            const { status: done, buffer, words } = this.#call("subsetter_explain", [listOf(4, coordinates), listOf(2, glyphs)], given);
             const [at, length] = words.slice(-2);
             if (done === DONE && length > 0) {
                 const found = new TextDecoder().decode(new Uint8Array(buffer.slice(at, at + length)));
                 const isWithout = found.startsWith("CFF2") && /_(subset|embed)$/.test(name);
                 return `: ${found}${status === NOT_PERMITTED ? `: if you hold the rights, rights: "held"${isOfText ? " of new PdfText" : ""}` : isWithout ? ": coordinates: {} is the default" : ""}`;
             }
-            const limits = [tokens && tokens !== TOKENS ? `tokens is ${tokens}` : "", bytes ? `mostBytes is ${bytes}` : ""].filter(Boolean);
+            const limits = [tokens !== TOKENS ? `tokens is ${tokens}` : "", bytes ? `mostBytes is ${bytes}` : ""].filter(Boolean);
             return status === OVERFLOW && limits.length > 0 ? `: ${limits.join(" and ")}` : "";
         } catch {
             return "";
@@ -524,7 +525,7 @@ class Library {
         const given = (glyphsAt, coordinatesAt) =>
             [font.at, font.size, index, glyphsAt, glyphs.length, coordinatesAt, coordinates.length / 2, tokens, depth, bytes, drop];
         const { status, buffer, words } = this.#call(name, lists, (...places) => [...given(...places), ...MADE]);
-        this.#check(status, name, font, index, glyphs, { tokens, depth, bytes });
+        this.#check(status, name, font, index, glyphs, { tokens, depth, bytes, drop, coordinates });
         const [at, size, cidsAt, cidCount, widthsAt, widthCount] = words.slice(-MADE.length);
         return {
             font: new Uint8Array(buffer.slice(at, at + size)),
@@ -572,7 +573,7 @@ class Library {
             [font.at, font.size, index, coordinatesAt, coordinates.length / 2, ...counted(...places), tokens, depth, bytes, drop, ...further];
         const parts = Object.entries(PARTS), room = Array(2 * parts.length + NUMBERS + 5).fill(0);
         const { status, buffer, words } = this.#call(name, [listOf(4, coordinates), ...lists], (...places) => [...given(...places), ...room]);
-        this.#check(status, name, font, index, glyphs, { tokens, depth, bytes });
+        this.#check(status, name, font, index, glyphs, { tokens, depth, bytes, coordinates });
         const made = words.slice(-room.length), raw = {};
         const [unitsPerEm, exactAt, exactCount, axesAt, axisCount] = made.splice(-5);
         const axes = numbersOf(4, buffer, axesAt, axisCount).map((it) => String.fromCharCode(it >>> 24, (it >> 16) & 255, (it >> 8) & 255, it & 255));
@@ -591,7 +592,7 @@ class Library {
     newText(font, index, { tokens, depth, bytes, drop, coordinates = [], further }, makesOwn) {
         const given = (at) => [font.at, font.size, index, at, coordinates.length / 2, tokens, depth, bytes, drop, ...further, makesOwn, ...Array(11).fill(0)];
         const { status, buffer, words } = this.#call("subsetter_new_text", [listOf(4, coordinates)], given);
-        this.#check(status, "subsetter_advances", font, index, [], { tokens });
+        this.#check(status, "subsetter_advances", font, index, [], { tokens, coordinates });
         const [unitsPerEm, metricsAt, metrics, inkedAt, inked, advancesAt, advances, partableAt, partable, mostParts, isStill] = words.slice(-11);
         const list = (at, size) => new Uint8Array(buffer.slice(at, at + size));
         return {
@@ -632,7 +633,7 @@ class Library {
         const given = (coordinatesAt, glyphsAt) =>
             [font.at, font.size, index, coordinatesAt, coordinates.length / 2, glyphsAt, glyphs.length, tokens, 0, 0, 0, 0, 0];
         const { status, buffer, words } = this.#call("subsetter_advances", lists, given);
-        this.#check(status, "subsetter_advances", font, index, glyphs, { tokens });
+        this.#check(status, "subsetter_advances", font, index, glyphs, { tokens, coordinates });
         const [unitsPerEm, widthsAt, widthCount, heightsAt, heightCount] = words.slice(-5);
         return { unitsPerEm, widths: numbersOf(2, buffer, widthsAt, widthCount), heights: numbersOf(2, buffer, heightsAt, heightCount) };
     }

@@ -1025,30 +1025,37 @@ static void try_faces(void)
 static void try_reasons(void)
 {
     static const struct {
-        const char *font;
-        uint32_t call, status, tokens, fs_type, answer;
+        const char *font, *table;
+        uint32_t at, number, call, status, tokens, drop, weight, answer;
         uint16_t glyph;
         const char *text;
     } rows[] = {
-        {"made.ttf", SUBSETTER_CALL_SUBSET, 2, 0, 0, 0, 60000, "glyph 60000: the font's glyphs are 0 to 11"},
-        {"made.ttf", SUBSETTER_CALL_EMBED, 2, 0, 0, 0, 1, ""},
-        {"made.ttf", SUBSETTER_CALL_PDF_FONT, 11, 0, 2, 0, 1, "OS/2: fsType 0x0002 forbids embedding"},
-        {"made.ttf", SUBSETTER_CALL_PDF_FONT, 11, 0, 0x104, 0, 1, "OS/2: fsType 0x0104 forbids subsets"},
-        {"made.ttf", SUBSETTER_CALL_PDF_FONT, 11, 0, 0x20c, 0, 1, "OS/2: fsType 0x020c forbids outlines"},
-        {"made.ttf", SUBSETTER_CALL_ADVANCES + 1, 2, 0, 0, 10, 60000, ""},
-        {"made_cff2.otf", SUBSETTER_CALL_SUBSET, 3, 0, 0, 0, 1, "CFF2: its outlines are taken at coordinates alone"},
-        {"made_cff2.otf", SUBSETTER_CALL_SUBSET_AT, 3, 0, 0, 0, 1, ""},
-        {"made_version_1.otf", SUBSETTER_CALL_EMBED_AT, 6, 5, 0, 0, 1, "glyph 0: its charstring is wrong, or passes the limits"},
-        {"made_version_1.otf", SUBSETTER_CALL_EMBED_AT, 6, 0, 0, 0, 1, ""},
+        {"made.ttf", "none", 0, 0, SUBSETTER_CALL_SUBSET, 2, 0, 0, 0, 0, 60000, "glyph 60000: the font's glyphs are 0 to 11"},
+        {"made.ttf", "none", 0, 0, SUBSETTER_CALL_EMBED, 2, 0, 0, 0, 0, 1, ""},
+        {"made.ttf", "OS/2", 8, 2, SUBSETTER_CALL_PDF_FONT, 11, 0, 0, 0, 0, 1, "OS/2: fsType 0x0002 forbids embedding"},
+        {"made.ttf", "OS/2", 8, 0x104, SUBSETTER_CALL_PDF_FONT, 11, 0, 0, 0, 0, 1, "OS/2: fsType 0x0104 forbids subsets"},
+        {"made.ttf", "OS/2", 8, 0x20c, SUBSETTER_CALL_PDF_FONT, 11, 0, 0, 0, 0, 1, "OS/2: fsType 0x020c forbids outlines"},
+        {"made.ttf", "none", 0, 0, SUBSETTER_CALL_ADVANCES + 1, 2, 0, 0, 0, 10, 60000, ""},
+        {"made.ttf", "none", 0, 0, SUBSETTER_CALL_SUBSET, 2, 0, 8, 0, 10, 60000, ""},
+        {"made.ttf", "name", 2, 99, SUBSETTER_CALL_SUBSET, 2, 0, 0, 0, 0, 1, "name: 88 bytes, needs 1194"},
+        {"made.ttf", "name", 2, 99, SUBSETTER_CALL_SUBSET, 2, 0, SUBSETTER_DROP_NAMES, 0, 0, 1, ""},
+        {"made_cff2.otf", "none", 0, 0, SUBSETTER_CALL_SUBSET, 3, 0, 0, 0, 0, 1, "CFF2: its outlines are taken at coordinates alone"},
+        {"made_cff2.otf", "none", 0, 0, SUBSETTER_CALL_SUBSET_AT, 3, 0, 0, 0, 0, 1, ""},
+        {"made_cff2.otf", "none", 0, 0, SUBSETTER_CALL_EMBED_AT, 6, 5, 0, 0, 0, 1, "glyph 0: its charstring in CFF2 is wrong, or passes the limits"},
+        {"made_cff2.otf", "none", 0, 0, SUBSETTER_CALL_EMBED_AT, 6, 0, 0, 0, 0, 1, ""},
+        {"made_variable.ttf", "gvar", 48, 32767, SUBSETTER_CALL_SUBSET_AT, 2, 0, 0, 650, 0, 1, "glyph 1: its variation data in gvar can't be read"},
+        {"made_variable.ttf", "gvar", 48, 32767, SUBSETTER_CALL_SUBSET_AT, 2, 0, 0, 400, 0, 1, ""},
     };
     for (size_t i = 0; i < sizeof rows / sizeof *rows; i++) {
         uint8_t why[128];
         size_t size, length, wanted = strlen(rows[i].text);
         uint8_t *font = file_of(rows[i].font, &size);
-        for (size_t at = 12; rows[i].fs_type != 0 && at < 300; at += 16)
-            if (memcmp(font + at, "OS/2", 4) == 0)
-                memcpy(font + (font[at + 10] << 8 | font[at + 11]) + 8, (uint8_t[]){(uint8_t)(rows[i].fs_type >> 8), (uint8_t)rows[i].fs_type}, 2);
-#define WHY(ROOM) subsetter_explain(rows[i].call, rows[i].status, font, size, 0, &rows[i].glyph, 1, rows[i].tokens, 0, why, ROOM, &length)
+        const subsetter_coordinate place = {0x77676874, (int32_t)rows[i].weight * 65536};
+        const subsetter_options options = {sizeof options, rows[i].tokens, 0, rows[i].drop, 0};
+        for (size_t at = 12; at < 300; at += 16)
+            if (memcmp(font + at, rows[i].table, 4) == 0)
+                memcpy(font + (font[at + 10] << 8 | font[at + 11]) + rows[i].at, (uint8_t[]){(uint8_t)(rows[i].number >> 8), (uint8_t)rows[i].number}, 2);
+#define WHY(ROOM) subsetter_explain(rows[i].call, rows[i].status, font, size, 0, &place, rows[i].weight != 0, &rows[i].glyph, 1, &options, why, ROOM, &length)
         memset(why, FILLED, sizeof why);
         check(WHY(wanted) == rows[i].answer && length == wanted && memcmp(why, rows[i].text, wanted) == 0 && why[wanted] == FILLED, "why", rows[i].text);
         why[0] = FILLED;

@@ -179,6 +179,11 @@ function forbidding(fsType) {
     return font;
 }
 
+/** A made font with other bytes, once, both as Latin-1. */
+function changed(name, from, to) {
+    return Buffer.from(Buffer.from(made(name)).toString("latin1").replace(from, to), "latin1");
+}
+
 test("messages say why, and what is wanted", () => {
     const at = { coordinates: {} }, rows = [
         ["MalformedFont", "malformed font: glyph 60000: the font's glyphs are 0 to 11", () => subsetter.subset(TTF, [1, 60000])],
@@ -186,12 +191,13 @@ test("messages say why, and what is wanted", () => {
         ["MalformedFont", "malformed font: glyph 12: the font's glyphs are 0 to 11", () => subsetter.advances(TTF, [12], at)],
         ["MalformedFont", "malformed font: face 1: the collection's faces are 0 to 0", () => subsetter.glyphsOf(made("made.ttc"), "A", { index: 1 })],
         ["Unimplemented", "unsupported feature in font: CFF2: its outlines are taken at coordinates alone: coordinates: {} is the default", () => subsetter.embed(made("made_cff2.otf"), [1])],
-        ["CFFError", "processing CFF table failed: glyph 0: its charstring is wrong, or passes the limits", () => subsetter.embed(made("made_version_1.otf"), [1], { ...at, limits: { tokens: 5 } })],
+        ["CFFError", "processing CFF table failed: glyph 0: its charstring in CFF2 is wrong, or passes the limits", () => subsetter.embed(made("made_cff2.otf"), [1], { ...at, limits: { tokens: 5 } })],
+        ["MalformedFont", "malformed font: glyph 1: its variation data in gvar can't be read", () => subsetter.subset(changed("made_variable.ttf", "\x80\x01\0\x0c\0", "\x80\x01\x7f\0\0"), [1], { coordinates: { wght: 650 } })],
         ["OverflowError", "overflow occurred: mostBytes is 9", () => subsetter.subset(TTF, [1], { limits: { mostBytes: 9 } })],
         ["OverflowError", "overflow occurred: tokens is 1", () => subsetter.pdfFont(made("made_variable.ttf"), SHOWN, { coordinates: { wght: 650 }, limits: { tokens: 1 } })],
         ["NotPermitted", 'embedding not permitted: OS/2: fsType 0x0002 forbids embedding: if you hold the rights, rights: "held"', () => subsetter.pdfFont(forbidding(2), SHOWN)],
         ["NotPermitted", 'embedding not permitted: OS/2: fsType 0x0100 forbids subsets: if you hold the rights, rights: "held" of new PdfText', () => new subsetter.PdfText(forbidding(0x100)).font()],
-        ["BitmapsAlone", "bitmaps alone in font: sbix: the face has bitmaps and no outlines", () => subsetter.pdfFont(Buffer.from(Buffer.from(TTF).toString("latin1").replace("glyf", "sbix"), "latin1"), SHOWN)],
+        ["BitmapsAlone", "bitmaps alone in font: sbix: the face has bitmaps and no outlines", () => subsetter.pdfFont(changed("made.ttf", "glyf", "sbix"), SHOWN)],
         ["InvalidText", "invalid text: U+D800 is an unpaired surrogate", () => subsetter.glyphsOf(TTF, "\ud800")],
         ["InvalidText", "invalid text: U+DFFF is an unpaired surrogate", () => subsetter.codesOf([{ glyph: 1, text: "A\udfff" }])],
         ["InvalidText", "invalid text: a text has more than 256 UTF-16 units", () => subsetter.pdfFont(TTF, [...SHOWN, { glyph: 1, text: "\u{1f600}".repeat(129) }])],

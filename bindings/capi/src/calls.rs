@@ -488,23 +488,28 @@ pub unsafe extern "C" fn subsetter_error_text(
 ///
 /// What the header requires of a caller.
 #[no_mangle]
-pub unsafe extern "C" fn subsetter_explain(
+pub unsafe extern "C" fn subsetter_explain_by_words(
     call: u32,
     status: u32,
     font: *const u8,
     font_size: usize,
     index: u32,
+    coordinates: *const Coordinate,
+    coordinate_count: usize,
     glyphs: *const u16,
     glyph_count: usize,
-    tokens: u32,
-    depth: u8,
+    options: *const u32,
+    option_count: usize,
     out: *mut u8,
     out_size: usize,
     length: *mut usize,
 ) -> u32 {
     let given = unsafe { Given::new(font, font_size, index, glyphs, glyph_count) };
+    let at = unsafe { list(coordinates, coordinate_count) };
+    let words = unsafe { list(options, option_count) };
     let text = guarded(|| {
-        let text = explain(call, status, given.font, index, given.glyphs, tokens, depth);
+        let choices = choices(words).ok_or(UNKNOWN_OPTION)?;
+        let text = explain(call, status, given.font, index, at, given.glyphs, &choices);
         text.ok_or(UNKNOWN_OPTION)?.map_err(status_of)
     });
     unsafe { hand(text.map(String::into_bytes), out, out_size, length) }

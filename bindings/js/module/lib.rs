@@ -641,9 +641,11 @@ pub struct ReasonCall {
     status: u32,
     font: List<u8>,
     index: u32,
+    coordinates: List<Coordinate>,
     glyphs: List<u16>,
     tokens: u32,
     depth: u32,
+    drop: u32,
     text: List<u8>,
 }
 
@@ -652,10 +654,11 @@ pub struct ReasonCall {
 /// As of `List::items`.
 #[no_mangle]
 pub unsafe extern "C" fn subsetter_explain(it: &mut ReasonCall) -> u32 {
-    let (font, glyphs) = unsafe { (it.font.items(), it.glyphs.items()) };
-    let depth = u8::try_from(it.depth).unwrap_or(0);
-    let text = capi::explain(it.call, it.status, font, it.index, glyphs, it.tokens, depth);
-    let text = text.ok_or(UNKNOWN_OPTION).and_then(|text| text.map_err(status_of));
+    let (font, coordinates, glyphs) = unsafe { (it.font.items(), it.coordinates.items(), it.glyphs.items()) };
+    let text = choices_of(it.tokens, it.depth, 0, it.drop).and_then(|choices| {
+        let text = capi::explain(it.call, it.status, font, it.index, coordinates, glyphs, &choices);
+        text.ok_or(UNKNOWN_OPTION)?.map_err(status_of)
+    });
     status(text.map(|text| it.text = List::of(text.into_bytes())))
 }
 

@@ -470,10 +470,9 @@ def _declare(library: ctypes.CDLL) -> ctypes.CDLL:
     for first, group in groups.items():
         if hasattr(library, first):
             declared.update(group)
-    if hasattr(library, "subsetter_explain"):
-        limits = [ctypes.c_uint32, ctypes.c_uint8]
-        declared["subsetter_explain"] = (
-            [ctypes.c_uint32] * 2 + make[:5] + limits + [pointer, size, ctypes.POINTER(size)], ctypes.c_uint32)
+    if hasattr(library, "subsetter_explain_by_words"):
+        declared["subsetter_explain_by_words"] = (
+            [ctypes.c_uint32] * 2 + make[:3] + [pointer, size] * 4 + [ctypes.POINTER(size)], ctypes.c_uint32)
     for name, (arguments, result) in declared.items():
         try:
             call = getattr(library, name)
@@ -662,7 +661,7 @@ def _text(library: ctypes.CDLL, status: int) -> str:
 
 
 class _Asked(NamedTuple):
-    """What a call was given of a font: its number for `subsetter_explain`, the font, the glyphs, the words of the options; what takes rights."""
+    """What a call was given of a font: its number for `subsetter_explain_by_words`, the font, the glyphs, the words of the options; what takes rights."""
 
     call: int
     font: Optional[int]
@@ -670,24 +669,25 @@ class _Asked(NamedTuple):
     face: int
     glyphs: array[int]
     words: array[int]
+    at: Any = ()
     of: str = ""
 
 
 def _reason(library: ctypes.CDLL, status: int, asked: _Asked) -> str:
     """What the font shows of why a call was refused, or which limits there were; nothing where the library is older."""
-    if _ERRORS[status] is OutOfMemory or not hasattr(library, "subsetter_explain"):
+    if _ERRORS[status] is OutOfMemory or not hasattr(library, "subsetter_explain_by_words"):
         return ""
-    out, length, (tokens, depth) = ctypes.create_string_buffer(128), ctypes.c_size_t(), asked.words[1:3]
-    done = library.subsetter_explain(
-        asked.call, status, asked.font, asked.size, asked.face, asked.glyphs.buffer_info()[0], len(asked.glyphs), tokens, depth,
-        out, len(out), ctypes.byref(length),
+    out, length, words = ctypes.create_string_buffer(128), ctypes.c_size_t(), array("I", [20, *asked.words[1:5]])
+    done = library.subsetter_explain_by_words(
+        asked.call, status, asked.font, asked.size, asked.face, asked.at or None, len(asked.at), asked.glyphs.buffer_info()[0],
+        len(asked.glyphs), words.buffer_info()[0], len(words), out, len(out), ctypes.byref(length),
     )
     found = out.raw[:length.value].decode("utf-8", "replace") if done == 0 else ""
     if found and _ERRORS[status] is NotPermitted:
         return f'{found}: if you hold the rights, rights="held"{asked.of}'
     if found.startswith("CFF2") and asked.call in (_SUBSET, _EMBED):
         return f"{found}: coordinates={{}} is the default"
-    limits = {"tokens": tokens, "most_bytes": asked.words[4]} if _ERRORS[status] is OverflowError else {}
+    limits = {"tokens": asked.words[1], "most_bytes": asked.words[4]} if _ERRORS[status] is OverflowError else {}
     return found or " and ".join(f"{name} is {limit}" for name, limit in limits.items() if limit)
 
 
@@ -720,7 +720,7 @@ def _made(
             font, size, face, *place, numbers.buffer_info()[0], len(numbers), words.buffer_info()[0], len(words),
             ctypes.byref(made),
         )
-        _check(library, status, _Asked(_MAKES.index(call), font, size, face, numbers, words))
+        _check(library, status, _Asked(_MAKES.index(call), font, size, face, numbers, words, coordinates or ()))
     try:
         yield made
     finally:
@@ -967,7 +967,7 @@ def advances(
             font, size, face, place, len(place), numbers.buffer_info()[0], len(numbers), words.buffer_info()[0], len(words),
             widths.buffer_info()[0], len(widths), heights.buffer_info()[0], len(heights), ctypes.byref(units),
         )
-        _check(library, status, _Asked(_ADVANCES, font, size, face, numbers, words))
+        _check(library, status, _Asked(_ADVANCES, font, size, face, numbers, words, place))
     return Advances(units.value, widths.tolist(), heights.tolist())
 
 
@@ -981,7 +981,7 @@ def _kind_bits(library: ctypes.CDLL, font: Any, size: int, face: int, glyphs: ar
     """Of each glyph a number with a bit for each kind."""
     kinds = (ctypes.c_uint32 * len(glyphs))()
     status = library.subsetter_glyph_kinds(font, size, face, glyphs.buffer_info()[0], len(glyphs), kinds, len(kinds))
-    _check(library, status, _Asked(_GLYPHS_OF, font, size, face, array("H"), array("I", [0] * 3)))
+    _check(library, status, _Asked(_GLYPHS_OF, font, size, face, array("H"), array("I", [0] * 5)))
     return list(kinds)
 
 
@@ -1315,7 +1315,7 @@ def pdf_font(
         try:
             with _bytes_of(data) as (font, size):
                 status = library.subsetter_make_font_by_words(font, size, face, *given, ctypes.byref(made))
-                _check(library, status, _Asked(_PDF_FONT, font, size, face, entries.glyphs, words), entries.fault)
+                _check(library, status, _Asked(_PDF_FONT, font, size, face, entries.glyphs, words, place), entries.fault)
                 has_kinds = hasattr(library, "subsetter_glyph_kinds")
                 kinds = _kind_bits(library, font, size, face, entries.glyphs) if has_kinds else None
             found = PdfFont(made.pdf, entries, made)
@@ -1472,7 +1472,7 @@ class PdfText:
             self._font = held.enter_context(_bytes_of(data))
             status = self._library.subsetter_new_text_by_words(
                 *self._font, self._index, place, len(place), words.buffer_info()[0], len(words), ctypes.byref(self._text))
-            _check(self._library, status, _Asked(_ADVANCES, *self._font, self._index, array("H"), words))
+            _check(self._library, status, _Asked(_ADVANCES, *self._font, self._index, array("H"), words, place))
             held.callback(self._library.subsetter_free_text, ctypes.byref(self._text))
             self._give_back = weakref.finalize(self, held.pop_all().close)
         self.units_per_em, self._glyph_count = self._text.units_per_em, self._text.metric_count
@@ -1642,7 +1642,8 @@ class PdfText:
             status = self._library.subsetter_make_text_font_by_words(text, words.buffer_info()[0], len(words), ctypes.byref(made))
         try:
             glyphs = array("H", [glyph or 0 for glyph, _ in self.codes if status])
-            _check(self._library, status, _Asked(_PDF_FONT, *self._font, self._index, glyphs, words, " of PdfText"))
+            place = _coordinates(self._coordinates if status else {})
+            _check(self._library, status, _Asked(_PDF_FONT, *self._font, self._index, glyphs, words, place, " of PdfText"))
             font = PdfFont(made.pdf, _Entries([]), made)
             font.unseen = []
             return font

@@ -72,6 +72,11 @@ fn mapper(
     mapper_for(Global, data, index, glyphs, choices.0.extras).map_err(refused)
 }
 
+/// A coordinate as the proved calls take it.
+fn setting(it: &Coordinate) -> (proved::Tag, i32) {
+    (proved::Tag::new(&it.tag.to_be_bytes()), it.value)
+}
+
 /// Coordinates as the proved calls take them. For a font that can't be opened its fault is answered, whatever memory there is.
 fn settings(
     data: &[u8],
@@ -84,7 +89,6 @@ fn settings(
         check_opening_at(data, index, choices.0.extras).map_err(refused)?;
         return Err(Error::OutOfMemory);
     }
-    let setting = |it: &Coordinate| (proved::Tag::new(&it.tag.to_be_bytes()), it.value);
     taken.extend(coordinates.iter().map(setting));
     Ok(taken)
 }
@@ -182,7 +186,7 @@ fn text(reason: Option<Reason>) -> Result<String, Error> {
 }
 
 /// The text of why a call was refused with a status, both by their numbers in `subsetter.h`; an empty one where the font doesn't show
-/// it. 0 tokens and a depth of 0 are those of [`Limits::default`](crate::Limits). None of an unknown call.
+/// it. None of an unknown call.
 ///
 /// # Errors
 ///
@@ -192,25 +196,33 @@ pub fn explain(
     status: u32,
     data: &[u8],
     index: u32,
+    coordinates: &[Coordinate],
     glyphs: &[u16],
-    tokens: u32,
-    depth: u8,
+    choices: &Choices,
 ) -> Option<Result<String, Error>> {
     let call = *CALLS.get(call as usize)?;
-    let tokens = if tokens == 0 { 1_000_000 } else { tokens };
-    let limits = proved::Limits::new(tokens, if depth == 0 { 64 } else { depth })?;
-    let reason = match status {
-        11 => Ok(reasons::find_prohibition(data, index)),
-        // (a missing table is a malformed font there, and bitmaps alone are an unknown kind)
-        1..=6 | 13 | 14 => {
-            let place = match status {
-                13 => 2,
-                14 => 1,
-                _ => status as usize,
-            };
-            reasons::explain(Global, call, ERRORS[place - 1], data, index, glyphs, &limits)
-        }
-        _ => Ok(None),
+    // (a missing table is a malformed font there, and bitmaps alone are an unknown kind)
+    let place = match status {
+        1..=6 => status as usize,
+        11 => return Some(text(reasons::find_prohibition(data, index))),
+        13 => 2,
+        14 => 1,
+        _ => return Some(text(None)),
     };
+    let mut settings = Vec::new();
+    if settings.try_reserve_exact(coordinates.len()).is_err() {
+        return Some(Err(Error::OutOfMemory));
+    }
+    settings.extend(coordinates.iter().map(setting));
+    let asked = reasons::Asked {
+        call,
+        error: ERRORS[place - 1],
+        index,
+        glyphs,
+        coordinates: &settings,
+        extras: choices.0.extras,
+        limits: choices.0.limits,
+    };
+    let reason = reasons::explain(Global, data, &asked);
     Some(reason.map_err(refused).and_then(text))
 }

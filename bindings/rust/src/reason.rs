@@ -1,11 +1,11 @@
 //! Why a call is refused.
 
-use crate::library::{within, ERRORS};
+use crate::library::{chosen, coordinates, ERRORS};
 #[cfg(feature = "variable-fonts")]
 use crate::pdf::FontError;
 use crate::proved::font_reasons as proved;
 use crate::rattle::alloc::Global;
-use crate::{Error, Limits, Tag};
+use crate::{Error, Options, Tag};
 use core::fmt;
 
 /// A call that was refused, with its error.
@@ -99,16 +99,17 @@ fn is_forbidden(call: Call) -> bool {
 /// Why a call on a font was refused, as the font's tables show it: what it names is in the font, or isn't there. None where they
 /// don't show it, or memory ran out.
 ///
-/// `data`, `index`, `glyphs` and `limits` are those of the call. A charstring (outlines in `CFF `) is run within the limits, once at
-/// most, and none after the first that can't be.
+/// `data`, `index`, `variation_coordinates`, `glyphs` and `options` are those of the call; calls without coordinates don't look at
+/// them, and of the options of [`pdf`](crate::pdf) the limits alone count. A charstring is run within the limits, once at most, and
+/// none after the first that can't be.
 ///
 /// ```
-/// use subsetter::{embed, explain, Call, Limits};
+/// use subsetter::{embed, explain, Call, Options};
 ///
 /// # let data = include_bytes!("../tests/data/made.ttf");
 /// // A font of twelve glyphs.
 /// let error = embed(data, 0, &[1, 60000]).unwrap_err();
-/// let reason = explain(Call::Embed(error), data, 0, &[1, 60000], &Limits::default()).unwrap();
+/// let reason = explain(Call::Embed(error), data, 0, &[], &[1, 60000], &Options::new()).unwrap();
 /// assert_eq!(format!("{error}: {reason}"), "malformed font: glyph 60000: the font's glyphs are 0 to 11");
 /// assert_eq!((reason.glyph(), reason.table().unwrap().get()), (Some(60000), b"maxp"));
 /// ```
@@ -116,14 +117,24 @@ pub fn explain(
     call: Call,
     data: &[u8],
     index: u32,
+    variation_coordinates: &[(Tag, f32)],
     glyphs: &[u16],
-    limits: &Limits,
+    options: &Options,
 ) -> Option<Reason> {
     if is_forbidden(call) {
         return proved::find_prohibition(data, index).map(Reason);
     }
     let (call, error) = taken(call);
-    let error = ERRORS[error? as usize];
-    let found = proved::explain(Global, call, error, data, index, glyphs, &within(limits));
+    let options = chosen(options);
+    let asked = proved::Asked {
+        call,
+        error: ERRORS[error? as usize],
+        index,
+        glyphs,
+        coordinates: &coordinates(variation_coordinates).ok()?,
+        extras: options.extras,
+        limits: options.limits,
+    };
+    let found = proved::explain(Global, data, &asked);
     found.ok().flatten().map(Reason)
 }

@@ -6,7 +6,7 @@ use subsetter::pdf::{
     codes_of, glyphs_of, pdf_font, Bounds, Codes, Direction, FontError, FontOptions, Layout, PartsError, PdfFont,
     ProgramChoice, Rights, Shown, SubsetTag,
 };
-use subsetter::{embed_with_variations, explain, Call, Error, Limits, Tag};
+use subsetter::{embed_with_variations, explain, Call, Error, Limits, Options, Tag};
 
 fn made(name: &str) -> Vec<u8> {
     fs::read(concat!(env!("CARGO_MANIFEST_DIR"), "/tests/data/").to_string() + name).unwrap()
@@ -291,7 +291,7 @@ fn the_first_error_is_answered() {
 fn the_font_shows_why() {
     let limits = |tokens| Limits::new(tokens, 64).unwrap();
     let why = |call, font: &[u8], glyph, tokens| {
-        let reason = explain(call, font, 0, &[glyph], &limits(tokens))?;
+        let reason = explain(call, font, 0, &[], &[glyph], &Options::new().limits(limits(tokens)))?;
         Some((reason.to_string(), reason.table(), reason.glyph()))
     };
     let found = |text: &str, tag, glyph| Some((text.to_string(), Some(Tag::new(tag)), glyph));
@@ -310,7 +310,7 @@ fn the_font_shows_why() {
     assert_eq!(why(Call::GlyphsOf(FontError::NoCmap), &without(&font, b"cmap"), 1, 5), lacking);
     let fixed = found("CFF2: its outlines are taken at coordinates alone", b"CFF2", None);
     assert_eq!(why(Call::Embed(Error::Unimplemented), &cff2, 1, 5), fixed);
-    let long = found("glyph 0: its charstring is wrong, or passes the limits", b"CFF ", Some(0));
+    let long = found("glyph 0: its charstring in CFF is wrong, or passes the limits", b"CFF ", Some(0));
     assert_eq!(why(Call::Subset(Error::CFFError), &cff, 1, 5), long);
     assert_eq!(why(Call::Subset(Error::CFFError), &cff, 1, 1_000_000), None);
 }
@@ -326,25 +326,38 @@ fn with_number(font: &[u8], tag: &[u8; 4], at: usize, number: u16) -> Vec<u8> {
 
 #[test]
 fn tables_of_a_variable_font_show_why() {
-    let (font, heavy) = (made("made_variable.ttf"), [(Tag::new(b"wght"), 650.0)]);
+    let (font, cff2) = (made("made_variable.ttf"), made("made_cff2.otf"));
+    let heavy = [(Tag::new(b"wght"), 650.0)];
     assert!(embed_with_variations(&font, 0, &heavy, &[1]).is_ok());
+    // (the tables that are read at the default are wrong there, too)
     let rows = [
-        (b"fvar", 0, 2, Error::Unimplemented, "fvar: its major version isn't 1"),
-        (b"gvar", 0, 2, Error::Unimplemented, "gvar: its major version isn't 1"),
-        (b"MVAR", 0, 2, Error::Unimplemented, "MVAR: its major version isn't 1"),
-        (b"fvar", 10, 19, Error::MalformedFont, "fvar: axisSize is 19, needs 20"),
-        (b"fvar", 8, 3, Error::MalformedFont, "fvar: 56 bytes, needs 76"),
-        (b"fvar", 8, 1, Error::MalformedFont, "gvar: axisCount is 2, that of fvar 1"),
-        (b"gvar", 12, 65535, Error::MalformedFont, "gvar: the table can't be read"),
-        (b"hmtx", 0, 0, Error::MalformedFont, ""),
+        (&font, b"fvar", 0, 2, Error::Unimplemented, "fvar: its major version isn't 1", true),
+        (&font, b"gvar", 0, 2, Error::Unimplemented, "gvar: its major version isn't 1", false),
+        (&font, b"MVAR", 0, 2, Error::Unimplemented, "MVAR: its major version isn't 1", false),
+        (&font, b"fvar", 10, 19, Error::MalformedFont, "fvar: axisSize is 19, needs 20", true),
+        (&font, b"fvar", 8, 3, Error::MalformedFont, "fvar: 56 bytes, needs 76", true),
+        (&font, b"fvar", 8, 1, Error::MalformedFont, "gvar: axisCount is 2, that of fvar 1", false),
+        (&font, b"gvar", 12, 65535, Error::MalformedFont, "gvar: the table can't be read", false),
+        (&font, b"gvar", 48, 32767, Error::MalformedFont, "glyph 1: its variation data in gvar can't be read", false),
+        (&font, b"MVAR", 6, 7, Error::MalformedFont, "MVAR: the value of hasc can't be read", false),
+        (&font, b"hmtx", 0, 0, Error::MalformedFont, "", false),
+        (&cff2, b"HVAR", 6, 0, Error::MalformedFont, "HVAR: the table can't be read", true),
+        (&cff2, b"HVAR", 48, 0, Error::MalformedFont, "glyph 0: its variation data in HVAR can't be read", true),
+        (&cff2, b"CFF2", 0, 0x0300, Error::MalformedFont, "CFF2: the table can't be read", true),
     ];
-    for (tag, at, number, error, text) in rows {
-        let changed = with_number(&font, tag, at, number);
+    for (font, tag, at, number, error, text, is_at_default) in rows {
+        let changed = with_number(font, tag, at, number);
+        let why = |coordinates: &[_], call: fn(Error) -> Call| {
+            let reason = explain(call(error), &changed, 0, coordinates, &[1], &Options::new());
+            reason.map_or(String::new(), |it| it.to_string())
+        };
         let refused = embed_with_variations(&changed, 0, &heavy, &[1]).err();
         assert_eq!(refused, Some(error).filter(|_| !text.is_empty()), "{text}");
-        let reason = explain(Call::EmbedWithVariations(error), &changed, 0, &[1], &Limits::default());
-        assert_eq!(reason.map_or(String::new(), |it| it.to_string()), text);
-        assert_eq!(explain(Call::Embed(error), &changed, 0, &[1], &Limits::default()), None);
+        assert_eq!(why(&heavy, Call::EmbedWithVariations), text);
+        let refused = embed_with_variations(&changed, 0, &[], &[1]).err();
+        assert_eq!(refused, Some(error).filter(|_| is_at_default), "{text}");
+        assert_eq!(why(&[], Call::EmbedWithVariations), if is_at_default { text } else { "" });
+        assert_eq!(why(&heavy, Call::Embed), "");
     }
 }
 

@@ -1,57 +1,46 @@
 -- Components of a composite, one after another.
-use Rattle.std.proofs.Common.{◌≡◌, ℕ, zero, suc, ◌<◌, Bool, cond, List, length, drop, Option, Some, None, sym, ap, ◌∙◌, arith}
-use Rattle.font_reasons.specs.File.{or_else}
-use Rattle.font_reasons.specs.Outlines.{Component, component_at, has_more, by_component, wrong_first, wrong_components, first_wrong, reached, reached_first, reached_by, reached_from_all, wrong_levels}
-use Rattle.font_reasons.specs.declared.reason.Reason.{Reason}
-use Rattle.font_reasons.specs.declared.reason.Reason.TheVariants.{CutComponent}
+use Rattle.std.proofs.Common.{◌≡◌, ℕ, zero, suc, ◌<◌, Bool, true, false, cond, List, [], ◌∷◌, ◌++◌, Option, Some, None, sym, ap, ◌∙◌, ◌≤◌, length, drop, arith}
+use Rattle.std.proofs.lemmas.List.{append-nil, append_assoc}
+use Rattle.font_reasons.specs.Outlines.{Component, Reach, Walked, component_at, has_more, levels_below, no_components, reached_below, reached_from, walked, walked_from}
 
-module _ (glyf loca : List ℕ) (format g : ℕ) where
-  -- a component that is cut
-  pub cut_here : (n : ℕ) (bytes : List ℕ) (total : Option Reason) → 0 < n → component_at bytes ≡ None → wrong_components glyf loca format g n bytes ≡ total → Some (CutComponent g) ≡ total
-  cut_here zero bytes total lt e h = absurd (omega arith)
-  cut_here (suc n) bytes total lt e h = sym (ap (wrong_first g (by_component glyf loca format g) (wrong_components glyf loca format g n)) e) ∙ h
+-- some glyphs, and the components that are walked after them
+abbrev pub after : List ℕ → Walked → Walked
+after front w = record { glyphs = front ++ w.glyphs; is_cut = w.is_cut }
 
-  -- a component that is there: what is wrong with it, or else with those after it, if there are any
-  first_is : (n k : ℕ) (bytes : List ℕ) (c : Component) (total : Option Reason) → n ≡ suc k → Some c ≡ component_at bytes → wrong_components glyf loca format g n bytes ≡ total
-      → or_else (by_component glyf loca format g c.glyph) (cond (has_more c.flags) (wrong_components glyf loca format g k c.after) None) ≡ total
-  first_is n k bytes c total is e h =
-      ap (wrong_first g (by_component glyf loca format g) (wrong_components glyf loca format g k)) e
-      ∙ sym (ap (λ m. wrong_components glyf loca format g m bytes) is) ∙ h
+abbrev pub ended : List ℕ → Bool → Walked
+ended glyphs is_cut = record { glyphs = glyphs; is_cut = is_cut }
 
-  pub wrong_here : (n k : ℕ) (bytes : List ℕ) (c : Component) (r : Reason) (total : Option Reason) → n ≡ suc k → Some c ≡ component_at bytes → Some r ≡ by_component glyf loca format g c.glyph
-      → wrong_components glyf loca format g n bytes ≡ total → Some r ≡ total
-  wrong_here n k bytes c r total is e w h =
-      ap (λ (x : Option Reason). or_else x (cond (has_more c.flags) (wrong_components glyf loca format g k c.after) None)) w ∙ first_is n k bytes c total is e h
+-- none after these
+pub no_more : (front : List ℕ) (is_cut : Bool) → ended front is_cut ≡ after front (ended [] is_cut)
+no_more front is_cut = ap (λ (l : List ℕ). ended l is_cut) (sym (append-nil front))
 
-  pub sound_here : (n k : ℕ) (bytes : List ℕ) (c : Component) (more : Bool) (total : Option Reason) → n ≡ suc k → Some c ≡ component_at bytes → None ≡ by_component glyf loca format g c.glyph
-      → more ≡ has_more c.flags → wrong_components glyf loca format g n bytes ≡ total → cond more (wrong_components glyf loca format g k c.after) None ≡ total
-  sound_here n k bytes c more total is e w m h =
-      ap (λ (b : Bool). cond b (wrong_components glyf loca format g k c.after) None) m
-      ∙ ap (λ (x : Option Reason). or_else x (cond (has_more c.flags) (wrong_components glyf loca format g k c.after) None)) w ∙ first_is n k bytes c total is e h
-
--- a component that is cut, and none after it
-pub none_reached : (n : ℕ) (seen bytes total : List ℕ) → component_at bytes ≡ None → reached_by n seen bytes ≡ total → seen ≡ total
-none_reached zero seen bytes total e h = h
-none_reached (suc n) seen bytes total e h = sym (ap (reached_first seen (reached_by n)) e) ∙ h
+-- a component that is cut
+pub cut_here : (n : ℕ) (front bytes : List ℕ) (total : Walked) → 0 < n → component_at bytes ≡ None → after front (walked n bytes) ≡ total → ended front true ≡ total
+cut_here zero front bytes total lt e h = absurd (omega arith)
+cut_here (suc n) front bytes total lt e h = no_more front true ∙ (sym (ap (λ c. after front (walked_from (walked n) c)) e) ∙ h)
 
 -- one that is there, and those after it, if there are any
-pub next_reached : (n k : ℕ) (seen new bytes : List ℕ) (c : Component) (more : Bool) (total : List ℕ) → n ≡ suc k → Some c ≡ component_at bytes → new ≡ reached seen c.glyph → more ≡ has_more c.flags
-    → reached_by n seen bytes ≡ total → cond more (reached_by k new c.after) new ≡ total
-next_reached n k seen new bytes c more total is e r m h =
-    ap (λ (b : Bool). cond b (reached_by k new c.after) new) m
-    ∙ ap (λ (l : List ℕ). cond (has_more c.flags) (reached_by k l c.after) l) r
-    ∙ ap (reached_first seen (reached_by k)) e ∙ sym (ap (λ m. reached_by m seen bytes) is) ∙ h
+pub next_walked : (n k : ℕ) (front bytes : List ℕ) (c : Component) (more : Bool) (total : Walked) → n ≡ suc k → Some c ≡ component_at bytes → more ≡ has_more c.flags
+    → after front (walked n bytes) ≡ total → after (front ++ c.glyph ∷ []) (cond more (walked k c.after) no_components) ≡ total
+next_walked n k front bytes c more total is e m h =
+    ap (λ (b : Bool). after (front ++ c.glyph ∷ []) (cond b (walked k c.after) no_components)) m
+    ∙ (ap (λ (l : List ℕ). ended l (cond (has_more c.flags) (walked k c.after) no_components).is_cut) (append_assoc front (c.glyph ∷ []) (cond (has_more c.flags) (walked k c.after) no_components).glyphs)
+    ∙ (ap (λ x. after front (walked_from (walked k) x)) e ∙ (sym (ap (λ m. after front (walked m bytes)) is) ∙ h)))
 
--- a level with a glyph that is wrong, and one without, before the levels below it
-module _ (glyf loca : List ℕ) (format n k from : ℕ) (seen level : List ℕ) (total : Option Reason) where
-  pub wrong_level : (r : Reason) → n ≡ suc k → level ≡ drop from seen → Some r ≡ first_wrong glyf loca format level → wrong_levels glyf loca format n from seen ≡ total → Some r ≡ total
-  wrong_level r is l w h =
-      ap (λ (x : Option Reason). or_else x (wrong_levels glyf loca format k (length seen) (reached_from_all glyf loca format seen (drop from seen)))) (w ∙ ap (first_wrong glyf loca format) l)
-      ∙ sym (ap (λ m. wrong_levels glyf loca format m from seen) is) ∙ h
+-- a level, before those below it
+module _ (glyf loca : List ℕ) (format n k : ℕ) (r new : Reach) (level total : List ℕ) where
+  pub one_below : (from : ℕ) → n ≡ suc k → level ≡ drop from r.seen → new ≡ reached_from glyf loca format r level → reached_below glyf loca format n from r ≡ total → reached_below glyf loca format k (length r.seen) new ≡ total
+  one_below from is l w h =
+      ap (reached_below glyf loca format k (length r.seen)) (w ∙ ap (reached_from glyf loca format r) l) ∙ (sym (ap (λ m. reached_below glyf loca format m from r) is) ∙ h)
 
-  pub sound_level : (new : List ℕ) → n ≡ suc k → level ≡ drop from seen → None ≡ first_wrong glyf loca format level → new ≡ reached_from_all glyf loca format seen level → wrong_levels glyf loca format n from seen ≡ total
-      → wrong_levels glyf loca format k (length seen) new ≡ total
-  sound_level new is l w r h =
-      ap (wrong_levels glyf loca format k (length seen)) (r ∙ ap (reached_from_all glyf loca format seen) l)
-      ∙ ap (λ (x : Option Reason). or_else x (wrong_levels glyf loca format k (length seen) (reached_from_all glyf loca format seen (drop from seen)))) (w ∙ ap (first_wrong glyf loca format) l)
-      ∙ sym (ap (λ m. wrong_levels glyf loca format m from seen) is) ∙ h
+  pub one_deeper : (fresh : List ℕ) → n ≡ suc k → level ≡ drop 1 r.seen → fresh ≡ 0 ∷ [] → new ≡ reached_from glyf loca format (record { steps = r.steps; seen = fresh }) level → levels_below glyf loca format n r ≡ total
+      → levels_below glyf loca format k new ≡ total
+  unfolding levels_below
+  one_deeper fresh is l f w h =
+      ap (levels_below glyf loca format k) (w ∙ (ap (λ (s : List ℕ). reached_from glyf loca format (record { steps = r.steps; seen = s }) level) f ∙ ap (reached_from glyf loca format (record { steps = r.steps; seen = 0 ∷ [] })) l))
+      ∙ (sym (ap (λ m. levels_below glyf loca format m r) is) ∙ h)
+
+pub last_level : (glyf loca : List ℕ) (format n : ℕ) (r : Reach) (level total : List ℕ) → n ≤ 0 → level ≡ drop 1 r.seen → levels_below glyf loca format n r ≡ total → level ≡ total
+unfolding levels_below
+last_level glyf loca format zero r level total le l h = l ∙ h
+last_level glyf loca format (suc n) r level total le l h = absurd (omega arith)

@@ -2,7 +2,7 @@
 use Rattle.std.specs.Prelude.{ℕ, Option, Some, None, codes}
 use Rattle.subsetter_base.specs.declared.tag.Tag.{Tag}
 use Rattle.font_reasons.specs.declared.reason.Reason.{Reason}
-use Rattle.font_reasons.specs.declared.reason.Reason.TheVariants.{Cut, BitmapsAlone, NoGlyph, NoTable, NoEntries, Descends, Outside, CutHeader, CutComponent, ByComponent, NoMetrics, FewMetrics, NoMetric, NoUnits, Short, LostName, NoUnicode, OnlyCff2, Forbidden, OtherVersion, AxisSize, AxisCount, WrongGvar, OtherCff, WrongCff, NoCharstring, WrongCharstring, Composed}
+use Rattle.font_reasons.specs.declared.reason.Reason.TheVariants.{Cut, BitmapsAlone, NoGlyph, NoTable, NoEntries, Descends, Outside, CutHeader, CutComponent, ByComponent, NoMetrics, FewMetrics, NoMetric, NoUnits, Short, LostName, NoUnicode, OnlyCff2, Forbidden, OtherVersion, AxisSize, AxisCount, Unread, NoCharstring, WrongCharstring, Composed, WrongOutline, Deep, Unvaried, WrongMetric}
 
 -- the table whose bytes show it, or that isn't there
 abbrev pub reason_table : Reason → Option Tag
@@ -28,12 +28,14 @@ reason_table (Forbidden fs_type bit) = Some (record { 0 = codes "OS/2" })
 reason_table (OtherVersion tag) = Some tag
 reason_table (AxisSize size) = Some (record { 0 = codes "fvar" })
 reason_table (AxisCount tag count axes) = Some tag
-reason_table WrongGvar = Some (record { 0 = codes "gvar" })
-reason_table OtherCff = Some (record { 0 = codes "CFF " })
-reason_table WrongCff = Some (record { 0 = codes "CFF " })
-reason_table (NoCharstring glyph) = Some (record { 0 = codes "CFF " })
-reason_table (WrongCharstring glyph) = Some (record { 0 = codes "CFF " })
+reason_table (Unread tag) = Some tag
+reason_table (NoCharstring tag glyph) = Some tag
+reason_table (WrongCharstring tag glyph) = Some tag
 reason_table (Composed glyph) = Some (record { 0 = codes "CFF " })
+reason_table (WrongOutline glyph) = Some (record { 0 = codes "glyf" })
+reason_table (Deep glyph) = Some (record { 0 = codes "glyf" })
+reason_table (Unvaried tag glyph) = Some tag
+reason_table (WrongMetric tag) = Some (record { 0 = codes "MVAR" })
 reason_table reason = None
 
 -- the glyph that it is about
@@ -46,7 +48,10 @@ reason_glyph (CutHeader glyph) = Some glyph
 reason_glyph (CutComponent glyph) = Some glyph
 reason_glyph (ByComponent glyph component) = Some glyph
 reason_glyph (NoMetric glyph) = Some glyph
-reason_glyph (NoCharstring glyph) = Some glyph
-reason_glyph (WrongCharstring glyph) = Some glyph
+reason_glyph (NoCharstring tag glyph) = Some glyph
+reason_glyph (WrongCharstring tag glyph) = Some glyph
 reason_glyph (Composed glyph) = Some glyph
+reason_glyph (WrongOutline glyph) = Some glyph
+reason_glyph (Deep glyph) = Some glyph
+reason_glyph (Unvaried tag glyph) = Some glyph
 reason_glyph reason = None

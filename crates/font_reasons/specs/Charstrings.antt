@@ -1,44 +1,55 @@
--- What is wrong with a `CFF ` table (Technical Note 5176), or with the charstring of one of its glyphs (Technical Note 5177).
-use Rattle.std.specs.Prelude.{ℕ, nat_lt, if◌then◌else◌, List, [], ◌∷◌, length, Option, Some, None, Result, Ok, Err, codes}
-use Rattle.subsetter_base.specs.Indexes.{with_glyphs}
+-- What is wrong with a table `CFF ` (Technical Note 5176) or `CFF2` (OpenType, "CFF2"), or with the charstring of one of its glyphs.
+use Rattle.std.specs.Prelude.{ℕ, List, [], ◌∷◌, length, slice_get, Option, Some, None, Result, Ok, Err, ℤ, pos, codes}
+use Rattle.std.specs.Option.{ok_or}
+use Rattle.subsetter_base.specs.Bytes.{◌>>=◌}
 use Rattle.subsetter_base.specs.declared.error.Error.{Error as Refusal}
 use Rattle.subsetter_base.specs.declared.error.Error.TheVariants.{MalformedFont, Unimplemented, CFFError}
+use Rattle.subsetter_base.specs.declared.tag.Tag.{Tag}
+use Rattle.subsetter_blend.specs.Resolved.{resolved}
+use Rattle.subsetter_blend.specs.Runs.Machine.{Setting}
 use Rattle.subsetter_sfnt.specs.Read.{Font, stored}
 use Rattle.subsetter_cff.specs.Read.Cff.{Cff}
 use Rattle.subsetter_cff.specs.Read.Opened.{opened}
-use Rattle.subsetter_cff.specs.Write.Plain.{KeptGlyph, kept_glyph}
+use Rattle.subsetter_cff.specs.Write.Plain.{kept_glyph}
+use Rattle.subsetter_cff2.specs.Cff2.{Cff2, cff2_parts}
+use Rattle.subsetter_cff2.specs.Made2.{NewDict, new_dicts}
+use Rattle.subsetter_cff2.specs.PrivateDicts.Private2.{font_dict_number, char_string}
+use Rattle.subsetter_cff2.specs.Variation.{Variation, font_scalars, optional_variation}
 use Rattle.font_reasons.specs.declared.reason.Reason.{Reason}
-use Rattle.font_reasons.specs.declared.reason.Reason.TheVariants.{OtherCff, WrongCff, NoCharstring, WrongCharstring, Composed}
+use Rattle.font_reasons.specs.declared.reason.Reason.TheVariants.{OtherVersion, Unread, NoCharstring, WrongCharstring, Composed}
+
+abbrev pub cff_tag : Tag
+cff_tag = record { 0 = codes "CFF " }
+
+abbrev pub cff2_tag : Tag
+cff2_tag = record { 0 = codes "CFF2" }
 
 -- what the error of a glyph says of it: its charstring or its private dict isn't there, or it can't be run, or puts two others together
-abbrev pub glyph_reason : ℕ → Refusal → Option Reason
-glyph_reason g MalformedFont = Some (NoCharstring g)
-glyph_reason g CFFError = Some (WrongCharstring g)
-glyph_reason g Unimplemented = Some (Composed g)
-glyph_reason g other = None
+abbrev pub glyph_reason : Tag → ℕ → Refusal → Option Reason
+glyph_reason tag g MalformedFont = Some (NoCharstring tag g)
+glyph_reason tag g CFFError = Some (WrongCharstring tag g)
+glyph_reason tag g Unimplemented = Some (Composed g)
+glyph_reason tag g other = None
 
--- of the first of these glyphs that isn't kept within limits on a run
-abbrev pub refusal_by : ℕ → Result KeptGlyph Refusal → Option Reason → Option Reason
-refusal_by g (Err e) others = glyph_reason g e
-refusal_by g (Ok kept) others = others
+-- of the first of these glyphs that isn't taken, as one call or another takes them
+abbrev pub refusal_by : {X : Type 0} → Tag → ℕ → Result X Refusal → Option Reason → Option Reason
+refusal_by tag g (Err e) others = glyph_reason tag g e
+refusal_by tag g (Ok taken) others = others
 
-abbrev pub first_refusal : Cff → ℕ → ℕ → List ℕ → Option Reason
-first_refusal cff tokens depth [] = None
-first_refusal cff tokens depth (g ∷ glyphs) = refusal_by g (kept_glyph cff tokens depth g) (first_refusal cff tokens depth glyphs)
+abbrev pub first_refusal : {X : Type 0} → Tag → (ℕ → Result X Refusal) → List ℕ → Option Reason
+first_refusal tag take [] = None
+first_refusal tag take (g ∷ glyphs) = refusal_by tag g (take g) (first_refusal tag take glyphs)
 
 -- what the error of a table that isn't opened says of it
 abbrev pub table_reason : Refusal → Option Reason
-table_reason CFFError = Some OtherCff
-table_reason MalformedFont = Some WrongCff
+table_reason CFFError = Some (OtherVersion cff_tag)
+table_reason MalformedFont = Some (Unread cff_tag)
 table_reason other = None
 
--- of glyph 0 and the given glyphs, each once, which are no more than 65,535
-abbrev pub reason_in : Cff → ℕ → ℕ → List ℕ → Option Reason
-reason_in cff tokens depth glyphs = if nat_lt 65535 (length (with_glyphs (0 ∷ []) glyphs)) then None else first_refusal cff tokens depth (with_glyphs (0 ∷ []) glyphs)
-
+-- of glyphs that are kept within limits on a run
 abbrev pub opened_reason : ℕ → ℕ → List ℕ → Result Cff Refusal → Option Reason
 opened_reason tokens depth glyphs (Err e) = table_reason e
-opened_reason tokens depth glyphs (Ok cff) = reason_in cff tokens depth glyphs
+opened_reason tokens depth glyphs (Ok cff) = first_refusal cff_tag (kept_glyph cff tokens depth) glyphs
 
 -- a face with `glyf` has its outlines there
 abbrev pub cff_reason_by : ℕ → ℕ → List ℕ → Option (List ℕ) → Option (List ℕ) → Option Reason
@@ -48,3 +59,40 @@ cff_reason_by tokens depth glyphs None (Some cff) = opened_reason tokens depth g
 
 abbrev pub cff_reason : Font → ℕ → ℕ → List ℕ → Option Reason
 cff_reason font tokens depth glyphs = cff_reason_by tokens depth glyphs (stored font (codes "glyf")) (stored font (codes "CFF "))
+
+-- ---- `CFF2` at a location
+
+-- a table that is opened, and what varies in it
+pub record Opened2 : Type 0 where
+  pub cff : Cff2
+  pub variation : Option Variation
+
+unfoldable pub open2 : List ℕ → List ℤ → Result Opened2 Refusal
+open2 bytes at = do
+  cff ← ok_or (cff2_parts bytes (length at)) MalformedFont
+  variation ← ok_or (optional_variation cff.store at) MalformedFont
+  Ok (record { cff = cff; variation = variation })
+
+-- a glyph's private dict there
+unfoldable pub dict_of : Opened2 → ℕ → Result NewDict Refusal
+dict_of o g = do
+  number ← ok_or (font_dict_number o.cff g) MalformedFont
+  dicts ← new_dicts o.cff o.variation (number ∷ [])
+  ok_or (slice_get dicts 0) MalformedFont
+
+abbrev pub setting : Opened2 → NewDict → Setting
+setting o dict = record { library = record { global = o.cff.subroutines; local = dict.subroutines }; scalars = font_scalars o.variation }
+
+-- a glyph's charstring there, run within limits; its width doesn't count
+unfoldable pub run2 : Opened2 → ℕ → ℕ → ℕ → Result (List ℕ) Refusal
+run2 o tokens depth g = do
+  dict ← dict_of o g
+  charstring ← ok_or (char_string o.cff g) MalformedFont
+  resolved (setting o dict) tokens depth dict.data_index (pos 0) charstring
+
+abbrev pub opened2_reason : ℕ → ℕ → List ℕ → Result Opened2 Refusal → Option Reason
+opened2_reason tokens depth glyphs (Err e) = Some (Unread cff2_tag)
+opened2_reason tokens depth glyphs (Ok o) = first_refusal cff2_tag (run2 o tokens depth) glyphs
+
+abbrev pub cff2_reason : List ℤ → ℕ → ℕ → List ℕ → List ℕ → Option Reason
+cff2_reason at tokens depth glyphs bytes = opened2_reason tokens depth glyphs (open2 bytes at)

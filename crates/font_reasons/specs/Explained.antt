@@ -1,21 +1,24 @@
 -- Why a call is refused, by its error: the first of these that is there.
-use Rattle.std.specs.Prelude.{ℕ, ◌==◌, if◌then◌else◌, Bool, true, false, List, Option, Some, None, codes}
+use Rattle.std.specs.Prelude.{ℕ, ◌==◌, nat_lt, if◌then◌else◌, Bool, true, false, List, [], ◌∷◌, length, Option, Some, None, codes}
 use Rattle.std.specs.Option.{option_and_then}
+use Rattle.subsetter_base.specs.Indexes.{with_glyphs}
 use Rattle.subsetter_base.specs.declared.error.Error.{Error as Refusal}
 use Rattle.subsetter_base.specs.declared.error.Error.TheVariants.{UnknownKind, MalformedFont, Unimplemented, SubsetError, OverflowError, CFFError, OutOfMemory}
 use Rattle.subsetter_sfnt.specs.Fields.Head.{units_per_em}
 use Rattle.subsetter_sfnt.specs.Read.{Font, stored}
+use Rattle.subsetter_sfnt.specs.declared.extras.Extras.{Extras}
 use Rattle.text_glyphs.specs.Choice.{Chosen, chosen}
+use Rattle.font_reasons.specs.Calls.{Question, face_in, keeps_glyph_names, keeps_names, takes_outlines}
 use Rattle.font_reasons.specs.Charstrings.{cff_reason}
 use Rattle.font_reasons.specs.File.{or_else}
 use Rattle.font_reasons.specs.Names.{lost_name}
 use Rattle.font_reasons.specs.Outlines.{tree_reason}
 use Rattle.font_reasons.specs.Parts.{no_metric, no_table, wrong_metrics}
-use Rattle.font_reasons.specs.Request.{no_font_or_glyph, not_kept, reason_of_unknown, wrong_source, wrong_table}
-use Rattle.font_reasons.specs.Short.{short_header, short_post}
-use Rattle.font_reasons.specs.Variations.{other_variations, wrong_variations}
-use Rattle.font_reasons.specs.declared.explained.Call.{Call}
-use Rattle.font_reasons.specs.declared.explained.Call.TheVariants.{Subset, SubsetAt, Embed, EmbedAt, PdfFont, GlyphsOf, Advances}
+use Rattle.font_reasons.specs.Short.{short_header, short_name, short_post}
+use Rattle.font_reasons.specs.Source.{no_font_or_glyph, reason_of_unknown, wrong_source, wrong_table}
+use Rattle.font_reasons.specs.Varying.{varied_reason}
+use Rattle.font_reasons.specs.declared.asked.Call.{Call}
+use Rattle.font_reasons.specs.declared.asked.Call.TheVariants.{Subset, SubsetAt, Embed, EmbedAt, PdfFont, GlyphsOf, Advances}
 use Rattle.font_reasons.specs.declared.reason.Reason.{Reason}
 use Rattle.font_reasons.specs.declared.reason.Reason.TheVariants.{NoUnits, NoUnicode, OnlyCff2}
 
@@ -66,47 +69,43 @@ only_cff2_by glyf cff other = None
 abbrev pub only_cff2 : Font → Option Reason
 only_cff2 font = only_cff2_by (stored font (codes "glyf")) (stored font (codes "CFF ")) (stored font (codes "CFF2"))
 
--- what isn't read: at coordinates tables of another version
 abbrev pub not_read : Call → Font → Option Reason
 not_read Subset font = only_cff2 font
 not_read Embed font = only_cff2 font
-not_read GlyphsOf font = None
-not_read other font = other_variations font
+not_read other font = None
 
 -- the tables that are read for advances
 unfoldable pub wrong_advances : Font → Option Reason
 wrong_advances font = or_else (short_header font) (wrong_table font)
 
 -- what is wrong with the tables that a call reads; glyphs of characters are found by `cmap` alone
-unfoldable pub wrong_for : Call → Font → List ℕ → Option Reason
-wrong_for Subset font glyphs = wrong_source font glyphs
-wrong_for SubsetAt font glyphs = wrong_source font glyphs
-wrong_for Embed font glyphs = wrong_source font glyphs
-wrong_for EmbedAt font glyphs = wrong_source font glyphs
-wrong_for PdfFont font glyphs = wrong_source font glyphs
-wrong_for GlyphsOf font glyphs = None
-wrong_for Advances font glyphs = wrong_advances font
+unfoldable pub wrong_for : Call → Font → Option Reason
+wrong_for Subset font = wrong_source font
+wrong_for SubsetAt font = wrong_source font
+wrong_for Embed font = wrong_source font
+wrong_for EmbedAt font = wrong_source font
+wrong_for PdfFont font = wrong_source font
+wrong_for GlyphsOf font = None
+wrong_for Advances font = wrong_advances font
 
--- what the tables show, but for charstrings
+-- what the tables show, but for glyphs that are there
 abbrev pub malformed : Call → Font → List ℕ → Option Reason
-malformed call font glyphs = or_else (no_font_or_glyph font glyphs) (or_else (lacks call font) (wrong_for call font glyphs))
+malformed call font glyphs = or_else (no_font_or_glyph font glyphs) (or_else (lacks call font) (wrong_for call font))
 
--- names that aren't kept; a font for a PDF has none
-abbrev pub lost_for : Call → Font → Option Reason
-lost_for Subset font = lost_name font
-lost_for SubsetAt font = lost_name font
-lost_for Embed font = lost_name font
-lost_for EmbedAt font = lost_name font
-lost_for other font = None
+-- names that aren't kept
+abbrev pub lost_for : Call → Extras → Font → Option Reason
+lost_for call x font = if keeps_names call x then lost_name font else None
 
-unfoldable pub shown : Call → Refusal → Font → List ℕ → Option Reason
-shown call UnknownKind font glyphs = reason_of_unknown font
-shown call MalformedFont font glyphs = malformed call font glyphs
-shown call Unimplemented font glyphs = not_read call font
-shown call SubsetError font glyphs = lost_for call font
-shown call OverflowError font glyphs = wrong_metrics font
-shown call CFFError font glyphs = None
-shown call OutOfMemory font glyphs = None
+unfoldable pub shown : Call → Refusal → Extras → Font → List ℕ → Option Reason
+shown call UnknownKind x font glyphs = reason_of_unknown font
+shown call MalformedFont x font glyphs = malformed call font glyphs
+shown call Unimplemented x font glyphs = not_read call font
+shown call SubsetError x font glyphs = lost_for call x font
+shown call OverflowError x font glyphs = wrong_metrics font
+shown call CFFError x font glyphs = None
+shown call OutOfMemory x font glyphs = None
+
+-- ---- glyphs
 
 -- the errors that charstrings can be why of
 abbrev pub is_of_charstrings : Refusal → Bool
@@ -116,57 +115,56 @@ is_of_charstrings CFFError = true
 is_of_charstrings other = false
 
 abbrev pub of_charstrings : Refusal → Font → ℕ → ℕ → List ℕ → Option Reason
-of_charstrings e font tokens depth glyphs = if is_of_charstrings e then cff_reason font tokens depth glyphs else None
-
--- calls on the outlines of glyphs
-abbrev pub takes_outlines : Call → Bool
-takes_outlines GlyphsOf = false
-takes_outlines Advances = false
-takes_outlines other = true
+of_charstrings e font tokens depth all = if is_of_charstrings e then cff_reason font tokens depth all else None
 
 -- components of `glyf` at any level, down to the depth of the call
-abbrev pub of_components : Call → Refusal → Font → ℕ → List ℕ → Option Reason
-of_components call MalformedFont font depth glyphs = if takes_outlines call then tree_reason font depth glyphs else None
-of_components call other font depth glyphs = None
+abbrev pub of_components : Refusal → Font → ℕ → ℕ → List ℕ → Option Reason
+of_components MalformedFont font tokens depth all = tree_reason font tokens depth all
+of_components other font tokens depth all = None
 
-unfoldable pub of_outlines : Call → Refusal → Font → ℕ → ℕ → List ℕ → Option Reason
-of_outlines call e font tokens depth glyphs = or_else (of_charstrings e font tokens depth glyphs) (of_components call e font depth glyphs)
+abbrev pub of_either : Refusal → Font → ℕ → ℕ → List ℕ → Option Reason
+of_either e font tokens depth all = or_else (of_charstrings e font tokens depth all) (of_components e font tokens depth all)
 
--- what is looked at last: the metrics of each glyph, and names, of which a font for a PDF has `post` alone
-unfoldable pub not_kept_by : Call → Font → List ℕ → Option Reason
-not_kept_by Subset font glyphs = not_kept font glyphs
-not_kept_by SubsetAt font glyphs = not_kept font glyphs
-not_kept_by Embed font glyphs = not_kept font glyphs
-not_kept_by EmbedAt font glyphs = not_kept font glyphs
-not_kept_by PdfFont font glyphs = or_else (no_metric font glyphs) (short_post font)
-not_kept_by GlyphsOf font glyphs = None
-not_kept_by Advances font glyphs = no_metric font glyphs
+abbrev pub of_outlines : Call → Refusal → Font → ℕ → ℕ → List ℕ → Option Reason
+of_outlines call e font tokens depth all = if takes_outlines call then of_either e font tokens depth all else None
 
--- and what varies, at coordinates, or what that is read with: `hmtx`, `maxp` and `head`
-abbrev pub no_metrics : Font → Option Reason
-no_metrics font = or_else (no_table font (record { 0 = codes "hmtx" })) (or_else (no_table font (record { 0 = codes "maxp" })) (no_table font (record { 0 = codes "head" })))
+-- glyph 0 and the given glyphs, each once, if these are no more than 65,535
+abbrev pub numbered : List ℕ → Option (List ℕ)
+numbered glyphs = if nat_lt 65535 (length (with_glyphs (0 ∷ []) glyphs)) then None else Some (with_glyphs (0 ∷ []) glyphs)
 
-unfoldable pub wrong_at : Font → Option Reason
-wrong_at font = or_else (wrong_variations font) (no_metrics font)
+-- outlines, and then what varies
+abbrev pub of_numbered : Question → Font → Option (List ℕ) → Option Reason
+of_numbered a font None = None
+of_numbered a font (Some all) = or_else (of_outlines a.call a.error font a.tokens a.depth all) (varied_reason a font all)
 
-unfoldable pub wrong_variations_for : Call → Font → Option Reason
-wrong_variations_for Subset font = None
-wrong_variations_for SubsetAt font = wrong_at font
-wrong_variations_for Embed font = None
-wrong_variations_for EmbedAt font = wrong_at font
-wrong_variations_for PdfFont font = wrong_at font
-wrong_variations_for GlyphsOf font = None
-wrong_variations_for Advances font = wrong_at font
+-- ---- what is looked at last
 
-unfoldable pub malformed_last : Call → Font → List ℕ → Option Reason
-malformed_last call font glyphs = or_else (not_kept_by call font glyphs) (wrong_variations_for call font)
+-- names that are kept, and names of glyphs
+abbrev pub short_names : Call → Extras → Font → Option Reason
+short_names call x font = if keeps_names call x then short_name font else None
 
-abbrev pub shown_last : Call → Refusal → Font → List ℕ → Option Reason
-shown_last call MalformedFont font glyphs = malformed_last call font glyphs
-shown_last call other font glyphs = None
+abbrev pub wrong_names : Call → Extras → Font → Option Reason
+wrong_names call x font = or_else (short_post (keeps_glyph_names call x) font) (short_names call x font)
 
-abbrev pub seen_last : Call → Refusal → Font → ℕ → ℕ → List ℕ → Option Reason
-seen_last call e font tokens depth glyphs = or_else (of_outlines call e font tokens depth glyphs) (shown_last call e font glyphs)
+-- after the metrics of each glyph
+unfoldable pub not_kept : Call → Extras → Font → List ℕ → Option Reason
+not_kept call x font glyphs = or_else (no_metric font glyphs) (wrong_names call x font)
 
-abbrev pub explained : Call → Refusal → Font → ℕ → ℕ → List ℕ → Option Reason
-explained call e font tokens depth glyphs = or_else (shown call e font glyphs) (seen_last call e font tokens depth glyphs)
+unfoldable pub not_kept_by : Call → Extras → Font → List ℕ → Option Reason
+not_kept_by Subset x font glyphs = not_kept Subset x font glyphs
+not_kept_by SubsetAt x font glyphs = not_kept SubsetAt x font glyphs
+not_kept_by Embed x font glyphs = not_kept Embed x font glyphs
+not_kept_by EmbedAt x font glyphs = not_kept EmbedAt x font glyphs
+not_kept_by PdfFont x font glyphs = not_kept PdfFont x font glyphs
+not_kept_by GlyphsOf x font glyphs = None
+not_kept_by Advances x font glyphs = no_metric font glyphs
+
+abbrev pub shown_last : Call → Refusal → Extras → Font → List ℕ → Option Reason
+shown_last call MalformedFont x font glyphs = not_kept_by call x font glyphs
+shown_last call other x font glyphs = None
+
+abbrev pub seen_last : Question → Font → Option Reason
+seen_last a font = or_else (of_numbered a font (numbered a.glyphs)) (shown_last a.call a.error a.extras font a.glyphs)
+
+abbrev pub explained : Question → List ℕ → Option Reason
+explained a bytes = or_else (shown a.call a.error a.extras (face_in a bytes) a.glyphs) (seen_last a (face_in a bytes))

@@ -1,4 +1,5 @@
 pub mod About
+pub mod Calls
 pub mod Charstrings
 pub mod Directory
 pub mod Explained
@@ -7,8 +8,9 @@ pub mod Names
 pub mod Outlines
 pub mod Parts
 pub mod Permission
-pub mod Request
 pub mod Short
+pub mod Source
 pub mod Texts
 pub mod Variations
+pub mod Varying
 pub mod View

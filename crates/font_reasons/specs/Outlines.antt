@@ -1,12 +1,13 @@
 -- What is wrong with TrueType outlines (OpenType, "glyf" and "loca").
-use Rattle.std.specs.Prelude.{ℕ, zero, suc, ◌+◌, ◌*◌, ◌==◌, Bool, nat_lt, if◌then◌else◌, List, [], ◌∷◌, length, drop, Option, Some, None, codes}
+use Rattle.std.specs.Prelude.{ℕ, zero, suc, ◌+◌, ◌-◌, ◌*◌, ◌==◌, Bool, true, false, nat_lt, if◌then◌else◌, List, [], ◌∷◌, length, drop, Option, Some, None, codes}
 use Rattle.std.specs.Option.{option_and_then, option_map}
 use Rattle.subsetter_base.specs.Bytes.{number, between_offsets, from_offset, has_flag}
-use Rattle.subsetter_base.specs.Indexes.{with_glyph, with_glyphs}
+use Rattle.subsetter_base.specs.Indexes.{with_glyph}
 use Rattle.subsetter_sfnt.specs.Read.{Font, stored}
-use Rattle.font_reasons.specs.File.{or_else, missing_table}
+use Rattle.font_reasons.specs.File.{or_else}
+use Rattle.font_reasons.specs.Parts.{no_table}
 use Rattle.font_reasons.specs.declared.reason.Reason.{Reason}
-use Rattle.font_reasons.specs.declared.reason.Reason.TheVariants.{NoEntries, Descends, Outside, CutHeader, CutComponent, ByComponent}
+use Rattle.font_reasons.specs.declared.reason.Reason.TheVariants.{NoEntries, Descends, Outside, CutHeader, CutComponent, ByComponent, Deep}
 
 -- an entry of `loca`: an offset, or in the format 0 half of one (OpenType, "loca")
 abbrev pub entry : List ℕ → ℕ → ℕ → Option ℕ
@@ -57,106 +58,144 @@ component_at bytes =
 abbrev pub has_more : ℕ → Bool
 has_more flags = has_flag flags 0x0020
 
+-- the glyphs of some components, one after the other, and whether the one after them is cut
+pub record Walked : Type 0 where
+  pub glyphs : List ℕ
+  pub is_cut : Bool
+
+abbrev pub no_components : Walked
+no_components = record { glyphs = []; is_cut = false }
+
+abbrev pub with_first : ℕ → Walked → Walked
+with_first g w = record { glyphs = g ∷ w.glyphs; is_cut = w.is_cut }
+
+-- the first one, and those after it
+abbrev pub walked_from : (List ℕ → Walked) → Option Component → Walked
+walked_from later None = record { glyphs = []; is_cut = true }
+walked_from later (Some c) = with_first c.glyph (if has_more c.flags then later c.after else no_components)
+
+-- at most n
+abbrev pub walked : ℕ → List ℕ → Walked
+walked zero bytes = no_components
+walked (suc n) bytes = walked_from (walked n) (component_at bytes)
+
+-- numberOfContours is below 0 for a composite, whose components begin after a header of ten bytes; a component has six at least
+abbrev pub components_by : List ℕ → Option ℕ → Option Walked
+components_by bytes None = if length bytes == 0 then Some no_components else None
+components_by bytes (Some contours) = if nat_lt contours 0x8000 then Some no_components else option_map (walked (length bytes)) (from_offset bytes 10)
+
+-- of an outline, unless its header is cut
+abbrev pub components_in : List ℕ → Option Walked
+components_in bytes = components_by bytes (number bytes 0 2)
+
 -- what is wrong with the range of a component's outline
 abbrev pub by_component : List ℕ → List ℕ → ℕ → ℕ → ℕ → Option Reason
 by_component glyf loca format g component = option_map (λ reason. ByComponent g component) (wrong_outline glyf loca format component)
 
--- what is wrong with the first component, or else later
-abbrev pub wrong_first : ℕ → (ℕ → Option Reason) → (List ℕ → Option Reason) → Option Component → Option Reason
-wrong_first g wrong later None = Some (CutComponent g)
-wrong_first g wrong later (Some c) = or_else (wrong c.glyph) (if has_more c.flags then later c.after else None)
+-- of the first that is wrong
+abbrev pub by_components : List ℕ → List ℕ → ℕ → ℕ → List ℕ → Option Reason
+by_components glyf loca format g [] = None
+by_components glyf loca format g (c ∷ components) = or_else (by_component glyf loca format g c) (by_components glyf loca format g components)
 
--- what is wrong with the first of at most n components that is wrong
-abbrev pub wrong_components : List ℕ → List ℕ → ℕ → ℕ → ℕ → List ℕ → Option Reason
-wrong_components glyf loca format g zero bytes = None
-wrong_components glyf loca format g (suc n) bytes = wrong_first g (by_component glyf loca format g) (wrong_components glyf loca format g n) (component_at bytes)
+abbrev pub cut_component : ℕ → Bool → Option Reason
+cut_component g is_cut = if is_cut then Some (CutComponent g) else None
 
--- the components begin after a header of ten bytes; a component has six at least
-abbrev pub wrong_composite : List ℕ → List ℕ → ℕ → ℕ → ℕ → Option (List ℕ) → Option Reason
-wrong_composite glyf loca format g size None = Some (CutHeader g)
-wrong_composite glyf loca format g size (Some components) = wrong_components glyf loca format g size components
-
--- numberOfContours is below 0 for a composite
-abbrev pub wrong_contours : List ℕ → List ℕ → ℕ → ℕ → List ℕ → Option ℕ → Option Reason
-wrong_contours glyf loca format g bytes None = if length bytes == 0 then None else Some (CutHeader g)
-wrong_contours glyf loca format g bytes (Some contours) = if nat_lt contours 0x8000 then None else wrong_composite glyf loca format g (length bytes) (from_offset bytes 10)
-
-abbrev pub wrong_bytes : List ℕ → List ℕ → ℕ → ℕ → List ℕ → Option Reason
-wrong_bytes glyf loca format g bytes = wrong_contours glyf loca format g bytes (number bytes 0 2)
+-- what is wrong with the components of an outline, or with its header
+abbrev pub wrong_components : List ℕ → List ℕ → ℕ → ℕ → Option Walked → Option Reason
+wrong_components glyf loca format g None = Some (CutHeader g)
+wrong_components glyf loca format g (Some w) = or_else (by_components glyf loca format g w.glyphs) (cut_component g w.is_cut)
 
 abbrev pub wrong_description : List ℕ → List ℕ → ℕ → ℕ → Option Reason
-wrong_description glyf loca format g = option_and_then (wrong_bytes glyf loca format g) (outline glyf loca format g)
+wrong_description glyf loca format g = option_and_then (λ bytes. wrong_components glyf loca format g (components_in bytes)) (outline glyf loca format g)
 
 -- what is wrong with the range of a glyph's outline, or with its bytes
 abbrev pub wrong_glyph : List ℕ → List ℕ → ℕ → ℕ → Option Reason
 wrong_glyph glyf loca format g = or_else (wrong_outline glyf loca format g) (wrong_description glyf loca format g)
-
--- ---- the glyphs of a font
 
 -- the first glyph whose outline is wrong
 abbrev pub first_wrong : List ℕ → List ℕ → ℕ → List ℕ → Option Reason
 first_wrong glyf loca format [] = None
 first_wrong glyf loca format (g ∷ glyphs) = or_else (wrong_glyph glyf loca format g) (first_wrong glyf loca format glyphs)
 
--- of the given glyphs, and glyph 0, which each new font has
-abbrev pub wrong_glyphs : List ℕ → List ℕ → ℕ → List ℕ → Option Reason
-wrong_glyphs glyf loca format glyphs = or_else (first_wrong glyf loca format glyphs) (wrong_glyph glyf loca format 0)
-
--- what is wrong with the TrueType outlines of glyphs, by `glyf`, `loca` and `head`, whose indexToLocFormat is at byte 50
-abbrev pub wrong_tables : Font → List ℕ → Option (List ℕ) → Option (List ℕ) → Option (List ℕ) → Option Reason
-wrong_tables font glyphs None loca head = None
-wrong_tables font glyphs (Some glyf) None head = Some (missing_table font (record { 0 = codes "loca" }))
-wrong_tables font glyphs (Some glyf) (Some loca) None = Some (missing_table font (record { 0 = codes "head" }))
-wrong_tables font glyphs (Some glyf) (Some loca) (Some head) = option_and_then (λ format. wrong_glyphs glyf loca format glyphs) (number head 50 2)
-
-abbrev pub no_outline : Font → List ℕ → Option Reason
-no_outline font glyphs = wrong_tables font glyphs (stored font (codes "glyf")) (stored font (codes "loca")) (stored font (codes "head"))
-
 -- ---- components of components
+
+-- the components of a glyph; none of one whose outline can't be read
+abbrev pub glyphs_in : Option Walked → List ℕ
+glyphs_in None = []
+glyphs_in (Some w) = w.glyphs
+
+abbrev pub components_of : List ℕ → List ℕ → ℕ → ℕ → List ℕ
+components_of glyf loca format g = glyphs_in (option_and_then components_in (outline glyf loca format g))
 
 -- the glyphs that were seen, which are no more than 65,535, and this one
 abbrev pub reached : List ℕ → ℕ → List ℕ
 reached seen g = if nat_lt (length seen) 65535 then with_glyph seen g else seen
 
--- and those of at most n components, up to one that is cut
-abbrev pub reached_first : List ℕ → (List ℕ → List ℕ → List ℕ) → Option Component → List ℕ
-reached_first seen later None = seen
-reached_first seen later (Some c) = if has_more c.flags then later (reached seen c.glyph) c.after else reached seen c.glyph
+abbrev pub reached_all : List ℕ → List ℕ → List ℕ
+reached_all seen [] = seen
+reached_all seen (g ∷ glyphs) = reached_all (reached seen g) glyphs
 
-abbrev pub reached_by : ℕ → List ℕ → List ℕ → List ℕ
-reached_by zero seen bytes = seen
-reached_by (suc n) seen bytes = reached_first seen (reached_by n) (component_at bytes)
+-- the glyphs that were seen, and how many steps are left
+pub record Reach : Type 0 where
+  pub steps : ℕ
+  pub seen : List ℕ
 
--- and those of the components of an outline
-abbrev pub reached_in : List ℕ → List ℕ → Option ℕ → Option (List ℕ) → List ℕ
-reached_in seen bytes (Some contours) (Some components) = if nat_lt contours 0x8000 then seen else reached_by (length bytes) seen components
-reached_in seen bytes contours components = seen
+-- with these components of a glyph, where it takes a step and each of them another one
+abbrev pub reached_by : Reach → List ℕ → Reach
+reached_by r components = if nat_lt (length components) r.steps then record { steps = r.steps - (length components + 1); seen = reached_all r.seen components } else record { steps = 0; seen = r.seen }
 
-abbrev pub reached_from_outline : List ℕ → Option (List ℕ) → List ℕ
-reached_from_outline seen None = seen
-reached_from_outline seen (Some bytes) = reached_in seen bytes (number bytes 0 2) (from_offset bytes 10)
+-- with those of each of these glyphs
+abbrev pub reached_from : List ℕ → List ℕ → ℕ → Reach → List ℕ → Reach
+reached_from glyf loca format r [] = r
+reached_from glyf loca format r (g ∷ glyphs) = reached_from glyf loca format (reached_by r (components_of glyf loca format g)) glyphs
 
-abbrev pub reached_from : List ℕ → List ℕ → ℕ → List ℕ → ℕ → List ℕ
-reached_from glyf loca format seen g = reached_from_outline seen (outline glyf loca format g)
+-- with those of each glyph from a place on, and with theirs, n levels below
+abbrev pub reached_below : List ℕ → List ℕ → ℕ → ℕ → ℕ → Reach → List ℕ
+reached_below glyf loca format zero from r = r.seen
+reached_below glyf loca format (suc n) from r = reached_below glyf loca format n (length r.seen) (reached_from glyf loca format r (drop from r.seen))
 
--- those of each of these
-abbrev pub reached_from_all : List ℕ → List ℕ → ℕ → List ℕ → List ℕ → List ℕ
-reached_from_all glyf loca format seen [] = seen
-reached_from_all glyf loca format seen (g ∷ glyphs) = reached_from_all glyf loca format (reached_from glyf loca format seen g) glyphs
+-- ---- the glyphs of a font
 
--- what is wrong with the first of the glyphs from a place on that is wrong, or else of the components that they reach, at n levels
-abbrev pub wrong_levels : List ℕ → List ℕ → ℕ → ℕ → ℕ → List ℕ → Option Reason
-wrong_levels glyf loca format zero from seen = None
-wrong_levels glyf loca format (suc n) from seen =
-    or_else (first_wrong glyf loca format (drop from seen)) (wrong_levels glyf loca format n (length seen) (reached_from_all glyf loca format seen (drop from seen)))
+-- The tables of TrueType outlines: `glyf`, `loca`, and indexToLocFormat, at byte 50 of `head`.
+pub record Tables : Type 0 where
+  pub glyf : List ℕ
+  pub loca : List ℕ
+  pub format : ℕ
 
--- of glyph 0 and the given glyphs, each once, and their components down to a depth
-abbrev pub wrong_tree : List ℕ → List ℕ → ℕ → ℕ → List ℕ → Option Reason
-wrong_tree glyf loca format depth glyphs = if nat_lt 65535 (length (with_glyphs (0 ∷ []) glyphs)) then None else wrong_levels glyf loca format (depth + 1) 0 (with_glyphs (0 ∷ []) glyphs)
+abbrev pub tables_by : Option (List ℕ) → Option (List ℕ) → Option ℕ → Option Tables
+tables_by (Some glyf) (Some loca) (Some format) = Some (record { glyf = glyf; loca = loca; format = format })
+tables_by glyf loca format = None
 
-abbrev pub tree_reason_by : ℕ → List ℕ → Option (List ℕ) → Option (List ℕ) → Option ℕ → Option Reason
-tree_reason_by depth glyphs (Some glyf) (Some loca) (Some format) = wrong_tree glyf loca format depth glyphs
-tree_reason_by depth glyphs glyf loca format = None
+abbrev pub outline_tables : Font → Option Tables
+outline_tables font = tables_by (stored font (codes "glyf")) (stored font (codes "loca")) (option_and_then (λ head. number head 50 2) (stored font (codes "head")))
 
-abbrev pub tree_reason : Font → ℕ → List ℕ → Option Reason
-tree_reason font depth glyphs = tree_reason_by depth glyphs (stored font (codes "glyf")) (stored font (codes "loca")) (option_and_then (λ head. number head 50 2) (stored font (codes "head")))
+-- these glyphs, and their components down to a depth, within so many steps
+abbrev pub tree : Tables → ℕ → ℕ → List ℕ → List ℕ
+tree t steps depth glyphs = reached_below t.glyf t.loca t.format (depth + 1) 0 (record { steps = steps; seen = glyphs })
+
+-- what is wrong with their outlines
+abbrev pub tree_reason : Font → ℕ → ℕ → List ℕ → Option Reason
+tree_reason font steps depth glyphs = option_and_then (λ t. first_wrong t.glyf t.loca t.format (tree t steps depth glyphs)) (outline_tables font)
+
+-- a face with `glyf` has no `loca`, or no `head`
+abbrev pub without_loca : Font → Option (List ℕ) → Option Reason
+without_loca font None = None
+without_loca font (Some glyf) = or_else (no_table font (record { 0 = codes "loca" })) (no_table font (record { 0 = codes "head" }))
+
+abbrev pub no_loca : Font → Option Reason
+no_loca font = without_loca font (stored font (codes "glyf"))
+
+-- ---- components that are too deep for a static font
+
+-- the components of n levels below these glyphs, glyph 0 apart, within so many steps
+unfoldable pub levels_below : List ℕ → List ℕ → ℕ → ℕ → Reach → List ℕ
+levels_below glyf loca format zero r = drop 1 r.seen
+levels_below glyf loca format (suc n) r = levels_below glyf loca format n (reached_from glyf loca format (record { steps = r.steps; seen = 0 ∷ [] }) (drop 1 r.seen))
+
+abbrev pub first_deep : List ℕ → Option Reason
+first_deep [] = None
+first_deep (g ∷ glyphs) = Some (Deep g)
+
+-- a component may be 64 levels below a glyph
+abbrev pub deep_reason : Tables → ℕ → List ℕ → Option Reason
+deep_reason t steps glyphs = first_deep (levels_below t.glyf t.loca t.format 65 (record { steps = steps; seen = glyphs }))

@@ -33,9 +33,6 @@ without font tag (Some bytes) = None
 abbrev pub no_table : Font → Tag → Option Reason
 no_table font tag = without font tag (stored font tag.0)
 
-abbrev pub no_needed_table : Font → Option Tag → Option Reason
-no_needed_table font needs = option_and_then (no_table font) needs
-
 -- numberOfHMetrics is at byte 34 of `hhea`, and `hmtx` has four bytes for each (OpenType, "hhea" and "hmtx"): none, or more than are there
 abbrev pub few_metrics_by : ℕ → Option ℕ → Option Reason
 few_metrics_by count None = Some (FewMetrics count)

@@ -1,5 +1,5 @@
 -- Tables that are shorter than what is read of them (OpenType, "head", "maxp", "hhea", "post" and "name").
-use Rattle.std.specs.Prelude.{ℕ, ◌+◌, ◌*◌, ◌==◌, max, nat_lt, if◌then◌else◌, List, length, Option, Some, None, codes}
+use Rattle.std.specs.Prelude.{ℕ, ◌+◌, ◌*◌, ◌==◌, Bool, true, false, max, nat_le, nat_lt, if◌then◌else◌, List, length, Option, Some, None, codes}
 use Rattle.std.specs.Option.{option_and_then}
 use Rattle.subsetter_base.specs.Bytes.{number}
 use Rattle.subsetter_base.specs.declared.tag.Tag.{Tag}
@@ -42,8 +42,13 @@ post_size_by post (Some version) = if version == 0x00020000 then indexes_end (nu
 abbrev pub short_post_of : List ℕ → Option Reason
 short_post_of post = short (record { 0 = codes "post" }) (post_size_by post (version post)) post
 
-abbrev pub short_post : Font → Option Reason
-short_post font = option_and_then short_post_of (stored font (codes "post"))
+-- without the names of glyphs it is 32 bytes, if it has as many, of which none says more
+abbrev pub short_kept_post : Bool → List ℕ → Option Reason
+short_kept_post true post = short_post_of post
+short_kept_post false post = if nat_le 32 (length post) then None else short_post_of post
+
+abbrev pub short_post : Bool → Font → Option Reason
+short_post names font = option_and_then (short_kept_post names) (stored font (codes "post"))
 
 -- the version of `name` has two bytes. Version 0 has count and storageOffset, two bytes each, count records of twelve bytes, and the storage at its offset
 abbrev pub records_end : Option ℕ → Option ℕ → ℕ

@@ -4,7 +4,7 @@ use Rattle.std.specs.Fmt.{radix_digits}
 use Rattle.subsetter_base.specs.Texts.{tag_text}
 use Rattle.subsetter_base.specs.declared.tag.Tag.{Tag}
 use Rattle.font_reasons.specs.declared.reason.Reason.{Reason}
-use Rattle.font_reasons.specs.declared.reason.Reason.TheVariants.{Woff, Woff2, Type1, Eot, Pdf, NotFont, Empty, NoFace, NoHeader, CutDirectory, Cut, NoOutlines, BitmapsAlone, NoGlyph, NoTable, NoEntries, Descends, Outside, CutHeader, CutComponent, ByComponent, NoMetrics, FewMetrics, NoMetric, NoUnits, Short, LostName, NoUnicode, OnlyCff2, Forbidden, OtherVersion, AxisSize, AxisCount, WrongGvar, OtherCff, WrongCff, NoCharstring, WrongCharstring, Composed}
+use Rattle.font_reasons.specs.declared.reason.Reason.TheVariants.{Woff, Woff2, Type1, Eot, Pdf, NotFont, Empty, NoFace, NoHeader, CutDirectory, Cut, NoOutlines, BitmapsAlone, NoGlyph, NoTable, NoEntries, Descends, Outside, CutHeader, CutComponent, ByComponent, NoMetrics, FewMetrics, NoMetric, NoUnits, Short, LostName, NoUnicode, OnlyCff2, Forbidden, OtherVersion, AxisSize, AxisCount, Unread, NoCharstring, WrongCharstring, Composed, WrongOutline, Deep, Unvaried, WrongMetric}
 
 -- a number between two texts
 abbrev pub between : List ℕ → ℕ → List ℕ → List ℕ
@@ -13,6 +13,10 @@ between front n back = front ++ (decimal n ++ back)
 -- the name of a table, without a blank at its end
 abbrev pub table_name : Tag → List ℕ
 table_name tag = tag_text (if get_or tag.0 3 0 == 32 then take 3 tag.0 else tag.0)
+
+-- a glyph, and a table between two texts
+abbrev pub in_table : ℕ → List ℕ → Tag → List ℕ → List ℕ
+in_table glyph front tag back = codes "glyph " ++ (decimal glyph ++ (front ++ (table_name tag ++ back)))
 
 -- the faces of a collection, and the glyphs of a face, are numbered from 0 on
 abbrev pub no_face_text : ℕ → ℕ → List ℕ
@@ -78,9 +82,11 @@ reason_text (Forbidden fs_type bit) = forbidden_text fs_type bit
 reason_text (OtherVersion tag) = table_name tag ++ codes ": its major version isn't 1"
 reason_text (AxisSize size) = between (codes "fvar: axisSize is ") size (codes ", needs 20")
 reason_text (AxisCount tag count axes) = axes_text tag count axes
-reason_text WrongGvar = codes "gvar: the table can't be read"
-reason_text OtherCff = codes "CFF: its major version isn't 1"
-reason_text WrongCff = codes "CFF: the table can't be read"
-reason_text (NoCharstring glyph) = between (codes "glyph ") glyph (codes ": CFF has no charstring or private dict for it")
-reason_text (WrongCharstring glyph) = between (codes "glyph ") glyph (codes ": its charstring is wrong, or passes the limits")
+reason_text (Unread tag) = table_name tag ++ codes ": the table can't be read"
+reason_text (NoCharstring tag glyph) = in_table glyph (codes ": ") tag (codes " has no charstring or private dict for it")
+reason_text (WrongCharstring tag glyph) = in_table glyph (codes ": its charstring in ") tag (codes " is wrong, or passes the limits")
 reason_text (Composed glyph) = between (codes "glyph ") glyph (codes ": its charstring puts two others together")
+reason_text (WrongOutline glyph) = between (codes "glyph ") glyph (codes ": its outline can't be read")
+reason_text (Deep glyph) = between (codes "glyph ") glyph (codes ": a component more than 64 levels deep")
+reason_text (Unvaried tag glyph) = in_table glyph (codes ": its variation data in ") tag (codes " can't be read")
+reason_text (WrongMetric tag) = codes "MVAR: the value of " ++ (table_name tag ++ codes " can't be read")

@@ -9,7 +9,7 @@ use Rattle.subsetter_variation.specs.Locations.Coordinates.{is_other_version}
 use Rattle.font_reasons.specs.File.{or_else}
 use Rattle.font_reasons.specs.Short.{short}
 use Rattle.font_reasons.specs.declared.reason.Reason.{Reason}
-use Rattle.font_reasons.specs.declared.reason.Reason.TheVariants.{OtherVersion, AxisSize, AxisCount, WrongGvar}
+use Rattle.font_reasons.specs.declared.reason.Reason.TheVariants.{OtherVersion, AxisSize, AxisCount, Unread}
 
 abbrev pub fvar_tag : Tag
 fvar_tag = record { 0 = codes "fvar" }
@@ -42,11 +42,12 @@ other_axes font = or_else (other_version font fvar_tag) (other_avar font)
 unfoldable pub other_metrics : Font → Option Reason
 other_metrics font = or_else (other_version font hvar_tag) (other_version font mvar_tag)
 
-unfoldable pub other_deltas : Font → Option Reason
-other_deltas font = or_else (other_version font gvar_tag) (other_metrics font)
+-- `gvar` is read with outlines in `glyf`
+abbrev pub other_gvar : Font → Option Reason
+other_gvar font = option_and_then (λ glyf. other_version font gvar_tag) (stored font (codes "glyf"))
 
-unfoldable pub other_variations : Font → Option Reason
-other_variations font = or_else (other_axes font) (other_deltas font)
+unfoldable pub other_deltas : Font → Option Reason
+other_deltas font = or_else (other_gvar font) (other_metrics font)
 
 -- ---- axes
 
@@ -87,21 +88,18 @@ wrong_avar_of fvar avar = wrong_avar_by avar (number avar 6 2) (number fvar 8 2)
 abbrev pub wrong_avar : Font → Option Reason
 wrong_avar font = option_and_then (λ fvar. option_and_then (wrong_avar_of fvar) (stored font avar_tag.0)) (stored font fvar_tag.0)
 
+unfoldable pub wrong_location : Font → Option Reason
+wrong_location font = or_else (wrong_fvar font) (wrong_avar font)
+
 -- ---- outlines
 
 -- the header of `gvar` is cut or leads past its end
 abbrev pub wrong_gvar_by : Option Gvar → Option ℕ → Option Reason
-wrong_gvar_by None axes = Some WrongGvar
+wrong_gvar_by None axes = Some (Unread gvar_tag)
 wrong_gvar_by (Some table) axes = other_count gvar_tag table.axis_count axes
 
 abbrev pub wrong_gvar_of : List ℕ → List ℕ → Option Reason
 wrong_gvar_of fvar gvar = wrong_gvar_by (gvar_table gvar) (number fvar 8 2)
 
 abbrev pub wrong_gvar : Font → Option Reason
-wrong_gvar font = option_and_then (λ fvar. option_and_then (wrong_gvar_of fvar) (stored font gvar_tag.0)) (stored font fvar_tag.0)
-
-unfoldable pub wrong_maps : Font → Option Reason
-wrong_maps font = or_else (wrong_avar font) (wrong_gvar font)
-
-unfoldable pub wrong_variations : Font → Option Reason
-wrong_variations font = or_else (wrong_fvar font) (wrong_maps font)
+wrong_gvar font = option_and_then (λ glyf. option_and_then (λ fvar. option_and_then (wrong_gvar_of fvar) (stored font gvar_tag.0)) (stored font fvar_tag.0)) (stored font (codes "glyf"))

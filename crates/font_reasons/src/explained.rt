@@ -3,41 +3,26 @@
 ghost use Rattle.std.specs.Prelude.{◌≡◌, codes, IfOk, IfErr};
 ghost use Rattle.subsetter_base.specs.declared.error.Error.TheVariants.{OutOfMemory};
 ghost use Rattle.subsetter_sfnt.specs.Extras.{all_extras};
-ghost use Rattle.font_reasons.specs.Explained.{explained, is_of_charstrings, lacks, lost_for, malformed, no_cmap, malformed_last, no_mapping, no_maxp, no_unicode, no_units, no_metrics, no_widths, not_kept_by, not_read, of_charstrings, of_components, of_outlines, only_cff2, seen_last, shown, shown_last, takes_outlines, wrong_advances, wrong_at, wrong_for, wrong_variations_for};
+ghost use Rattle.font_reasons.specs.Calls.{face_in};
+ghost use Rattle.font_reasons.specs.Explained.{explained, is_of_charstrings, lacks, lost_for, malformed, no_cmap, no_mapping, no_maxp, no_unicode, no_units, no_widths, not_kept, not_kept_by, not_read, numbered, of_charstrings, of_components, of_either, of_numbered, of_outlines, only_cff2, seen_last, short_names, shown, shown_last, wrong_advances, wrong_for, wrong_names};
 
+use crate::asked::{Asked, Call, keeps_glyph_names, keeps_names, takes_outlines};
 use crate::charstrings::cff_reason;
 use crate::names::lost_name;
 use crate::outlines::tree_reason;
 use crate::parts::{no_metric, no_table, wrong_metrics};
 use crate::reason::Reason;
-use crate::request::{no_font_or_glyph, not_kept, reason_of_unknown, wrong_source, wrong_table};
-use crate::short::{short_header, short_post};
-use crate::variations::{other_variations, wrong_variations};
+use crate::short::{short_header, short_name, short_post};
+use crate::source::{no_font_or_glyph, reason_of_unknown, wrong_source, wrong_table};
+use crate::varying::varied_reason;
+use pdf_cff::unless_memory;
 use std::alloc::Global;
-use subsetter_base::{Error, Tag};
+use subsetter_base::{Error, GlyphRemapper, Tag};
 use subsetter_sfnt::directory::table;
+use subsetter_sfnt::extras::Extras;
 use subsetter_sfnt::fields::head::units_per_em;
 use subsetter_type2::limits::Limits;
 use text_glyphs::find_table;
-
-/// Which call was refused.
-#[derive(Clone, Copy, PartialEq, Eq, Debug)]
-pub enum Call {
-    /// A subset.
-    Subset,
-    /// A subset at coordinates.
-    SubsetAt,
-    /// A subset with CIDs and widths.
-    Embed,
-    /// A subset with CIDs and widths at coordinates.
-    EmbedAt,
-    /// A font for a PDF.
-    PdfFont,
-    /// The glyphs of characters.
-    GlyphsOf,
-    /// The advances of glyphs.
-    Advances,
-}
 
 /// Whether unitsPerEm of a face is 0.
 fn no_units(font: &[u8], index: u32) -> Option<Reason>
@@ -134,10 +119,7 @@ fn not_read(call: Call, font: &[u8], index: u32) -> Option<Reason>
 {
     match call {
         Call::Subset | Call::Embed => only_cff2(font, index),
-        Call::GlyphsOf => None,
-        Call::SubsetAt | Call::EmbedAt | Call::PdfFont | Call::Advances => {
-            other_variations(font, index)
-        }
+        _ => None,
     }
 }
 
@@ -151,46 +133,47 @@ fn wrong_advances(font: &[u8], index: u32) -> Option<Reason>
 
 /// What is wrong with the tables that a call reads.
 #[tactic(auto, unfolding(crate::specs::Explained::wrong_for))]
-fn wrong_for(call: Call, font: &[u8], index: u32, glyphs: &[u16]) -> Option<Reason>
-    ensures { result ≡ wrong_for call (record { bytes = font.now; index = index; extras = all_extras }) glyphs.now }
+fn wrong_for(call: Call, font: &[u8], index: u32) -> Option<Reason>
+    ensures { result ≡ wrong_for call (record { bytes = font.now; index = index; extras = all_extras }) }
 {
     match call {
         Call::GlyphsOf => None,
         Call::Advances => wrong_advances(font, index),
         Call::Subset | Call::SubsetAt | Call::Embed | Call::EmbedAt | Call::PdfFont => {
-            wrong_source(font, index, glyphs)
+            wrong_source(font, index)
         }
     }
 }
 
-/// Why a face is malformed, but for charstrings.
+/// Why a face is malformed, but for glyphs that are there.
 fn malformed(call: Call, font: &[u8], index: u32, glyphs: &[u16]) -> Option<Reason>
     ensures { result ≡ malformed call (record { bytes = font.now; index = index; extras = all_extras }) glyphs.now }
 {
-    let lacking = lacks(call, font, index).or(wrong_for(call, font, index, glyphs));
+    let lacking = lacks(call, font, index).or(wrong_for(call, font, index));
     no_font_or_glyph(font, index, glyphs).or(lacking)
 }
 
 /// Whether a name can't be kept.
-fn lost_for(call: Call, font: &[u8], index: u32) -> Option<Reason>
-    ensures { result ≡ lost_for call (record { bytes = font.now; index = index; extras = all_extras }) }
+fn lost_for(call: Call, extras: Extras, font: &[u8], index: u32) -> Option<Reason>
+    ensures { result ≡ lost_for call extras (record { bytes = font.now; index = index; extras = all_extras }) }
 {
-    match call {
-        Call::Subset | Call::SubsetAt | Call::Embed | Call::EmbedAt => lost_name(font, index),
-        Call::PdfFont | Call::GlyphsOf | Call::Advances => None,
+    if keeps_names(call, extras) {
+        return lost_name(font, index);
     }
+    None
 }
 
-/// What the tables show, but for charstrings.
+/// What the tables show, but for glyphs that are there.
 #[tactic(auto, unfolding(crate::specs::Explained::shown))]
-fn shown(call: Call, error: Error, font: &[u8], index: u32, glyphs: &[u16]) -> Option<Reason>
-    ensures { result ≡ shown call error (record { bytes = font.now; index = index; extras = all_extras }) glyphs.now }
+fn shown(asked: &Asked<'_>, font: &[u8]) -> Option<Reason>
+    ensures { result ≡ shown asked.now.call asked.now.error asked.now.extras (face_in asked.now font.now) asked.now.glyphs }
 {
-    match error {
+    let (call, index) = (asked.call, asked.index);
+    match asked.error {
         Error::UnknownKind => reason_of_unknown(font, index),
-        Error::MalformedFont => malformed(call, font, index, glyphs),
+        Error::MalformedFont => malformed(call, font, index, asked.glyphs),
         Error::Unimplemented => not_read(call, font, index),
-        Error::SubsetError => lost_for(call, font, index),
+        Error::SubsetError => lost_for(call, asked.extras, font, index),
         Error::OverflowError => wrong_metrics(font, index),
         _ => None,
     }
@@ -213,172 +196,194 @@ fn of_charstrings(
     font: &[u8],
     index: u32,
     limits: &Limits,
-    glyphs: &[u16],
+    mapper: &GlyphRemapper,
 ) -> Result<Option<Reason>, Error>
-    ensures ok { IfOk result (λ r. r ≡ of_charstrings error (record { bytes = font.now; index = index; extras = all_extras }) limits.now.tokens limits.now.depth glyphs.now) }
+    ensures ok { IfOk result (λ r. r ≡ of_charstrings error (record { bytes = font.now; index = index; extras = all_extras }) limits.now.tokens limits.now.depth mapper.now) }
     ensures err { IfErr result (λ e. e ≡ OutOfMemory) }
 {
     if is_of_charstrings(error) {
-        return cff_reason(alloc, font, index, limits, glyphs);
+        return cff_reason(alloc, font, index, limits, mapper);
     }
     Ok(None)
-}
-
-/// Whether a call is one on outlines.
-fn takes_outlines(call: Call) -> bool
-    ensures { result ≡ takes_outlines call }
-{
-    match call {
-        Call::GlyphsOf | Call::Advances => false,
-        Call::Subset | Call::SubsetAt | Call::Embed | Call::EmbedAt | Call::PdfFont => true,
-    }
 }
 
 /// What components show, at any level down to a depth.
 fn of_components(
     alloc: Global,
-    call: Call,
     error: Error,
     font: &[u8],
     index: u32,
-    depth: u8,
-    glyphs: &[u16],
+    limits: &Limits,
+    mapper: &GlyphRemapper,
 ) -> Result<Option<Reason>, Error>
-    ensures ok { IfOk result (λ r. r ≡ of_components call error (record { bytes = font.now; index = index; extras = all_extras }) depth glyphs.now) }
+    ensures ok { IfOk result (λ r. r ≡ of_components error (record { bytes = font.now; index = index; extras = all_extras }) limits.now.tokens limits.now.depth mapper.now) }
     ensures err { IfErr result (λ e. e ≡ OutOfMemory) }
 {
     match error {
         Error::MalformedFont => {
-            if takes_outlines(call) {
-                return tree_reason(alloc, font, index, depth, glyphs);
-            }
-            Ok(None)
+            tree_reason(alloc, font, index, limits.tokens(), limits.depth(), mapper)
         }
         _ => Ok(None),
     }
 }
 
 /// What charstrings show, or components.
-#[tactic(auto, unfolding(crate::specs::Explained::of_outlines))]
-fn of_outlines(
+fn of_either(
     alloc: Global,
-    call: Call,
     error: Error,
     font: &[u8],
     index: u32,
     limits: &Limits,
-    glyphs: &[u16],
+    mapper: &GlyphRemapper,
 ) -> Result<Option<Reason>, Error>
-    ensures ok { IfOk result (λ r. r ≡ of_outlines call error (record { bytes = font.now; index = index; extras = all_extras }) limits.now.tokens limits.now.depth glyphs.now) }
+    ensures ok { IfOk result (λ r. r ≡ of_either error (record { bytes = font.now; index = index; extras = all_extras }) limits.now.tokens limits.now.depth mapper.now) }
     ensures err { IfErr result (λ e. e ≡ OutOfMemory) }
 {
-    match of_charstrings(alloc, error, font, index, limits, glyphs)? {
+    match of_charstrings(alloc, error, font, index, limits, mapper)? {
         Some(reason) => Ok(Some(reason)),
-        None => of_components(alloc, call, error, font, index, limits.depth(), glyphs),
+        None => of_components(alloc, error, font, index, limits, mapper),
     }
 }
 
-/// What is wrong with what a call keeps besides outlines.
-#[tactic(auto, unfolding(crate::specs::Explained::not_kept_by))]
-fn not_kept_by(call: Call, font: &[u8], index: u32, glyphs: &[u16]) -> Option<Reason>
-    ensures { result ≡ not_kept_by call (record { bytes = font.now; index = index; extras = all_extras }) glyphs.now }
+/// What the outlines of these glyphs show, where a call takes them.
+fn of_outlines(
+    alloc: Global,
+    asked: &Asked<'_>,
+    font: &[u8],
+    mapper: &GlyphRemapper,
+) -> Result<Option<Reason>, Error>
+    ensures ok { IfOk result (λ r. r ≡ of_outlines asked.now.call asked.now.error (face_in asked.now font.now) asked.now.tokens asked.now.depth mapper.now) }
+    ensures err { IfErr result (λ e. e ≡ OutOfMemory) }
 {
-    match call {
-        Call::GlyphsOf => None,
-        Call::Advances => no_metric(font, index, glyphs),
-        Call::PdfFont => no_metric(font, index, glyphs).or(short_post(font, index)),
-        Call::Subset | Call::SubsetAt | Call::Embed | Call::EmbedAt => {
-            not_kept(font, index, glyphs)
+    if takes_outlines(asked.call) {
+        return of_either(alloc, asked.error, font, asked.index, &asked.limits, mapper);
+    }
+    Ok(None)
+}
+
+/// Glyph 0 and the given glyphs, each once, if these are no more than 65,535.
+#[tactic(auto, using(crate::proofs::Numbering::none_left, crate::proofs::Numbering::some_left))]
+fn numbered(alloc: Global, glyphs: &[u16]) -> Result<Option<GlyphRemapper>, Error>
+    ensures ok { IfOk result (λ r. r ≡ numbered glyphs.now) }
+    ensures err { IfErr result (λ e. e ≡ OutOfMemory) }
+{
+    match GlyphRemapper::new_from_glyphs(alloc, glyphs) {
+        Ok(mapper) => {
+            // There are never more than 65535.
+            let _count = mapper.num_gids();
+            Ok(Some(mapper))
+        }
+        Err(error) => {
+            unless_memory(error)?;
+            Ok(None)
         }
     }
 }
 
-/// Whether a face lacks what variations are read with.
-fn no_metrics(font: &[u8], index: u32) -> Option<Reason>
-    ensures { result ≡ no_metrics (record { bytes = font.now; index = index; extras = all_extras }) }
+/// What outlines show, and then what varies.
+fn of_numbered(
+    alloc: Global,
+    asked: &Asked<'_>,
+    font: &[u8],
+    mapper: &Option<GlyphRemapper>,
+) -> Result<Option<Reason>, Error>
+    ensures ok { IfOk result (λ r. r ≡ of_numbered asked.now (face_in asked.now font.now) mapper.now) }
+    ensures err { IfErr result (λ e. e ≡ OutOfMemory) }
 {
-    let others = no_table(font, index, Tag::MAXP).or(no_table(font, index, Tag::HEAD));
-    no_table(font, index, Tag::HMTX).or(others)
-}
-
-/// What is wrong with what varies, or isn't there with it.
-#[tactic(auto, unfolding(crate::specs::Explained::wrong_at))]
-fn wrong_at(font: &[u8], index: u32) -> Option<Reason>
-    ensures { result ≡ wrong_at (record { bytes = font.now; index = index; extras = all_extras }) }
-{
-    wrong_variations(font, index).or(no_metrics(font, index))
-}
-
-/// What is wrong with what varies, where a call is at coordinates.
-#[tactic(auto, unfolding(crate::specs::Explained::wrong_variations_for))]
-fn wrong_variations_for(call: Call, font: &[u8], index: u32) -> Option<Reason>
-    ensures { result ≡ wrong_variations_for call (record { bytes = font.now; index = index; extras = all_extras }) }
-{
-    match call {
-        Call::Subset | Call::Embed | Call::GlyphsOf => None,
-        Call::SubsetAt | Call::EmbedAt | Call::PdfFont | Call::Advances => { wrong_at(font, index) }
+    let Some(mapper) = mapper else {
+        return Ok(None);
+    };
+    match of_outlines(alloc, asked, font, mapper)? {
+        Some(reason) => Ok(Some(reason)),
+        None => varied_reason(alloc, asked, font, mapper),
     }
 }
 
-/// What is looked at last of a face that is malformed.
-#[tactic(auto, unfolding(crate::specs::Explained::malformed_last))]
-fn malformed_last(call: Call, font: &[u8], index: u32, glyphs: &[u16]) -> Option<Reason>
-    ensures { result ≡ malformed_last call (record { bytes = font.now; index = index; extras = all_extras }) glyphs.now }
+/// What is wrong with names that a call keeps.
+fn short_names(call: Call, extras: Extras, font: &[u8], index: u32) -> Option<Reason>
+    ensures { result ≡ short_names call extras (record { bytes = font.now; index = index; extras = all_extras }) }
 {
-    let varying = wrong_variations_for(call, font, index);
-    not_kept_by(call, font, index, glyphs).or(varying)
+    if keeps_names(call, extras) {
+        return short_name(font, index);
+    }
+    None
+}
+
+/// What is wrong with these, or with the names of glyphs.
+fn wrong_names(call: Call, extras: Extras, font: &[u8], index: u32) -> Option<Reason>
+    ensures { result ≡ wrong_names call extras (record { bytes = font.now; index = index; extras = all_extras }) }
+{
+    let glyph_names = short_post(keeps_glyph_names(call, extras), font, index);
+    glyph_names.or(short_names(call, extras, font, index))
+}
+
+/// What is wrong with what a call keeps besides outlines: the metrics of each glyph, and names.
+#[tactic(auto, unfolding(crate::specs::Explained::not_kept))]
+fn not_kept(call: Call, extras: Extras, font: &[u8], index: u32, glyphs: &[u16]) -> Option<Reason>
+    ensures { result ≡ not_kept call extras (record { bytes = font.now; index = index; extras = all_extras }) glyphs.now }
+{
+    no_metric(font, index, glyphs).or(wrong_names(call, extras, font, index))
+}
+
+/// What is wrong with what a call keeps, or reads, besides outlines.
+#[tactic(auto, unfolding(crate::specs::Explained::not_kept_by))]
+fn not_kept_by(
+    call: Call,
+    extras: Extras,
+    font: &[u8],
+    index: u32,
+    glyphs: &[u16],
+) -> Option<Reason>
+    ensures { result ≡ not_kept_by call extras (record { bytes = font.now; index = index; extras = all_extras }) glyphs.now }
+{
+    match call {
+        Call::GlyphsOf => None,
+        Call::Advances => no_metric(font, index, glyphs),
+        Call::Subset | Call::SubsetAt | Call::Embed | Call::EmbedAt | Call::PdfFont => {
+            not_kept(call, extras, font, index, glyphs)
+        }
+    }
 }
 
 /// What is looked at last, by the error.
-fn shown_last(call: Call, error: Error, font: &[u8], index: u32, glyphs: &[u16]) -> Option<Reason>
-    ensures { result ≡ shown_last call error (record { bytes = font.now; index = index; extras = all_extras }) glyphs.now }
+fn shown_last(asked: &Asked<'_>, font: &[u8]) -> Option<Reason>
+    ensures { result ≡ shown_last asked.now.call asked.now.error asked.now.extras (face_in asked.now font.now) asked.now.glyphs }
 {
-    match error {
-        Error::MalformedFont => malformed_last(call, font, index, glyphs),
+    match asked.error {
+        Error::MalformedFont => {
+            not_kept_by(asked.call, asked.extras, font, asked.index, asked.glyphs)
+        }
         _ => None,
     }
 }
 
-/// What outlines show, or what is kept besides them.
-fn seen_last(
-    alloc: Global,
-    call: Call,
-    error: Error,
-    font: &[u8],
-    index: u32,
-    limits: &Limits,
-    glyphs: &[u16],
-) -> Result<Option<Reason>, Error>
-    ensures ok { IfOk result (λ r. r ≡ seen_last call error (record { bytes = font.now; index = index; extras = all_extras }) limits.now.tokens limits.now.depth glyphs.now) }
+/// What glyphs show, or what is kept besides them.
+fn seen_last(alloc: Global, asked: &Asked<'_>, font: &[u8]) -> Result<Option<Reason>, Error>
+    ensures ok { IfOk result (λ r. r ≡ seen_last asked.now (face_in asked.now font.now)) }
     ensures err { IfErr result (λ e. e ≡ OutOfMemory) }
 {
-    let found = of_outlines(alloc, call, error, font, index, limits, glyphs)?;
-    Ok(found.or(shown_last(call, error, font, index, glyphs)))
+    let mapper = numbered(alloc, asked.glyphs)?;
+    let found = of_numbered(alloc, asked, font, &mapper)?;
+    Ok(found.or(shown_last(asked, font)))
 }
 
-/// Why a call on these glyphs is refused with an error, if the font shows it. A charstring of `CFF ` is run within the limits of the
-/// call, at most once, and none after the first that can't be; components of `glyf` are followed down to their depth.
+/// Why a call is refused, if the font shows it. A charstring is run within the limits of the call, at most once, and none after the
+/// first that can't be; components of `glyf` are followed down to their depth, in as many steps as they have tokens.
+///
+/// What is read at coordinates alone has a part in it where a static font is made there: not at the default of outlines in `glyf`.
 ///
 /// There is none where memory ran out, or what was asked for is why: more bytes than the call may make, or glyphs that leave no
-/// number for glyph 0. At coordinates there is none of what a glyph varies by, and none of a charstring of `CFF2`.
+/// number for glyph 0.
 ///
 /// # Errors
 ///
 /// `OutOfMemory` alone.
-pub fn explain(
-    alloc: Global,
-    call: Call,
-    error: Error,
-    font: &[u8],
-    index: u32,
-    glyphs: &[u16],
-    limits: &Limits,
-) -> Result<Option<Reason>, Error>
-    ensures ok { IfOk result (λ r. r ≡ explained call error (record { bytes = font.now; index = index; extras = all_extras }) limits.now.tokens limits.now.depth glyphs.now) }
+pub fn explain(alloc: Global, font: &[u8], asked: &Asked<'_>) -> Result<Option<Reason>, Error>
+    ensures ok { IfOk result (λ r. r ≡ explained asked.now font.now) }
     ensures err { IfErr result (λ e. e ≡ OutOfMemory) }
 {
-    match shown(call, error, font, index, glyphs) {
+    match shown(asked, font) {
         Some(reason) => Ok(Some(reason)),
-        None => seen_last(alloc, call, error, font, index, limits, glyphs),
+        None => seen_last(alloc, asked, font),
     }
 }

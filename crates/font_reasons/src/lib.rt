@@ -3,10 +3,12 @@
 //! [`explain`] is the second look after an error, and [`find_prohibition`] after a refusal to embed; what they name is in the font.
 //!
 //! ```text
-//! let reason = explain(alloc, Call::Subset, error, font, 0, &[60000], &limits)?;   // "glyph 60000: the font's glyphs are 0 to 6252"
+//! let asked = Asked { call: Call::Subset, error, index: 0, glyphs: &[60000], coordinates: &[], extras: Extras::ALL, limits };
+//! let reason = explain(alloc, font, &asked)?;   // "glyph 60000: the font's glyphs are 0 to 6252"
 //! ```
 #![tactic(auto)]
 
+mod asked;
 mod charstrings;
 mod explained;
 mod file;
@@ -15,13 +17,14 @@ mod outlines;
 mod parts;
 mod permission;
 mod reason;
-mod request;
 mod short;
+mod source;
 mod variations;
+mod varying;
 
-pub use explained::{Call, explain};
+pub use asked::{Asked, Call};
+pub use explained::explain;
 pub use file::{cut_table, directory_of, face_count, missing_table, no_font};
 pub use parts::{count_glyphs, no_table};
 pub use permission::find_prohibition;
 pub use reason::Reason;
-pub use request::{Request, find_reason};

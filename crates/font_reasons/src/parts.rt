@@ -2,7 +2,7 @@
 
 ghost use Rattle.std.specs.Prelude.{◌≡◌};
 ghost use Rattle.subsetter_sfnt.specs.Extras.{all_extras};
-ghost use Rattle.font_reasons.specs.Parts.{face_glyphs, first_past, no_glyph, no_table, no_needed_table, wrong_metrics_of, wrong_metrics, no_metric_of, first_without_metric, pair_count, no_metric, bare_reason, no_outlines};
+ghost use Rattle.font_reasons.specs.Parts.{face_glyphs, first_past, no_glyph, no_table, wrong_metrics_of, wrong_metrics, no_metric_of, first_without_metric, pair_count, no_metric, bare_reason, no_outlines};
 
 use crate::file::missing_table;
 use crate::reason::Reason;
@@ -50,13 +50,6 @@ pub fn no_table(font: &[u8], index: u32, tag: Tag) -> Option<Reason>
         Some(_) => None,
         None => Some(missing_table(font, index, tag)),
     }
-}
-
-/// Whether a face lacks a table that only this request needs, if it needs one.
-pub fn no_needed_table(font: &[u8], index: u32, needs: Option<Tag>) -> Option<Reason>
-    ensures { result ≡ no_needed_table (record { bytes = font.now; index = index; extras = all_extras }) needs }
-{
-    no_table(font, index, needs?)
 }
 
 /// What is wrong with numberOfHMetrics of `hhea`, by the length of `hmtx`.

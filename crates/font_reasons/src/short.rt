@@ -4,14 +4,14 @@ ghost use Rattle.std.specs.Prelude.{◌≡◌};
 ghost use Rattle.subsetter_base.specs.Bytes.{number};
 ghost use Rattle.subsetter_sfnt.specs.Extras.{all_extras};
 ghost use Rattle.subsetter_sfnt.specs.Fields.Post.{num_glyphs, version};
-ghost use Rattle.font_reasons.specs.Short.{short, short_table, short_head, short_maxp, short_hhea, short_header, indexes_end, post_size_by, short_post_of, short_post, records_end, name_size_by, short_name_of, short_name};
+ghost use Rattle.font_reasons.specs.Short.{short, short_table, short_head, short_maxp, short_hhea, short_header, indexes_end, post_size_by, short_post_of, short_kept_post, short_post, records_end, name_size_by, short_name_of, short_name};
 
 use crate::reason::Reason;
 use subsetter_base::Tag;
 use subsetter_base::read::number_at;
 use subsetter_sfnt::directory::table;
 use subsetter_sfnt::fields::name::{COUNT, STORAGE_OFFSET};
-use subsetter_sfnt::fields::post::{VERSION_2_0, num_glyphs, version};
+use subsetter_sfnt::fields::post::{HEADER_SIZE, VERSION_2_0, num_glyphs, version};
 
 /// Where indexToLocFormat of `head` ends.
 const HEAD_END: u64 = 52;
@@ -97,12 +97,22 @@ fn short_post_of(post: &[u8]) -> Option<Reason>
     short(Tag::POST, needed, post)
 }
 
+/// Whether a table `post` does whose names of glyphs are kept or not.
+fn short_kept_post(names: bool, post: &[u8]) -> Option<Reason>
+    ensures { result ≡ short_kept_post names post.now }
+{
+    if !names && post.len() >= HEADER_SIZE {
+        return None;
+    }
+    short_post_of(post)
+}
+
 /// Whether the `post` of a face does.
-pub fn short_post(font: &[u8], index: u32) -> Option<Reason>
-    ensures { result ≡ short_post (record { bytes = font.now; index = index; extras = all_extras }) }
+pub fn short_post(names: bool, font: &[u8], index: u32) -> Option<Reason>
+    ensures { result ≡ short_post names (record { bytes = font.now; index = index; extras = all_extras }) }
 {
     let post = table(font, index, Tag::POST)?;
-    short_post_of(post)
+    short_kept_post(names, post)
 }
 
 /// Where the records of `name` end and its storage begins, whichever is later, by their count and its offset.

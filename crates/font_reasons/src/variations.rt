@@ -3,7 +3,7 @@
 ghost use Rattle.std.specs.Prelude.{◌≡◌};
 ghost use Rattle.subsetter_base.specs.Bytes.{number};
 ghost use Rattle.subsetter_sfnt.specs.Extras.{all_extras};
-ghost use Rattle.font_reasons.specs.Variations.{fvar_tag, avar_tag, gvar_tag, hvar_tag, mvar_tag, other_version, other_avar, other_axes, other_metrics, other_deltas, other_variations, axes_end, wrong_axes, wrong_fvar_of, wrong_fvar, other_count, wrong_avar_of, wrong_avar, wrong_gvar_of, wrong_gvar, wrong_maps, wrong_variations};
+ghost use Rattle.font_reasons.specs.Variations.{fvar_tag, avar_tag, gvar_tag, hvar_tag, mvar_tag, other_version, other_avar, other_axes, other_metrics, other_gvar, other_deltas, axes_end, wrong_axes, wrong_fvar_of, wrong_fvar, other_count, wrong_avar_of, wrong_avar, wrong_gvar_of, wrong_gvar, wrong_location};
 
 use crate::reason::Reason;
 use crate::short::short;
@@ -24,35 +24,35 @@ const AVAR_AXIS_COUNT: usize = 6;
 const AXIS_RECORD_SIZE: u16 = 20;
 
 /// The tag of `fvar`.
-fn fvar_tag() -> Tag
+pub fn fvar_tag() -> Tag
     ensures { result ≡ fvar_tag }
 {
     Tag::new(b"fvar")
 }
 
 /// The tag of `avar`.
-fn avar_tag() -> Tag
+pub fn avar_tag() -> Tag
     ensures { result ≡ avar_tag }
 {
     Tag::new(b"avar")
 }
 
 /// The tag of `gvar`.
-fn gvar_tag() -> Tag
+pub fn gvar_tag() -> Tag
     ensures { result ≡ gvar_tag }
 {
     Tag::new(b"gvar")
 }
 
 /// The tag of `HVAR`.
-fn hvar_tag() -> Tag
+pub fn hvar_tag() -> Tag
     ensures { result ≡ hvar_tag }
 {
     Tag::new(b"HVAR")
 }
 
 /// The tag of `MVAR`.
-fn mvar_tag() -> Tag
+pub fn mvar_tag() -> Tag
     ensures { result ≡ mvar_tag }
 {
     Tag::new(b"MVAR")
@@ -78,7 +78,7 @@ fn other_avar(font: &[u8], index: u32) -> Option<Reason>
 
 /// Whether a table of axes does.
 #[tactic(auto, unfolding(crate::specs::Variations::other_axes))]
-fn other_axes(font: &[u8], index: u32) -> Option<Reason>
+pub fn other_axes(font: &[u8], index: u32) -> Option<Reason>
     ensures { result ≡ other_axes (record { bytes = font.now; index = index; extras = all_extras }) }
 {
     other_version(font, index, fvar_tag()).or(other_avar(font, index))
@@ -92,20 +92,20 @@ fn other_metrics(font: &[u8], index: u32) -> Option<Reason>
     other_version(font, index, hvar_tag()).or(other_version(font, index, mvar_tag()))
 }
 
-/// Whether a table of what outlines or metrics vary by does.
-#[tactic(auto, unfolding(crate::specs::Variations::other_deltas))]
-fn other_deltas(font: &[u8], index: u32) -> Option<Reason>
-    ensures { result ≡ other_deltas (record { bytes = font.now; index = index; extras = all_extras }) }
+/// Whether `gvar` does, where there are outlines in `glyf`.
+fn other_gvar(font: &[u8], index: u32) -> Option<Reason>
+    ensures { result ≡ other_gvar (record { bytes = font.now; index = index; extras = all_extras }) }
 {
-    other_version(font, index, gvar_tag()).or(other_metrics(font, index))
+    let _glyf = table(font, index, Tag::GLYF)?;
+    other_version(font, index, gvar_tag())
 }
 
-/// Whether a table of a variable font does.
-#[tactic(auto, unfolding(crate::specs::Variations::other_variations))]
-pub fn other_variations(font: &[u8], index: u32) -> Option<Reason>
-    ensures { result ≡ other_variations (record { bytes = font.now; index = index; extras = all_extras }) }
+/// Whether a table of what outlines or metrics vary by does.
+#[tactic(auto, unfolding(crate::specs::Variations::other_deltas))]
+pub fn other_deltas(font: &[u8], index: u32) -> Option<Reason>
+    ensures { result ≡ other_deltas (record { bytes = font.now; index = index; extras = all_extras }) }
 {
-    other_axes(font, index).or(other_deltas(font, index))
+    other_gvar(font, index).or(other_metrics(font, index))
 }
 
 /// Where the records of axes end, by their offset, their count and their size.
@@ -189,31 +189,24 @@ fn wrong_gvar_of(fvar: &[u8], gvar: &[u8]) -> Option<Reason>
 {
     match gvar_table(gvar) {
         Some(read) => other_count(gvar_tag(), read.axis_count(), axis_count(fvar)),
-        None => Some(Reason::WrongGvar),
+        None => Some(Reason::Unread(gvar_tag())),
     }
 }
 
-/// What is wrong with the `gvar` of a face, where there are axes.
-fn wrong_gvar(font: &[u8], index: u32) -> Option<Reason>
+/// What is wrong with the `gvar` of a face, where there are axes, and outlines in `glyf`.
+pub fn wrong_gvar(font: &[u8], index: u32) -> Option<Reason>
     ensures { result ≡ wrong_gvar (record { bytes = font.now; index = index; extras = all_extras }) }
 {
+    let _glyf = table(font, index, Tag::GLYF)?;
     let fvar = table(font, index, fvar_tag())?;
     let gvar = table(font, index, gvar_tag())?;
     wrong_gvar_of(fvar, gvar)
 }
 
-/// What is wrong with `avar` or `gvar`.
-#[tactic(auto, unfolding(crate::specs::Variations::wrong_maps))]
-fn wrong_maps(font: &[u8], index: u32) -> Option<Reason>
-    ensures { result ≡ wrong_maps (record { bytes = font.now; index = index; extras = all_extras }) }
+/// What is wrong with the axes of a face.
+#[tactic(auto, unfolding(crate::specs::Variations::wrong_location))]
+pub fn wrong_location(font: &[u8], index: u32) -> Option<Reason>
+    ensures { result ≡ wrong_location (record { bytes = font.now; index = index; extras = all_extras }) }
 {
-    wrong_avar(font, index).or(wrong_gvar(font, index))
-}
-
-/// What is wrong with the axes of a face, or with what its outlines vary by.
-#[tactic(auto, unfolding(crate::specs::Variations::wrong_variations))]
-pub fn wrong_variations(font: &[u8], index: u32) -> Option<Reason>
-    ensures { result ≡ wrong_variations (record { bytes = font.now; index = index; extras = all_extras }) }
-{
-    wrong_fvar(font, index).or(wrong_maps(font, index))
+    wrong_fvar(font, index).or(wrong_avar(font, index))
 }

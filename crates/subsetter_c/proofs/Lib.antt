@@ -3,5 +3,6 @@ mod Asked
 mod AtCoordinates
 pub mod AnswersLaws
 mod Letters
+mod Questions
 mod TextsHanded
 pub mod DocumentsLaws

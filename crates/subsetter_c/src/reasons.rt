@@ -2,19 +2,19 @@
 
 ghost use Rattle.std.specs.Prelude.{◌≡◌, ◌<◌, ◌≤◌, Err, MatchOption, IfOk, IfErr, string_bytes};
 ghost use Rattle.subsetter_base.specs.declared.error.Error.TheVariants.{OutOfMemory};
-ghost use Rattle.subsetter.specs.Limits.{token_limit, depth_limit};
-ghost use Rattle.subsetter_sfnt.specs.Extras.{all_extras};
 ghost use Rattle.subsetter_c.specs.Answers.Handed.{IsHandedOver, IsNothingHanded};
 ghost use Rattle.subsetter_c.specs.Answers.Status.{unknown_option};
-ghost use Rattle.subsetter_c.specs.Options.{or_default};
-ghost use Rattle.subsetter_c.specs.Reasons.{IsTextAnswered, call_named, error_of, explained_text, reason_by, text_of};
+ghost use Rattle.subsetter_c.specs.Options.{AreKnown, AreRequested};
+ghost use Rattle.subsetter_c.specs.Reasons.{IsTextAnswered, call_named, error_of, explained_text, question, reason_by, text_of};
+ghost use Rattle.subsetter_c.specs.Settings.{settings_of};
 
 use crate::answers::handing::hand_bytes;
 use crate::answers::status::{NOT_PERMITTED, UNKNOWN_OPTION, status_of};
-use crate::options::or_default;
-use font_reasons::{Call, Reason, explain, find_prohibition};
+use crate::options::options_of;
+use crate::settings::{Coordinate, settings_of};
+use font_reasons::{Asked, Call, Reason, explain, find_prohibition};
 use std::alloc::{AllocError, Global};
-use subsetter::{Error, Limits};
+use subsetter::{Error, Options, Tag};
 
 /// The call of a number; none of another.
 fn call_of(number: u32) -> Option<Call>
@@ -49,44 +49,39 @@ fn error_of(status: u32) -> Option<Error>
     }
 }
 
-/// A depth, where 0 stands for the default.
-fn depth_of(depth: u8) -> u8
-    ensures { result ≡ or_default depth depth_limit }
-{
-    if depth == 0 { 64 } else { depth }
-}
-
-/// So many tokens and such a depth, where 0 stands for the default.
-fn limits_of(tokens: u32, depth: u8) -> Limits
-    ensures tokens { result.tokens ≡ or_default tokens token_limit }
-    ensures depth { result.depth ≡ or_default depth depth_limit }
-{
-    match Limits::new(or_default(tokens, 1_000_000), depth_of(depth)) {
-        Some(limits) => limits,
-        None => Limits::default(),
-    }
-}
-
 /// Why a call is refused with a status, if the font shows it.
+#[tactic(auto, using(crate::proofs::Questions::answered))]
 fn reason_by(
     alloc: Global,
     call: Call,
     status: u32,
     font: &[u8],
     index: u32,
+    settings: &[(Tag, i32)],
     glyphs: &[u16],
-    limits: &Limits,
+    words: &[u32],
+    options: &Options,
 ) -> Result<Option<Reason>, Error>
-    ensures ok { IfOk result (λ r. r ≡ reason_by call status (record { bytes = font.now; index = index; extras = all_extras }) limits.now.tokens limits.now.depth glyphs.now) }
+    requires { AreRequested words.now options.now }
+    ensures ok { IfOk result (λ r. r ≡ reason_by status (question call index settings.now glyphs.now words.now) index font.now) }
     ensures err { IfErr result (λ e. e ≡ OutOfMemory) }
 {
     if status == NOT_PERMITTED {
         return Ok(find_prohibition(font, index));
     }
-    match error_of(status) {
-        Some(error) => explain(alloc, call, error, font, index, glyphs, limits),
-        None => Ok(None),
-    }
+    let Some(error) = error_of(status) else {
+        return Ok(None);
+    };
+    let asked = Asked {
+        call,
+        error,
+        index,
+        glyphs,
+        coordinates: settings,
+        extras: options.extras,
+        limits: options.limits,
+    };
+    explain(alloc, font, &asked)
 }
 
 /// The text of a reason; an empty one of none.
@@ -106,15 +101,19 @@ fn text_by(
     status: u32,
     font: &[u8],
     index: u32,
+    coordinates: &[Coordinate],
     glyphs: &[u16],
-    tokens: u32,
-    depth: u8,
+    words: &[u32],
+    options: &Options,
 ) -> Result<String, Error>
-    ensures ok { IfOk result (λ text. string_bytes text ≡ explained_text call status (record { bytes = font.now; index = index; extras = all_extras }) (or_default tokens token_limit) (or_default depth depth_limit) glyphs.now) }
+    requires { AreRequested words.now options.now }
+    ensures ok { IfOk result (λ text. string_bytes text ≡ explained_text call status font.now index (settings_of coordinates.now) glyphs.now words.now) }
     ensures err { IfErr result (λ e. e ≡ OutOfMemory) }
 {
-    let limits = limits_of(tokens, depth);
-    let reason = reason_by(alloc, call, status, font, index, glyphs, &limits)?;
+    let settings = settings_of(alloc, coordinates)?;
+    let reason = reason_by(
+        alloc, call, status, font, index, &settings, glyphs, words, options,
+    )?;
     Ok(text_of(alloc, reason)?)
 }
 
@@ -132,33 +131,38 @@ fn hand_text(answer: Result<String, Error>, buffer: &mut [u8], told: &mut usize)
 }
 
 /// Why a call is refused with a status, as the font shows it, in the caller's buffer: UTF-8 without a zero at its end, and nothing
-/// where the font doesn't show it. Charstrings are run within so many tokens and to such a depth, each at most once.
+/// where the font doesn't show it. The words are those of `subsetter_options`. Charstrings are run within their tokens and to their
+/// depth, each at most once.
 ///
 /// Status 0: the first bytes of `out` are the text, and `length` is their count. Status 8: `out` is too small and unchanged, and
-/// `length` is the exact size. Status 7: memory ran out; status 10: the call is unknown; `out` is unchanged, and `length` is 0.
+/// `length` is the exact size. Status 7: memory ran out; status 10: the call or an option is unknown; `out` is unchanged, and
+/// `length` is 0.
 #[unsafe(no_mangle)]
-pub extern "C" fn subsetter_explain(
+pub extern "C" fn subsetter_explain_by_words(
     alloc: Global,
     call: u32,
     status: u32,
     font: &[u8],
     index: u32,
+    coordinates: &[Coordinate],
     glyphs: &[u16],
-    tokens: u32,
-    depth: u8,
+    options: &[u32],
     out: &mut [u8],
     length: &mut usize,
 ) -> u32
     ensures unknown { 7 ≤ call → IsNothingHanded unknown_option out.old out.new length.new result }
-    ensures text { call < 7 → IsHandedOver (λ text. text ≡ explained_text (call_named call) status (record { bytes = font.now; index = index; extras = all_extras }) (or_default tokens token_limit) (or_default depth depth_limit) glyphs.now) (λ e. e ≡ OutOfMemory) out.old out.new length.new result }
+    ensures unknown_options { ¬ (AreKnown options.now) → IsNothingHanded unknown_option out.old out.new length.new result }
+    ensures text { call < 7 → AreKnown options.now → IsHandedOver (λ text. text ≡ explained_text (call_named call) status font.now index (settings_of coordinates.now) glyphs.now options.now) (λ e. e ≡ OutOfMemory) out.old out.new length.new result }
 {
-    match call_of(call) {
-        Some(call) => hand_text(
-            text_by(alloc, call, status, font, index, glyphs, tokens, depth),
+    match (call_of(call), options_of(options)) {
+        (Some(call), Some(chosen)) => hand_text(
+            text_by(
+                alloc, call, status, font, index, coordinates, glyphs, options, &chosen,
+            ),
             out,
             length,
         ),
-        None => {
+        _ => {
             *length = 0;
             UNKNOWN_OPTION
         }

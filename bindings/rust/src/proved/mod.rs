@@ -95,12 +95,10 @@ pub mod subset_pdf;
 pub mod subset_task;
 pub mod subsetter;
 pub mod subsetter_base;
-#[cfg(feature = "variable-fonts")]
 pub mod subsetter_blend;
 #[cfg(feature = "variable-fonts")]
 pub mod subsetter_boxes;
 pub mod subsetter_cff;
-#[cfg(feature = "variable-fonts")]
 pub mod subsetter_cff2;
 #[cfg(feature = "variable-fonts")]
 pub mod subsetter_cff_at;

@@ -1,5 +1,5 @@
 -- What is shown of a face.
-use Rattle.std.proofs.Common.{◌≡◌, ◌≢◌, ◌⊎◌, inl, inr, ℕ, Bool, Bor, List, Option, Some, None, Result, Ok, Err, sym, ap, subst, ◌∙◌}
+use Rattle.std.proofs.Common.{◌≡◌, ◌≢◌, ◌⊎◌, inl, inr, ℕ, ◌≤◌, Bool, List, Option, Some, None, Result, Ok, Err, sym, ap, subst, ◌∙◌}
 use Rattle.std.specs.Prelude.{IfOk, IfErr, IfSome, OnOk}
 use Rattle.std.specs.Io.KnownBytes.{Appends}
 use Rattle.std.specs.Option.{option_map, unwrap_or}
@@ -9,16 +9,18 @@ use Rattle.subsetter_base.specs.declared.error.Error.TheVariants.{OutOfMemory}
 use Rattle.subsetter_sfnt.specs.Read.{Font, header_offset}
 use Rattle.subsetter_sfnt.specs.Extras.{all_extras}
 use Rattle.subsetter_type2.specs.declared.limits.Limits.{Limits}
-use Rattle.subset_task.specs.Chosen.{LimitsAreChosen}
 use Rattle.font_reasons.specs.Parts.{face_glyphs}
+use Rattle.font_reasons.specs.File.{or_else}
+use Rattle.font_reasons.specs.declared.asked.Call.TheVariants.{Subset}
 use Rattle.subset_font.specs.Refusals.Hint.{hint_of}
-use Rattle.subset_font.specs.Faces.Accepted.{IsPlain, listed_or_every, IsCause, IsAnswer}
+use Rattle.subset_font.specs.Refusals.SecondLook.{seen_after}
+use Rattle.subset_font.specs.Faces.Accepted.{IsPlain, IsCause, IsAnswer}
 use Rattle.subset_font.specs.Faces.Info.{IsInfo, info_text, ShowsInfo, IsInfoFault}
 use Rattle.subset_task.specs.Refusals.Texts.{hint_text}
 use Rattle.subset_task.specs.declared.refusals.failure.Failure.{Failure}
 use Rattle.subset_task.specs.declared.refusals.failure.Failure.TheVariants.{Error, Read, Output}
 use Rattle.subset_task.specs.declared.refusals.hint.text.Hint.{Hint}
-use Rattle.subset_task.specs.declared.task.RequestedGlyphs.{RequestedGlyphs}
+use Rattle.subset_task.specs.declared.task.RequestedGlyphs.TheVariants.{Every}
 use Rattle.subset_task.specs.declared.task.Task.{Task}
 
 -- the same answer, by other names of its texts
@@ -26,17 +28,17 @@ pub answered : (font : Font) (refusal reason shown following : Option (List ℕ)
 answered font refusal reason shown following h p q = subst (λ (text : Option (List ℕ)). IsAnswer font text following) (sym p) (subst (λ (text : Option (List ℕ)). IsAnswer font refusal text) (sym q) h)
 
 -- the text of what is known is that of a cause
-pub cause_of : {X E : Type 0} (view : X → Option (List ℕ)) (font : Font) (failure : Failure) (glyphs : Bor (List ℕ)) (requested : RequestedGlyphs) (limits : Limits) (task : Task) (hint : Option Hint) (maxp : Option ℕ) (count : ℕ) (items : List ℕ) (r : Result X E) → glyphs.now ≡ items → items ≡ counting 0 count → count ≡ unwrap_or maxp 0 → maxp ≡ face_glyphs font → requested ≡ listed_or_every glyphs → LimitsAreChosen None limits → IsPlain font.index limits requested task → hint ≡ hint_of failure task font.bytes → IfOk r (λ x. view x ≡ option_map hint_text hint) → IfOk r (λ x. IsCause font failure (view x))
-cause_of view font failure glyphs requested limits task hint maxp count items (Ok x) are counted or_none has is default plain known text = record {
-  glyphs = glyphs;
-  are_all = are ∙ (counted ∙ (ap (counting 0) or_none ∙ ap (λ (n : Option ℕ). counting 0 (unwrap_or n 0)) has));
+pub cause_of : {X E : Type 0} (view : X → Option (List ℕ)) (font : Font) (failure : Failure) (given : List ℕ) (limits : Limits) (task : Task) (hint : Option Hint) (maxp : Option ℕ) (count : ℕ) (items : List ℕ) (r : Result X E) → given ≡ items → items ≡ counting 0 count → count ≡ unwrap_or maxp 0 → maxp ≡ face_glyphs font → limits.tokens ≤ 1000000 → IsPlain font.index limits Every task
+    → hint ≡ or_else (hint_of failure task font.bytes) (seen_after Subset failure task given font.bytes) → IfOk r (λ x. view x ≡ option_map hint_text hint) → IfOk r (λ x. IsCause font failure (view x))
+cause_of view font failure given limits task hint maxp count items (Ok x) are counted or_none has few plain known text = record {
   limits = limits;
-  are_default = default;
+  few = few;
   task = task;
-  is_plain = subst (λ (a : RequestedGlyphs). IsPlain font.index limits a task) is plain;
-  is_text = text ∙ ap (option_map hint_text) known;
+  is_plain = plain;
+  is_text = text ∙ (ap (option_map hint_text) known ∙ ap (λ (all : List ℕ). option_map hint_text (or_else (hint_of failure task font.bytes) (seen_after Subset failure task all font.bytes)))
+      (are ∙ (counted ∙ (ap (counting 0) or_none ∙ ap (λ (n : Option ℕ). counting 0 (unwrap_or n 0)) has))));
 }
-cause_of view font failure glyphs requested limits task hint maxp count items (Err e) are counted or_none has is default plain known text = tt
+cause_of view font failure given limits task hint maxp count items (Err e) are counted or_none has few plain known text = tt
 
 -- what is written of a font with a header is what is shown of it
 pub shows_of : (json : Bool) (font : Font) (old new : Option (List ℕ)) (info : Info) (r : Result (Unit {0}) Failure) → header_offset font ≢ None → IsInfo font info → OnOk r (Appends old new (info_text json info)) → OnOk r (ShowsInfo json font old new)

@@ -1,6 +1,5 @@
 -- Whether a subset of all glyphs of a face is made, and why not.
-use Rattle.std.specs.Prelude.{◌≡◌, ◌⊎◌, ◌==◌, ◌≤◌, ℕ, Bool, true, false, if◌then◌else◌, List, [], ◌∷◌, length, Option, Some, None, codes}
-use Rattle.std.specs.Borrow.{Bor}
+use Rattle.std.specs.Prelude.{◌≡◌, ◌⊎◌, ◌≤◌, ℕ, Bool, true, false, List, [], ◌∷◌, Option, Some, None, codes}
 use Rattle.std.specs.Option.{option_map, unwrap_or}
 use Rattle.subsetter_base.specs.declared.error.Error.{Error as Refusal}
 use Rattle.subsetter_base.specs.declared.error.Error.TheVariants.{UnknownKind, MalformedFont, Unimplemented, SubsetError, OverflowError, CFFError, OutOfMemory}
@@ -8,13 +7,15 @@ use Rattle.subsetter_sfnt.specs.Extras.{all_extras}
 use Rattle.subsetter_sfnt.specs.Read.{Font}
 use Rattle.subset_args.specs.Listing.Lists.{counting}
 use Rattle.subsetter_type2.specs.declared.limits.Limits.{Limits}
-use Rattle.subset_task.specs.Chosen.{LimitsAreChosen}
 use Rattle.subset_font.specs.Making.Made.{IsMade, IsUnmade}
 use Rattle.font_reasons.specs.Parts.{face_glyphs}
+use Rattle.font_reasons.specs.File.{or_else}
+use Rattle.font_reasons.specs.declared.asked.Call.TheVariants.{Subset}
 use Rattle.subset_font.specs.Refusals.Hint.{hint_of}
+use Rattle.subset_font.specs.Refusals.SecondLook.{seen_after}
 use Rattle.subset_task.specs.Refusals.Texts.{failure_text, hint_text}
 use Rattle.subset_task.specs.declared.task.RequestedGlyphs.{RequestedGlyphs}
-use Rattle.subset_task.specs.declared.task.RequestedGlyphs.TheVariants.{These, Every}
+use Rattle.subset_task.specs.declared.task.RequestedGlyphs.TheVariants.{Every}
 use Rattle.subset_task.specs.declared.task.Task.{Task}
 use Rattle.subset_font.specs.declared.making.subset.Made.{Made}
 use Rattle.subset_task.specs.declared.refusals.failure.Failure.{Failure}
@@ -42,18 +43,12 @@ pub record IsRefusedWhole (font : Font) (failure : Failure) : Type 0 where
 
 -- ---- what is known of the cause
 
--- for the cause of a refusal the glyphs are listed, where there are any
-abbrev pub listed_or_every : Bor (List ℕ) → RequestedGlyphs
-listed_or_every given = if length given.now == 0 then Every else These given
-
 pub record IsCause (font : Font) (failure : Failure) (reason : Option (List ℕ)) : Type 0 where
-  pub glyphs : Bor (List ℕ)
-  pub are_all : glyphs.now ≡ counting 0 (unwrap_or (face_glyphs font) 0)
   pub limits : Limits
-  pub are_default : LimitsAreChosen None limits
+  pub few : limits.tokens ≤ 1000000
   pub task : Task
-  pub is_plain : IsPlain font.index limits (listed_or_every glyphs) task
-  pub is_text : reason ≡ option_map hint_text (hint_of failure task font.bytes)
+  pub is_plain : IsPlain font.index limits Every task
+  pub is_text : reason ≡ option_map hint_text (or_else (hint_of failure task font.bytes) (seen_after Subset failure task (counting 0 (unwrap_or (face_glyphs font) 0)) font.bytes))
 
 -- ---- the answer
 

@@ -1,22 +1,18 @@
 -- What a second line says of a font that is refused.
-use Rattle.std.specs.Prelude.{ℕ, if◌then◌else◌, Bool, true, false, List, [], ◌∷◌, Option, Some, None, is_some, codes}
+use Rattle.std.specs.Prelude.{ℕ, if◌then◌else◌, Bool, true, false, List, Option, Some, None, is_some, codes}
 use Rattle.std.specs.Option.{option_map}
 use Rattle.subsetter_base.specs.declared.error.Error.{Error as Refusal}
 use Rattle.subsetter_base.specs.declared.error.Error.TheVariants.{UnknownKind, MalformedFont, Unimplemented, SubsetError, OverflowError, CFFError, OutOfMemory}
-use Rattle.subsetter_base.specs.declared.tag.Tag.{Tag}
 use Rattle.subsetter_sfnt.specs.Extras.{all_extras}
 use Rattle.subsetter_sfnt.specs.Read.{Font as Face, find_record, records, stored}
 use Rattle.subsetter_sfnt.specs.declared.face.TableRecord.{TableRecord}
 use Rattle.font_reasons.specs.Directory.{bytes_or_none, records_in}
 use Rattle.font_reasons.specs.Explained.{no_cmap}
 use Rattle.font_reasons.specs.File.{or_else, no_font, missing_table}
-use Rattle.font_reasons.specs.Request.{reason_of}
 use Rattle.subset_lines.specs.declared.faces.outlines.Outlines.{Outlines}
 use Rattle.subset_lines.specs.declared.faces.outlines.Outlines.TheVariants.{TrueType, Cff, Cff2 as HasCff2, Missing}
 use Rattle.subset_task.specs.Faces.Outlines.{outlines_of}
 use Rattle.subset_font.specs.Making.Made.{face_of}
-use Rattle.subset_task.specs.declared.task.RequestedGlyphs.{RequestedGlyphs}
-use Rattle.subset_task.specs.declared.task.RequestedGlyphs.TheVariants.{These, Every, ByText, ByCharacters}
 use Rattle.subset_task.specs.declared.task.Task.{Task}
 use Rattle.pdf_values.specs.Permission.{is_usable}
 use Rattle.pdf_values.specs.declared.permission.Permission.{Permission}
@@ -24,36 +20,6 @@ use Rattle.subset_task.specs.declared.refusals.failure.Failure.{Failure}
 use Rattle.subset_task.specs.declared.refusals.failure.Failure.TheVariants.{Error, NoMapping, MissingCharacters, BlankGlyphs, NoInstance, NotPermitted, Usage, List as WrongList, Read, ReadList, Write, WritePdf, Output, LongAnswer}
 use Rattle.subset_task.specs.declared.refusals.hint.text.Hint.{Hint}
 use Rattle.subset_task.specs.declared.refusals.hint.text.Hint.TheVariants.{Font, Cff2, NoUnicode, WrongAxes, NoAxes, Forbidden}
-
--- the glyphs that are listed
-abbrev pub listed : RequestedGlyphs → List ℕ
-listed (These given) = given.now
-listed Every = []
-listed (ByText text) = []
-listed (ByCharacters given) = []
-
--- the table that only the task needs: `maxp` says how many glyphs a face has, and `hmtx` their widths
-abbrev pub for_widths : Bool → Option Tag
-for_widths true = Some (record { 0 = codes "hmtx" })
-for_widths false = None
-
-abbrev pub needed_table : RequestedGlyphs → Bool → Option Tag
-needed_table Every widths = Some (record { 0 = codes "maxp" })
-needed_table (These given) widths = for_widths widths
-needed_table (ByText text) widths = for_widths widths
-needed_table (ByCharacters given) widths = for_widths widths
-
--- what the tables of the font show for the glyphs of one request
-abbrev pub reason_for : Refusal → Face → Bool → RequestedGlyphs → Option Hint
-reason_for e font widths asked = option_map Font (reason_of e font (listed asked) (needed_table asked widths))
-
--- for the first for which they show anything
-abbrev pub first_reason : Refusal → Face → Bool → List RequestedGlyphs → Option Hint
-first_reason e font widths [] = None
-first_reason e font widths (one ∷ more) = or_else (reason_for e font widths one) (first_reason e font widths more)
-
-abbrev pub reason_in : Refusal → Task → List ℕ → Option Hint
-reason_in e task bytes = first_reason e (face_of task bytes) task.widths task.requested.pieces.now
 
 -- outlines of CFF2
 abbrev pub cff2_by : Outlines → Option Hint
@@ -74,13 +40,8 @@ abbrev pub no_coordinates : Task → List ℕ → Option Hint
 no_coordinates task bytes = cff2_without (is_some task.at) (face_of task bytes)
 
 abbrev pub hint_of_error : Refusal → Task → List ℕ → Option Hint
-hint_of_error UnknownKind task bytes = reason_in UnknownKind task bytes
-hint_of_error MalformedFont task bytes = reason_in MalformedFont task bytes
 hint_of_error Unimplemented task bytes = no_coordinates task bytes
-hint_of_error SubsetError task bytes = reason_in SubsetError task bytes
-hint_of_error OverflowError task bytes = reason_in OverflowError task bytes
-hint_of_error CFFError task bytes = reason_in CFFError task bytes
-hint_of_error OutOfMemory task bytes = reason_in OutOfMemory task bytes
+hint_of_error other task bytes = None
 
 -- why a face has no mapping of Unicode characters: there is no face, no cmap, or none of its tables that are read
 unfoldable pub no_mapping : Face → Option Hint
@@ -128,7 +89,7 @@ axes_hint LongAnswer bytes index = None
 abbrev pub forbidden_bit : Permission → ℕ
 forbidden_bit p = if is_usable p.usage then (if p.subsetting then 9 else 8) else 1
 
--- what is said after a failure
+-- what is said after a failure, but for what a second look shows
 abbrev pub hint_of : Failure → Task → List ℕ → Option Hint
 hint_of (Error e) task bytes = hint_of_error e task bytes
 hint_of NoMapping task bytes = hint_of_mapping (face_of task bytes)

@@ -1,8 +1,49 @@
--- Which call a task comes to, as reasons name it.
-use Rattle.std.specs.Prelude.{Bool, if◌then◌else◌}
-use Rattle.font_reasons.specs.declared.explained.Call.{Call}
-use Rattle.font_reasons.specs.declared.explained.Call.TheVariants.{Subset, SubsetAt, Embed, EmbedAt, PdfFont}
+-- What a second look at the glyphs that are picked shows of a font that is refused.
+use Rattle.std.specs.Prelude.{ℕ, ℤ, Bool, if◌then◌else◌, List, [], Option, Some, None, unwrap_or, codes}
+use Rattle.std.specs.Option.{option_copied, option_map}
+use Rattle.subsetter_base.specs.declared.error.Error.{Error as Refusal}
+use Rattle.subsetter_base.specs.declared.error.Error.TheVariants.{MalformedFont}
+use Rattle.font_reasons.specs.Calls.{Question}
+use Rattle.font_reasons.specs.Explained.{explained}
+use Rattle.font_reasons.specs.File.{or_else}
+use Rattle.font_reasons.specs.Parts.{no_table}
+use Rattle.font_reasons.specs.declared.asked.Call.{Call}
+use Rattle.font_reasons.specs.declared.asked.Call.TheVariants.{Subset, SubsetAt, Embed, EmbedAt, PdfFont}
+use Rattle.font_reasons.specs.declared.reason.Reason.{Reason}
+use Rattle.subsetter_sfnt.specs.Read.{Font as Face}
+use Rattle.subset_font.specs.Making.Made.{face_of}
+use Rattle.subset_task.specs.declared.refusals.failure.Failure.{Failure}
+use Rattle.subset_task.specs.declared.refusals.failure.Failure.TheVariants.{Error}
+use Rattle.subset_task.specs.declared.refusals.hint.text.Hint.{Hint}
+use Rattle.subset_task.specs.declared.refusals.hint.text.Hint.TheVariants.{Font}
+use Rattle.subset_task.specs.declared.task.Task.{Task}
 
--- with a PDF, at coordinates, with widths
+-- which call a task comes to: with a PDF, at coordinates, with widths
 abbrev pub call_of : Bool → Bool → Bool → Call
 call_of pdf at widths = if pdf then PdfFont else if at then (if widths then EmbedAt else SubsetAt) else if widths then Embed else Subset
+
+-- what it asks for, of these glyphs
+abbrev pub question : Call → Refusal → Task → List ℕ → Question
+question call e task glyphs = record {
+  call = call;
+  error = e;
+  index = task.index;
+  glyphs = glyphs;
+  coordinates = unwrap_or (option_copied task.at) [];
+  extras = task.options.extras;
+  tokens = task.options.limits.tokens;
+  depth = task.options.limits.depth;
+}
+
+-- where no glyphs are there, a face may lack the table that counts them
+abbrev pub uncounted : Refusal → Face → List ℕ → Option Reason
+uncounted MalformedFont font [] = no_table font (record { 0 = codes "maxp" })
+uncounted e font glyphs = None
+
+abbrev pub seen_again : Call → Refusal → Task → List ℕ → List ℕ → Option Hint
+seen_again call e task glyphs bytes = option_map Font (or_else (explained (question call e task glyphs) bytes) (uncounted e (face_of task bytes) glyphs))
+
+-- after a failure
+abbrev pub seen_after : Call → Failure → Task → List ℕ → List ℕ → Option Hint
+seen_after call (Error e) task glyphs bytes = seen_again call e task glyphs bytes
+seen_after call other task glyphs bytes = None

@@ -3,13 +3,14 @@
 ghost use Rattle.std.specs.Prelude.{◌≡◌, ◌≤◌, [], ◌∷◌, IfOk, IfErr, OnOk, Some, None, codes, string_bytes};
 ghost use Rattle.std.specs.Option.{option_map};
 ghost use Rattle.subsetter_sfnt.specs.Extras.{all_extras};
-ghost use Rattle.subset_font.specs.Faces.Accepted.{IsPlain, listed_or_every, is_of_memory, IsCause, IsAccepted, IsRefusedWhole, IsAnswer};
+ghost use Rattle.subset_font.specs.Faces.Accepted.{IsPlain, is_of_memory, IsCause, IsAccepted, IsRefusedWhole, IsAnswer};
 ghost use Rattle.subset_task.specs.Refusals.Texts.{hint_text};
 ghost use Rattle.subset_task.specs.declared.task.RequestedGlyphs.{RequestedGlyphs};
 
 use crate::making::subset::make_of;
 use crate::refusals::hint::found::find_hint;
-use font_reasons::count_glyphs;
+use crate::refusals::second_look::look_after;
+use font_reasons::{Call, count_glyphs};
 use std::alloc::{AllocError, Global};
 use subset_task::making::requested::first_glyphs;
 use subset_task::refusals::failure::Failure;
@@ -96,16 +97,6 @@ pub struct InfoParts {
     pub reason: Option<String>,
 }
 
-/// All glyphs of a face: these, where there are any.
-fn listed_or_every(glyphs: &[u16]) -> RequestedGlyphs<'_>
-    ensures { result ≡ listed_or_every glyphs.entry }
-{
-    if glyphs.len() == 0 {
-        return RequestedGlyphs::Every;
-    }
-    RequestedGlyphs::These(glyphs)
-}
-
 /// The text of what is known of a cause.
 fn text_of(alloc: Global, hint: Option<Hint>) -> Result<Option<String>, AllocError>
     ensures { IfOk result (λ text. option_map string_bytes text ≡ option_map hint_text hint) }
@@ -127,9 +118,12 @@ fn reason_of(
 {
     let count = count_glyphs(font, index).unwrap_or(0);
     let glyphs = first_glyphs(alloc, count)?;
-    let pieces = [listed_or_every(&glyphs)];
-    let task = task_for(index, Limits::default(), &pieces);
-    text_of(alloc, find_hint(failure, font, &task))
+    let limits = limits_for(font, index);
+    let pieces = [RequestedGlyphs::Every];
+    let task = task_for(index, limits, &pieces);
+    let hint = find_hint(failure, font, &task);
+    let seen = look_after(alloc, Call::Subset, failure, font, &task, &glyphs)?;
+    text_of(alloc, hint.or(seen))
 }
 
 /// Whether memory ran out.

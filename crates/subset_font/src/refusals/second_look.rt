@@ -1,17 +1,17 @@
-//! Why a font is refused, by a second look at the glyphs that are picked: their charstrings are run, and what varies is read.
+//! Why a font is refused, by a second look at the glyphs that are picked: the tables are read, charstrings are run, and what varies is read.
 
-ghost use Rattle.std.specs.Prelude.{◌≡◌, IfSome, Some};
-ghost use Rattle.std.specs.Option.{option_map};
-ghost use Rattle.font_reasons.specs.Explained.{explained};
-ghost use Rattle.subset_task.specs.declared.refusals.hint.text.Hint.TheVariants.{Font};
+ghost use Rattle.std.specs.Prelude.{◌≡◌, [], IfOk, unwrap_or};
+ghost use Rattle.std.specs.Option.{option_copied};
 ghost use Rattle.subset_font.specs.Making.Made.{face_of};
-ghost use Rattle.subset_font.specs.Refusals.SecondLook.{call_of};
+ghost use Rattle.subset_font.specs.Refusals.SecondLook.{call_of, seen_after, seen_again, uncounted};
 
-use font_reasons::{Call, explain};
-use std::alloc::Global;
+use crate::refusals::hint::found::shown;
+use font_reasons::{Asked, Call, Reason, explain, no_table};
+use std::alloc::{AllocError, Global};
+use subset_task::refusals::failure::Failure;
 use subset_task::refusals::hint::text::Hint;
 use subset_task::task::Task;
-use subsetter::Error;
+use subsetter::{Error, Tag};
 
 /// Which call a task comes to: with a PDF, at coordinates, with widths.
 pub fn call_of(pdf: bool, at: bool, widths: bool) -> Call
@@ -28,27 +28,65 @@ pub fn call_of(pdf: bool, at: bool, widths: bool) -> Call
     }
 }
 
-/// What the font shows of why a call on these glyphs is refused, within the limits of the task; nothing where memory runs out.
-pub fn look_again(
+/// The coordinates of a task; none where there are none.
+fn settings_of<'a>(task: &Task<'a>) -> &'a [(Tag, i32)]
+    ensures { result.now ≡ unwrap_or (option_copied task.now.at) [] }
+{
+    match task.at {
+        Some(at) => at,
+        None => &[],
+    }
+}
+
+/// That a face lacks the table that counts glyphs, where none are there.
+fn uncounted(error: Error, font: &[u8], task: &Task<'_>, glyphs: &[u16]) -> Option<Reason>
+    ensures { result ≡ uncounted error (face_of task.now font.now) glyphs.now }
+{
+    match (error, glyphs) {
+        (Error::MalformedFont, []) => no_table(font, task.index, Tag::MAXP),
+        _ => None,
+    }
+}
+
+/// What the font shows of why a call on these glyphs is refused by an error, within the limits of the task.
+fn look_again(
     alloc: Global,
     call: Call,
     error: Error,
     font: &[u8],
     task: &Task<'_>,
     glyphs: &[u16],
-) -> Option<Hint>
-    ensures { IfSome result (λ hint. option_map Font (explained call error (face_of task.now font.now) task.now.options.limits.tokens task.now.options.limits.depth glyphs.now) ≡ Some hint) }
+) -> Result<Option<Hint>, AllocError>
+    ensures { IfOk result (λ hint. hint ≡ seen_again call error task.now glyphs.now font.now) }
 {
-    match explain(
-        alloc,
+    let asked = Asked {
         call,
         error,
-        font,
-        task.index,
+        index: task.index,
         glyphs,
-        &task.options.limits,
-    ) {
-        Ok(Some(reason)) => Some(Hint::Font(reason)),
-        _ => None,
+        coordinates: settings_of(task),
+        extras: task.options.extras,
+        limits: task.options.limits,
+    };
+    match explain(alloc, font, &asked) {
+        Ok(found) => Ok(shown(found.or(uncounted(error, font, task, glyphs)))),
+        Err(_) => Err(AllocError),
+    }
+}
+
+/// What it shows after a failure.
+pub fn look_after(
+    alloc: Global,
+    call: Call,
+    failure: &Failure,
+    font: &[u8],
+    task: &Task<'_>,
+    glyphs: &[u16],
+) -> Result<Option<Hint>, AllocError>
+    ensures { IfOk result (λ hint. hint ≡ seen_after call failure.now task.now glyphs.now font.now) }
+{
+    match failure {
+        Failure::Error(error) => look_again(alloc, call, *error, font, task, glyphs),
+        _ => Ok(None),
     }
 }

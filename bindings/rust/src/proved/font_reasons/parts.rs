@@ -41,12 +41,6 @@ pub fn no_table(font: &[u8], index: u32, tag: Tag) -> Option<Reason> {
     }
 }
 
-/// Whether a face lacks a table that only this request needs, if it needs one.
-#[cfg(feature = "program")]
-pub fn no_needed_table(font: &[u8], index: u32, needs: Option<Tag>) -> Option<Reason> {
-    no_table(font, index, needs?)
-}
-
 /// What is wrong with numberOfHMetrics of `hhea`, by the length of `hmtx`.
 fn wrong_metrics_of(hhea: &[u8], hmtx: &[u8]) -> Option<Reason> {
     let count = number_of_h_metrics(hhea)?;

@@ -73,18 +73,22 @@ pub enum Reason {
     AxisSize(u16),
     /// axisCount of this table is this, and that of `fvar` another.
     AxisCount(Tag, u16, u16),
-    /// `gvar` can't be read.
-    WrongGvar,
-    /// majorVersion of `CFF ` isn't 1.
-    OtherCff,
-    /// `CFF ` can't be read.
-    WrongCff,
-    /// `CFF ` has no charstring, or no private dict, for this glyph.
-    NoCharstring(u16),
-    /// The charstring of this glyph is wrong, or passes the limits.
-    WrongCharstring(u16),
+    /// This table can't be read.
+    Unread(Tag),
+    /// This table has no charstring, or no private dict, for this glyph that can be read.
+    NoCharstring(Tag, u16),
+    /// The charstring of this glyph in this table is wrong, or passes the limits.
+    WrongCharstring(Tag, u16),
     /// The charstring of this glyph ends by putting two others together.
     Composed(u16),
+    /// The outline of this glyph can't be read.
+    WrongOutline(u16),
+    /// This glyph is a component more than 64 levels deep.
+    Deep(u16),
+    /// What this glyph varies by in this table can't be read.
+    Unvaried(Tag, u16),
+    /// What the metric of this tag varies by in `MVAR` can't be read.
+    WrongMetric(Tag),
 }
 
 impl Reason {
@@ -113,12 +117,14 @@ impl Reason {
             Reason::OtherVersion(tag) => Some(tag),
             Reason::AxisSize(_) => Some(Tag::new(b"fvar")),
             Reason::AxisCount(tag, _, _) => Some(tag),
-            Reason::WrongGvar => Some(Tag::new(b"gvar")),
-            Reason::OtherCff => Some(Tag::CFF),
-            Reason::WrongCff => Some(Tag::CFF),
-            Reason::NoCharstring(_) => Some(Tag::CFF),
-            Reason::WrongCharstring(_) => Some(Tag::CFF),
+            Reason::Unread(tag) => Some(tag),
+            Reason::NoCharstring(tag, _) => Some(tag),
+            Reason::WrongCharstring(tag, _) => Some(tag),
             Reason::Composed(_) => Some(Tag::CFF),
+            Reason::WrongOutline(_) => Some(Tag::GLYF),
+            Reason::Deep(_) => Some(Tag::GLYF),
+            Reason::Unvaried(tag, _) => Some(tag),
+            Reason::WrongMetric(_) => Some(Tag::new(b"MVAR")),
             _ => None,
         }
     }
@@ -134,9 +140,12 @@ impl Reason {
             Reason::CutComponent(glyph) => Some(glyph),
             Reason::ByComponent(glyph, _) => Some(glyph),
             Reason::NoMetric(glyph) => Some(glyph),
-            Reason::NoCharstring(glyph) => Some(glyph),
-            Reason::WrongCharstring(glyph) => Some(glyph),
+            Reason::NoCharstring(_, glyph) => Some(glyph),
+            Reason::WrongCharstring(_, glyph) => Some(glyph),
             Reason::Composed(glyph) => Some(glyph),
+            Reason::WrongOutline(glyph) => Some(glyph),
+            Reason::Deep(glyph) => Some(glyph),
+            Reason::Unvaried(_, glyph) => Some(glyph),
             _ => None,
         }
     }
@@ -399,24 +408,20 @@ impl fmt::Display for Reason {
                 write!(f, "{text}")
             }
             Reason::AxisCount(tag, count, axes) => write!(f, "{}", AxesText(tag, count, axes)),
-            Reason::WrongGvar => f.write_str("gvar: the table can't be read"),
-            Reason::OtherCff => f.write_str("CFF: its major version isn't 1"),
-            Reason::WrongCff => f.write_str("CFF: the table can't be read"),
-            Reason::NoCharstring(glyph) => {
-                let text = Between(
-                    "glyph ",
-                    u32::from(glyph),
-                    ": CFF has no charstring or private dict for it",
-                );
-                write!(f, "{text}")
+            Reason::Unread(tag) => write!(f, "{}: the table can't be read", TableName(tag)),
+            Reason::NoCharstring(tag, glyph) => {
+                write!(
+                    f,
+                    "glyph {glyph}: {} has no charstring or private dict for it",
+                    TableName(tag)
+                )
             }
-            Reason::WrongCharstring(glyph) => {
-                let text = Between(
-                    "glyph ",
-                    u32::from(glyph),
-                    ": its charstring is wrong, or passes the limits",
-                );
-                write!(f, "{text}")
+            Reason::WrongCharstring(tag, glyph) => {
+                write!(
+                    f,
+                    "glyph {glyph}: its charstring in {} is wrong, or passes the limits",
+                    TableName(tag)
+                )
             }
             Reason::Composed(glyph) => {
                 let text = Between(
@@ -425,6 +430,28 @@ impl fmt::Display for Reason {
                     ": its charstring puts two others together",
                 );
                 write!(f, "{text}")
+            }
+            Reason::WrongOutline(glyph) => {
+                let text = Between("glyph ", u32::from(glyph), ": its outline can't be read");
+                write!(f, "{text}")
+            }
+            Reason::Deep(glyph) => {
+                let text = Between(
+                    "glyph ",
+                    u32::from(glyph),
+                    ": a component more than 64 levels deep",
+                );
+                write!(f, "{text}")
+            }
+            Reason::Unvaried(tag, glyph) => {
+                write!(
+                    f,
+                    "glyph {glyph}: its variation data in {} can't be read",
+                    TableName(tag)
+                )
+            }
+            Reason::WrongMetric(tag) => {
+                write!(f, "MVAR: the value of {} can't be read", TableName(tag))
             }
         }
     }

@@ -6,7 +6,7 @@ use crate::proved::subsetter_base::read::number_at;
 use crate::proved::subsetter_base::Tag;
 use crate::proved::subsetter_sfnt::directory::table;
 use crate::proved::subsetter_sfnt::fields::name::{COUNT, STORAGE_OFFSET};
-use crate::proved::subsetter_sfnt::fields::post::{num_glyphs, version, VERSION_2_0};
+use crate::proved::subsetter_sfnt::fields::post::{num_glyphs, version, HEADER_SIZE, VERSION_2_0};
 
 /// Where indexToLocFormat of `head` ends.
 const HEAD_END: u64 = 52;
@@ -73,10 +73,18 @@ fn short_post_of(post: &[u8]) -> Option<Reason> {
     short(Tag::POST, needed, post)
 }
 
-/// Whether the `post` of a face does.
-pub fn short_post(font: &[u8], index: u32) -> Option<Reason> {
-    let post = table(font, index, Tag::POST)?;
+/// Whether a table `post` does whose names of glyphs are kept or not.
+fn short_kept_post(names: bool, post: &[u8]) -> Option<Reason> {
+    if !names && post.len() >= HEADER_SIZE {
+        return None;
+    }
     short_post_of(post)
+}
+
+/// Whether the `post` of a face does.
+pub fn short_post(names: bool, font: &[u8], index: u32) -> Option<Reason> {
+    let post = table(font, index, Tag::POST)?;
+    short_kept_post(names, post)
 }
 
 /// Where the records of `name` end and its storage begins, whichever is later, by their count and its offset.

@@ -20,27 +20,27 @@ const AVAR_AXIS_COUNT: usize = 6;
 const AXIS_RECORD_SIZE: u16 = 20;
 
 /// The tag of `fvar`.
-fn fvar_tag() -> Tag {
+pub fn fvar_tag() -> Tag {
     Tag::new(b"fvar")
 }
 
 /// The tag of `avar`.
-fn avar_tag() -> Tag {
+pub fn avar_tag() -> Tag {
     Tag::new(b"avar")
 }
 
 /// The tag of `gvar`.
-fn gvar_tag() -> Tag {
+pub fn gvar_tag() -> Tag {
     Tag::new(b"gvar")
 }
 
 /// The tag of `HVAR`.
-fn hvar_tag() -> Tag {
+pub fn hvar_tag() -> Tag {
     Tag::new(b"HVAR")
 }
 
 /// The tag of `MVAR`.
-fn mvar_tag() -> Tag {
+pub fn mvar_tag() -> Tag {
     Tag::new(b"MVAR")
 }
 
@@ -59,7 +59,7 @@ fn other_avar(font: &[u8], index: u32) -> Option<Reason> {
 }
 
 /// Whether a table of axes does.
-fn other_axes(font: &[u8], index: u32) -> Option<Reason> {
+pub fn other_axes(font: &[u8], index: u32) -> Option<Reason> {
     other_version(font, index, fvar_tag()).or(other_avar(font, index))
 }
 
@@ -68,14 +68,15 @@ fn other_metrics(font: &[u8], index: u32) -> Option<Reason> {
     other_version(font, index, hvar_tag()).or(other_version(font, index, mvar_tag()))
 }
 
-/// Whether a table of what outlines or metrics vary by does.
-fn other_deltas(font: &[u8], index: u32) -> Option<Reason> {
-    other_version(font, index, gvar_tag()).or(other_metrics(font, index))
+/// Whether `gvar` does, where there are outlines in `glyf`.
+fn other_gvar(font: &[u8], index: u32) -> Option<Reason> {
+    let _glyf = table(font, index, Tag::GLYF)?;
+    other_version(font, index, gvar_tag())
 }
 
-/// Whether a table of a variable font does.
-pub fn other_variations(font: &[u8], index: u32) -> Option<Reason> {
-    other_axes(font, index).or(other_deltas(font, index))
+/// Whether a table of what outlines or metrics vary by does.
+pub fn other_deltas(font: &[u8], index: u32) -> Option<Reason> {
+    other_gvar(font, index).or(other_metrics(font, index))
 }
 
 /// Where the records of axes end, by their offset, their count and their size.
@@ -143,23 +144,19 @@ fn wrong_avar(font: &[u8], index: u32) -> Option<Reason> {
 fn wrong_gvar_of(fvar: &[u8], gvar: &[u8]) -> Option<Reason> {
     match gvar_table(gvar) {
         Some(read) => other_count(gvar_tag(), read.axis_count(), axis_count(fvar)),
-        None => Some(Reason::WrongGvar),
+        None => Some(Reason::Unread(gvar_tag())),
     }
 }
 
-/// What is wrong with the `gvar` of a face, where there are axes.
-fn wrong_gvar(font: &[u8], index: u32) -> Option<Reason> {
+/// What is wrong with the `gvar` of a face, where there are axes, and outlines in `glyf`.
+pub fn wrong_gvar(font: &[u8], index: u32) -> Option<Reason> {
+    let _glyf = table(font, index, Tag::GLYF)?;
     let fvar = table(font, index, fvar_tag())?;
     let gvar = table(font, index, gvar_tag())?;
     wrong_gvar_of(fvar, gvar)
 }
 
-/// What is wrong with `avar` or `gvar`.
-fn wrong_maps(font: &[u8], index: u32) -> Option<Reason> {
-    wrong_avar(font, index).or(wrong_gvar(font, index))
-}
-
-/// What is wrong with the axes of a face, or with what its outlines vary by.
-pub fn wrong_variations(font: &[u8], index: u32) -> Option<Reason> {
-    wrong_fvar(font, index).or(wrong_maps(font, index))
+/// What is wrong with the axes of a face.
+pub fn wrong_location(font: &[u8], index: u32) -> Option<Reason> {
+    wrong_fvar(font, index).or(wrong_avar(font, index))
 }

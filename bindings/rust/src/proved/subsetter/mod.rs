@@ -20,9 +20,7 @@ mod subsetting;
 mod tables;
 mod truetype;
 
-#[cfg(feature = "variable-fonts")]
-pub use crate::proved::subsetter_base::Tag;
-pub use crate::proved::subsetter_base::{Error, GlyphRemapper};
+pub use crate::proved::subsetter_base::{Error, GlyphRemapper, Tag};
 pub use crate::proved::subsetter_sfnt::extras::Extras;
 pub use crate::proved::subsetter_type2::limits::Limits;
 pub use choice::Options;

@@ -3,7 +3,6 @@
 //!
 //! `new_at` and `jump` take any offset, and one past the end isn't the same as the end, where no bytes can be read.
 
-#[cfg(feature = "variable-fonts")]
 use crate::rattle::prelude::Cast;
 
 pub use crate::proved::subsetter_base::lazy_array::LazyArray16;
@@ -104,14 +103,12 @@ pub fn u32_of(bytes: &[u8]) -> u32 {
 }
 
 /// The signed number that two bytes spell.
-#[cfg(feature = "variable-fonts")]
 #[inline]
 pub fn signed_at(bytes: &[u8], at: usize) -> i16 {
     u16_at(bytes, at).to_signed()
 }
 
 /// The signed number that four bytes spell.
-#[cfg(feature = "variable-fonts")]
 #[inline]
 pub fn long_signed_at(bytes: &[u8], at: usize) -> i32 {
     u32_at(bytes, at).to_signed()

@@ -16,7 +16,6 @@ pub struct Writer {
 
 impl Writer {
     /// No bytes yet.
-    #[cfg(feature = "variable-fonts")]
     pub fn new(alloc: Global) -> Self {
         Self {
             bytes: Vec::new(alloc),

@@ -41,3 +41,28 @@ pub fn resolve_in<'a, R: Regions>(
     )?;
     fitting.finish()
 }
+
+/// The bytes of a Type 2 charstring without subroutines, in which all blends are resolved, with the advance as its width.
+///
+/// `CFFError` where the charstring is malformed or passes a limit, `OverflowError` where a number doesn't fit.
+pub fn resolve<'a, R: Regions>(
+    alloc: Global,
+    subroutines: &Subroutines<'a>,
+    regions: &R,
+    limits: &Limits,
+    data_index: u16,
+    advance: i16,
+    charstring: &'a [u8],
+) -> Result<Vec<u8>, Error> {
+    let mut room = Room::new(charstring);
+    resolve_in(
+        alloc,
+        &mut room,
+        subroutines,
+        regions,
+        limits,
+        data_index,
+        advance,
+        charstring,
+    )
+}

@@ -5,23 +5,33 @@ use crate::rattle::prelude::Vec;
 
 use crate::proved::subsetter_base::error::Error;
 use crate::proved::subsetter_base::write::Writer;
+#[cfg(feature = "variable-fonts")]
 use crate::proved::subsetter_cff::read::entries::demands::show_last;
+#[cfg(feature = "variable-fonts")]
 use crate::proved::subsetter_cff::write::laying::table::{FontDictParts, TableParts};
+#[cfg(feature = "variable-fonts")]
 use crate::proved::subsetter_cff::write::laying::writing::write_table;
+#[cfg(feature = "variable-fonts")]
 use crate::proved::subsetter_cff::write::new_dicts::matrix::{new_top_matrix, unit_matrix, Matrix};
+#[cfg(feature = "variable-fonts")]
 use crate::proved::subsetter_cff::CffPieces;
 use crate::proved::subsetter_cff2::private_dicts::private2::private_numbered;
 use crate::proved::subsetter_cff2::private_dicts::private_at::write_private_at;
 use crate::proved::subsetter_cff2::table::Table2;
 use crate::proved::subsetter_cff2::variation::Variation;
+#[cfg(feature = "variable-fonts")]
 use crate::proved::subsetter_cffdata::dicts::dict::operators::FONT_MATRIX;
+#[cfg(feature = "variable-fonts")]
 use crate::proved::subsetter_cffdata::dicts::dict::DictionaryParser;
+#[cfg(feature = "variable-fonts")]
 use crate::proved::subsetter_cffdata::dicts::operands::six_of;
 use crate::proved::subsetter_cffdata::indexes::index::Index;
+#[cfg(feature = "variable-fonts")]
 use crate::proved::subsetter_cffdata::numerals::number::Number;
 use crate::rattle::alloc::Global;
 
 /// The Name INDEX: one name, Instance.
+#[cfg(feature = "variable-fonts")]
 const NAMES: [u8; 13] = [0, 1, 1, 1, 9, 73, 110, 115, 116, 97, 110, 99, 101];
 
 /// A private dict at a location.
@@ -83,6 +93,7 @@ pub fn place_dicts<'a>(
 }
 
 /// The font dicts that are written.
+#[cfg(feature = "variable-fonts")]
 fn font_dicts<'a>(
     alloc: Global,
     dicts: &'a [PlacedDict<'_>],
@@ -99,6 +110,7 @@ fn font_dicts<'a>(
 }
 
 /// The matrix of a top dict; None where it has other operands, and `Some(None)` where there is none.
+#[cfg(feature = "variable-fonts")]
 pub fn find_matrix(dict: &[u8]) -> Option<Option<Matrix>> {
     let mut buffer = [Number::zero(); 48];
     let mut parser = DictionaryParser::new(dict, &mut buffer);
@@ -110,6 +122,7 @@ pub fn find_matrix(dict: &[u8]) -> Option<Option<Matrix>> {
 }
 
 /// FontBBox.
+#[cfg(feature = "variable-fonts")]
 fn new_box(font_box: &[i16; 4]) -> [Number; 4] {
     let [left, bottom, right, top] = font_box;
     [
@@ -121,6 +134,7 @@ fn new_box(font_box: &[i16; 4]) -> [Number; 4] {
 }
 
 /// The parts of the new table.
+#[cfg(feature = "variable-fonts")]
 fn new_table<'a>(
     alloc: Global,
     dicts: &'a [PlacedDict<'_>],
@@ -144,6 +158,7 @@ fn new_table<'a>(
 }
 
 /// Writes the new table. A real that is too long, an offset past 2147483647 and charstrings of 4 GiB are `OverflowError`.
+#[cfg(feature = "variable-fonts")]
 pub fn write_made(
     alloc: Global,
     dicts: &[PlacedDict<'_>],

@@ -3,4 +3,5 @@
 
 pub mod search;
 pub mod select;
+#[cfg(feature = "variable-fonts")]
 pub mod used;

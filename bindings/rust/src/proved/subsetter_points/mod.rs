@@ -2,7 +2,7 @@
 //! Simple glyph descriptions of a `glyf` table as points, both ways: what an instance of a variable font needs, which moves the
 //! points of an outline and writes it anew.
 //!
-//! - `read_simple` reads the [`Outline`] of a simple glyph: its points, and the last point of each contour.
+//! - [`read_simple`] reads the [`Outline`] of a simple glyph: its points, and the last point of each contour.
 //! - [`read_columns`] reads the same as [`Columns`]: the flags and the coordinates, not joined.
 //! - [`fits`] is whether an outline can be written, and `write_simple` appends its bytes, as [`write_bounded`] does where the box around its points is known.
 //!
@@ -19,11 +19,9 @@ pub mod component;
 pub mod header;
 #[cfg(feature = "variable-fonts")]
 mod list_bytes;
-#[cfg(feature = "variable-fonts")]
 mod lists;
-#[cfg(feature = "variable-fonts")]
 mod outline;
-#[cfg(feature = "variable-fonts")]
+mod points;
 mod reading;
 #[cfg(feature = "variable-fonts")]
 mod writing;
@@ -36,5 +34,6 @@ pub use list_bytes::fitting::fits;
 pub use outline::{Columns, Outline, Point};
 #[cfg(feature = "variable-fonts")]
 pub use reading::read_columns;
+pub use reading::read_simple;
 #[cfg(feature = "variable-fonts")]
 pub use writing::write_bounded;

@@ -3,6 +3,8 @@
 
 use crate::rattle::prelude::Vec;
 
+use crate::rattle::alloc::Global;
+
 /// A point of an outline, in font design units.
 #[derive(Clone, Copy, Debug, PartialEq, Eq)]
 pub struct Point {
@@ -15,6 +17,7 @@ pub struct Point {
 }
 
 /// One of the two columns of coordinates of a simple glyph description.
+#[cfg(feature = "variable-fonts")]
 #[derive(Clone, Copy)]
 pub enum Column {
     /// From left to right.
@@ -24,6 +27,7 @@ pub enum Column {
 }
 
 /// The coordinate of a point in a column.
+#[cfg(feature = "variable-fonts")]
 #[inline]
 pub fn coordinate_in(column: Column, point: Point) -> i16 {
     match column {
@@ -56,6 +60,16 @@ pub struct Columns {
 }
 
 impl Columns {
+    /// Those of an outline without points.
+    pub fn new(alloc: Global) -> Self {
+        Self {
+            ends: Vec::new(alloc),
+            flags: Vec::new(alloc),
+            xs: Vec::new(alloc),
+            ys: Vec::new(alloc),
+        }
+    }
+
     /// Lists with the room of these, which hold nothing.
     pub fn emptied(self) -> Self {
         let mut columns = self;

@@ -20,7 +20,8 @@ use crate::proved::subsetter_points::lists::deltas::{
 use crate::proved::subsetter_points::lists::ends::{count, read_ends};
 use crate::proved::subsetter_points::lists::flags::read_flags;
 use crate::proved::subsetter_points::lists::front::{read_after, read_word};
-use crate::proved::subsetter_points::outline::Columns;
+use crate::proved::subsetter_points::outline::{Columns, Outline};
+use crate::proved::subsetter_points::points::join_points;
 use crate::rattle::alloc::Global;
 
 /// The most contours of a simple glyph: `numberOfContours` is an int16, and below 0 for a composite glyph.
@@ -130,7 +131,7 @@ fn read_header(bytes: &[u8]) -> Option<(u16, &[u8])> {
     Some((contours, rest))
 }
 
-/// What `read_simple` reads, before the points are joined. Flags and coordinates stand in the memory of columns that are spare, whose
+/// What [`read_simple`] reads, before the points are joined. Flags and coordinates stand in the memory of columns that are spare, whose
 /// contents don't count. Four more coordinates have room after those of the points.
 pub fn read_columns(alloc: Global, spare: Columns, bytes: &[u8]) -> Result<Option<Columns>, Error> {
     if bytes.is_empty() {
@@ -143,4 +144,18 @@ pub fn read_columns(alloc: Global, spare: Columns, bytes: &[u8]) -> Result<Optio
         }
     };
     read_description(alloc, spare, contours, rest)
+}
+
+/// The outline of a simple glyph, if the bytes are its description. A glyph without bytes has an outline without points, and
+/// so has one of no contours.
+pub fn read_simple(alloc: Global, bytes: &[u8]) -> Result<Option<Outline>, Error> {
+    let columns = match read_columns(alloc, Columns::new(alloc), bytes)? {
+        Some(columns) => columns,
+        _ => {
+            return Ok(None);
+        }
+    };
+    let points = join_points(alloc, &columns.flags, &columns.xs, &columns.ys)?;
+    let Columns { ends, .. } = columns;
+    Ok(Some(Outline { points, ends }))
 }

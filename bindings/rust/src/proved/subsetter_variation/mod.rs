@@ -19,12 +19,8 @@
 
 pub mod fvar;
 pub mod glyphs;
-#[cfg(feature = "variable-fonts")]
 pub mod items;
 pub mod locations;
-#[cfg(feature = "variable-fonts")]
 pub mod packing;
-#[cfg(feature = "variable-fonts")]
 pub mod region;
-#[cfg(feature = "variable-fonts")]
 pub mod rounding;

@@ -5,103 +5,26 @@ ghost use Rattle.std.specs.Option.{option_map};
 ghost use Rattle.subsetter_sfnt.specs.Extras.{all_extras};
 ghost use Rattle.font_reasons.specs.Explained.{no_cmap};
 ghost use Rattle.subset_task.specs.declared.refusals.hint.text.Hint.TheVariants.{Font};
-ghost use Rattle.subset_font.specs.Refusals.Hint.{listed, for_widths, needed_table, reason_for, first_reason, reason_in, is_cff2, no_coordinates, hint_of_error, no_mapping, hint_of_mapping, no_axes, axes_hint_of_error, axes_hint, forbidden_bit, hint_of};
+ghost use Rattle.subset_font.specs.Refusals.Hint.{is_cff2, no_coordinates, hint_of_error, no_mapping, hint_of_mapping, no_axes, axes_hint_of_error, axes_hint, forbidden_bit, hint_of};
 
-use font_reasons::{Reason, Request, directory_of, find_reason, missing_table, no_font, no_table};
+use font_reasons::{Reason, directory_of, missing_table, no_font, no_table};
 use subset_lines::Outlines;
 use subset_pdf::{Permission, Usage};
 use subset_task::faces::outlines::outlines_of;
 use subset_task::refusals::failure::Failure;
 use subset_task::refusals::hint::text::Hint;
-use subset_task::task::{RequestedGlyphs, Task};
+use subset_task::task::Task;
 use subsetter::{Error, Tag};
 use subsetter_sfnt::directory::{find_record, table};
 
 /// What the tables of the font show, if they show anything.
-fn shown(reason: Option<Reason>) -> Option<Hint>
+pub fn shown(reason: Option<Reason>) -> Option<Hint>
     ensures { result ≡ option_map Font reason }
 {
     match reason {
         Some(reason) => Some(Hint::Font(reason)),
         None => None,
     }
-}
-
-/// The glyphs that are listed.
-fn listed<'a>(asked: &RequestedGlyphs<'a>) -> &'a [u16]
-    ensures { result.now ≡ listed asked.now }
-{
-    match *asked {
-        RequestedGlyphs::These(glyphs) => glyphs,
-        RequestedGlyphs::Every => &[],
-        RequestedGlyphs::ByText(_) => &[],
-        RequestedGlyphs::ByCharacters(_) => &[],
-    }
-}
-
-/// The table of the widths, where they are requested.
-fn for_widths(widths: bool) -> Option<Tag>
-    ensures { result ≡ for_widths widths }
-{
-    if widths { Some(Tag::HMTX) } else { None }
-}
-
-/// The table that only this task needs, if there is one: that of its widths, or of the count of its glyphs.
-fn needed_table(asked: &RequestedGlyphs<'_>, widths: bool) -> Option<Tag>
-    ensures { result ≡ needed_table asked.now widths }
-{
-    match *asked {
-        RequestedGlyphs::Every => Some(Tag::MAXP),
-        RequestedGlyphs::These(_) => for_widths(widths),
-        RequestedGlyphs::ByText(_) => for_widths(widths),
-        RequestedGlyphs::ByCharacters(_) => for_widths(widths),
-    }
-}
-
-/// What the tables show of a font that is refused by an error, for the glyphs of one request.
-fn reason_for(
-    error: Error,
-    font: &[u8],
-    index: u32,
-    widths: bool,
-    asked: &RequestedGlyphs<'_>,
-) -> Option<Hint>
-    ensures { result ≡ reason_for error (record { bytes = font.now; index = index; extras = all_extras }) widths asked.now }
-{
-    let request = Request {
-        index,
-        glyphs: listed(asked),
-        needs: needed_table(asked, widths),
-    };
-    shown(find_reason(error, font, request))
-}
-
-/// What the tables show of a font that is refused, for the first request for which they show anything.
-fn first_reason(
-    error: Error,
-    font: &[u8],
-    index: u32,
-    widths: bool,
-    asked: &[RequestedGlyphs<'_>],
-) -> Option<Hint>
-    ensures { result ≡ first_reason error (record { bytes = font.now; index = index; extras = all_extras }) widths asked.now }
-{
-    let mut rest = asked;
-    while let [one, following @ ..] = rest {
-        let hint = reason_for(error, font, index, widths, one);
-        if hint.is_some() {
-            return hint;
-        }
-        rest = following;
-    }
-    None
-}
-
-/// What the tables show of a font that is refused by an error.
-fn reason_in(error: Error, font: &[u8], task: &Task<'_>) -> Option<Hint>
-    ensures { result ≡ reason_in error task.now font.now }
-{
-    first_reason(error, font, task.index, task.widths, task.requested.pieces)
 }
 
 /// Whether a face has outlines of `CFF2`.
@@ -124,13 +47,13 @@ fn no_coordinates(font: &[u8], task: &Task<'_>) -> Option<Hint>
     }
 }
 
-/// What more is known of a font that is refused by an error.
+/// What more is known of a font that is refused by an error, but for what a second look shows.
 fn hint_of_error(error: Error, font: &[u8], task: &Task<'_>) -> Option<Hint>
     ensures { result ≡ hint_of_error error task.now font.now }
 {
     match error {
         Error::Unimplemented => no_coordinates(font, task),
-        _ => reason_in(error, font, task),
+        _ => None,
     }
 }
 
@@ -207,7 +130,7 @@ fn forbidden_bit(permission: Permission) -> u8
     }
 }
 
-/// What more is known of a font that is refused.
+/// What more is known of a font that is refused, but for what a second look shows.
 pub fn find_hint(failure: &Failure, font: &[u8], task: &Task<'_>) -> Option<Hint>
     ensures { result ≡ hint_of failure.now task.now font.now }
 {

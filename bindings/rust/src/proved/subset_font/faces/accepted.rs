@@ -3,9 +3,10 @@
 
 use crate::rattle::prelude::String;
 
-use crate::proved::font_reasons::count_glyphs;
+use crate::proved::font_reasons::{count_glyphs, Call};
 use crate::proved::subset_font::making::subset::make_of;
 use crate::proved::subset_font::refusals::hint::found::find_hint;
+use crate::proved::subset_font::refusals::second_look::look_after;
 use crate::proved::subset_task::making::requested::first_glyphs;
 use crate::proved::subset_task::refusals::failure::Failure;
 use crate::proved::subset_task::refusals::hint::text::Hint;
@@ -85,14 +86,6 @@ pub struct InfoParts {
     pub reason: Option<String>,
 }
 
-/// All glyphs of a face: these, where there are any.
-fn listed_or_every(glyphs: &[u16]) -> RequestedGlyphs<'_> {
-    if glyphs.len() == 0 {
-        return RequestedGlyphs::Every;
-    }
-    RequestedGlyphs::These(glyphs)
-}
-
 /// The text of what is known of a cause.
 fn text_of(alloc: Global, hint: Option<Hint>) -> Result<Option<String>, AllocError> {
     match hint {
@@ -110,9 +103,12 @@ fn reason_of(
 ) -> Result<Option<String>, AllocError> {
     let count = count_glyphs(font, index).unwrap_or(0);
     let glyphs = first_glyphs(alloc, count)?;
-    let pieces = [listed_or_every(&glyphs)];
-    let task = task_for(index, Limits::default(), &pieces);
-    text_of(alloc, find_hint(failure, font, &task))
+    let limits = limits_for(font, index);
+    let pieces = [RequestedGlyphs::Every];
+    let task = task_for(index, limits, &pieces);
+    let hint = find_hint(failure, font, &task);
+    let seen = look_after(alloc, Call::Subset, failure, font, &task, &glyphs)?;
+    text_of(alloc, hint.or(seen))
 }
 
 /// Whether memory ran out.

@@ -11,10 +11,10 @@ use crate::proved::subset_args::{
 use crate::proved::subset_font::making::outcome::{other_face, takes_default};
 use crate::proved::subset_font::refusals::hint::found::{find_axes_hint, find_hint, no_axes};
 use crate::proved::subset_font::refusals::limit_hint::find_limit_hint;
-use crate::proved::subset_font::refusals::second_look::{call_of, look_again};
+use crate::proved::subset_font::refusals::second_look::{call_of, look_after};
 use crate::proved::subset_lines::note_lines;
 use crate::proved::subset_task::faces::missing::first_missing;
-use crate::proved::subset_task::faces::named::instance_names;
+use crate::proved::subset_task::faces::named::{face_settings, instance_names};
 use crate::proved::subset_task::making::requested::{pick, Picked};
 use crate::proved::subset_task::notes::{known_axes, notes_for};
 use crate::proved::subset_task::refusals::failure::{file_of, status_of_run, Failure, Report};
@@ -271,8 +271,8 @@ fn at_given<'a>(font: &[u8], plan: &Plan<'a>) -> Option<&'a [(Tag, i32)]> {
     }
 }
 
-/// The task of a plan as a hint sees it: with the widths, where they are printed, or a PDF has them.
-fn task_for_hint<'a>(font: &[u8], plan: &Plan<'a>) -> Task<'a> {
+/// The task of a plan as a hint sees it, at these coordinates: with the widths, where they are printed, or a PDF has them.
+fn task_for_hint<'a>(plan: &Plan<'a>, at: Option<&'a [(Tag, i32)]>) -> Task<'a> {
     let task = plan.task;
     Task {
         requested: task.requested,
@@ -280,35 +280,60 @@ fn task_for_hint<'a>(font: &[u8], plan: &Plan<'a>) -> Task<'a> {
         options: task.options,
         widths: task.widths || plan.pdf.is_some(),
         form: task.form,
-        at: at_given(font, plan),
+        at,
     }
 }
 
-/// What a second look at the glyphs of a plan shows of a font that is refused.
-fn second_look(alloc: Global, error: Error, font: &[u8], plan: &Plan<'_>) -> Option<Hint> {
-    let task = task_for_hint(font, plan);
-    let picked = match picked_in(alloc, font, &task) {
-        Ok(picked) => picked,
-        _ => {
-            return None;
-        }
+/// What a second look at the glyphs of a plan shows of a font that is refused, at these coordinates; nothing where memory runs out.
+fn look_at<'a>(
+    alloc: Global,
+    failure: &Failure,
+    font: &[u8],
+    plan: &Plan<'a>,
+    at: Option<&'a [(Tag, i32)]>,
+) -> Option<Hint> {
+    let task = task_for_hint(plan, at);
+    let glyphs = match picked_in(alloc, font, &task) {
+        Ok(picked) => picked.glyphs,
+        Err(_) => Vec::new(alloc),
     };
     let call = call_of(plan.pdf.is_some(), task.at.is_some(), task.widths);
-    look_again(alloc, call, error, font, &task, &picked.glyphs)
+    look_after(alloc, call, failure, font, &task, &glyphs).unwrap_or(None)
 }
 
-/// What more is known of a font that is refused: by its tables, by the limits, or else by a second look.
-fn hint_for(alloc: Global, failure: &Failure, font: &[u8], plan: &Plan<'_>) -> Option<Hint> {
-    if let Some(hint) = find_hint(failure, font, &task_for_hint(font, plan)) {
-        return Some(hint);
+/// What a second look shows, at the coordinates of the named instance if one is requested; that these can't be read, if so.
+fn second_look(alloc: Global, failure: &Failure, font: &[u8], plan: &Plan<'_>) -> Option<Hint> {
+    let index = plan.task.index;
+    match plan.instance {
+        Some(name) => match face_settings(alloc, font, index, name) {
+            Ok(at) => look_at(alloc, failure, font, plan, Some(&at)),
+            Err(_) => find_axes_hint(failure, font, index),
+        },
+        None => look_at(alloc, failure, font, plan, at_given(font, plan)),
     }
-    if let Some(hint) = find_limit_hint(alloc, failure, font, plan) {
-        return Some(hint);
+}
+
+/// What more is known of a font that is refused: at once, by a second look, or by the limits, which go first where charstrings are why.
+fn hint_for(alloc: Global, failure: &Failure, font: &[u8], plan: &Plan<'_>) -> Option<Hint> {
+    let hint = find_hint(failure, font, &task_for_hint(plan, at_given(font, plan)));
+    if hint.is_some() {
+        return hint;
     }
     match failure {
-        Failure::Error(Error::OutOfMemory) => None,
-        Failure::Error(error) => second_look(alloc, *error, font, plan),
-        _ => None,
+        Failure::Error(Error::CFFError) => {
+            let hint = find_limit_hint(alloc, failure, font, plan);
+            if hint.is_some() {
+                return hint;
+            }
+            second_look(alloc, failure, font, plan)
+        }
+        _ => {
+            let hint = second_look(alloc, failure, font, plan);
+            if hint.is_some() {
+                return hint;
+            }
+            find_limit_hint(alloc, failure, font, plan)
+        }
     }
 }
 

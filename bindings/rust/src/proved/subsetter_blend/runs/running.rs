@@ -98,6 +98,8 @@ pub fn run_in<'a, S: Takes, R: Regions>(
 }
 
 /// Runs a glyph's own charstring, where these item variation data count.
+#[cfg(feature = "variable-fonts")]
+#[cfg(feature = "variable-fonts")]
 pub fn run<'a, S: Takes, R: Regions>(
     sink: &mut S,
     subroutines: &Subroutines<'a>,

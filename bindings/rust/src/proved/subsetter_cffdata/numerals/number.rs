@@ -143,8 +143,6 @@ impl Number {
     }
 
     /// An integer.
-    #[cfg(feature = "variable-fonts")]
-    #[cfg(feature = "variable-fonts")]
     pub fn from_i32(num: i32) -> Self {
         Number::Integer(IntegerNumber(num))
     }

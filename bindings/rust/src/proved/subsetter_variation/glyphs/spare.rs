@@ -50,6 +50,8 @@ impl SpareLists {
     }
 
     /// Keeps the lists of moved points that are done.
+    #[cfg(feature = "variable-fonts")]
+    #[cfg(feature = "variable-fonts")]
     pub fn keep(&mut self, xs: Vec<i64>, ys: Vec<i64>) {
         self.xs = xs;
         self.ys = ys;

@@ -5,20 +5,15 @@
 //! is that of one glyph's points. Bytes left over after a tuple's deltas are passed over, and so are the deltas of a
 //! tuple whose scalar is 0: no library reads them, so a fault in them is none. The version of `gvar` isn't looked at.
 
-#[cfg(feature = "variable-fonts")]
 use crate::rattle::prelude::Vec;
 
-#[cfg(feature = "variable-fonts")]
-use crate::proved::subsetter_base::read::between_offsets;
-use crate::proved::subsetter_base::read::{from_offset, Reader};
-#[cfg(feature = "variable-fonts")]
+use crate::proved::subsetter_base::read::{between_offsets, from_offset, Reader};
 use crate::proved::subsetter_base::Error;
-#[cfg(feature = "variable-fonts")]
 use crate::proved::subsetter_variation::glyphs::tuple_region::{tuple_region, TupleRegion};
-#[cfg(feature = "variable-fonts")]
 use crate::proved::subsetter_variation::packing::packed::{deltas, point_numbers, word_in};
 #[cfg(feature = "variable-fonts")]
-use crate::rattle::alloc::{AllocError, Global};
+use crate::rattle::alloc::AllocError;
+use crate::rattle::alloc::Global;
 
 /// axisCount, two bytes.
 const AXIS_COUNT: usize = 4;
@@ -40,37 +35,21 @@ const OFFSET32_SIZE: usize = 4;
 const OFFSET16_SIZE: usize = 2;
 
 /// dataOffset of a glyph's variations, two bytes, after tupleVariationCount.
-#[cfg(feature = "variable-fonts")]
-#[cfg(feature = "variable-fonts")]
 const DATA_OFFSET: usize = 2;
 /// tupleVariationHeaders.
-#[cfg(feature = "variable-fonts")]
-#[cfg(feature = "variable-fonts")]
 const TUPLE_VARIATION_HEADERS: usize = 4;
 /// The flag of tupleVariationCount: the tuples share point numbers.
-#[cfg(feature = "variable-fonts")]
-#[cfg(feature = "variable-fonts")]
 const SHARED_POINT_NUMBERS: u16 = 0x8000;
 /// So many values are below the flags: one more than COUNT_MASK.
-#[cfg(feature = "variable-fonts")]
-#[cfg(feature = "variable-fonts")]
 const COUNTS: u16 = 0x1000;
 
 /// The flags of tupleIndex: a peak of its own is in the header.
-#[cfg(feature = "variable-fonts")]
-#[cfg(feature = "variable-fonts")]
 const EMBEDDED_PEAK_TUPLE: u16 = 0x8000;
 /// The ends of the region are in the header.
-#[cfg(feature = "variable-fonts")]
-#[cfg(feature = "variable-fonts")]
 const INTERMEDIATE_REGION: u16 = 0x4000;
 /// The tuple has point numbers of its own.
-#[cfg(feature = "variable-fonts")]
-#[cfg(feature = "variable-fonts")]
 const PRIVATE_POINT_NUMBERS: u16 = 0x2000;
 /// So many values are below the flags: one more than TUPLE_INDEX_MASK.
-#[cfg(feature = "variable-fonts")]
-#[cfg(feature = "variable-fonts")]
 const TUPLE_INDEXES: u16 = 0x1000;
 
 /// The table `gvar`.
@@ -88,7 +67,6 @@ pub struct Gvar<'a> {
 }
 
 /// The tuples that are left of a glyph.
-#[cfg(feature = "variable-fonts")]
 pub struct TupleHeaders<'a> {
     left: u16,
     headers: &'a [u8],
@@ -96,8 +74,6 @@ pub struct TupleHeaders<'a> {
 }
 
 /// The first bytes and those after them, if there are as many.
-#[cfg(feature = "variable-fonts")]
-#[cfg(feature = "variable-fonts")]
 fn split(n: usize, bytes: &[u8]) -> Option<(&[u8], &[u8])> {
     if n <= bytes.len() {
         Some((&bytes[..n], &bytes[n..]))
@@ -160,8 +136,6 @@ impl<'a> Gvar<'a> {
     }
 
     /// The scalars of the first shared tuples at a location, as far as they are known.
-    #[cfg(feature = "variable-fonts")]
-    #[cfg(feature = "variable-fonts")]
     pub fn scalars_at(&self, at: &[i32]) -> &'a [i64] {
         if self.location == at {
             self.scalars
@@ -207,8 +181,6 @@ impl<'a> Gvar<'a> {
     }
 
     /// The variations of a glyph, unless they aren't there; no bytes where it has none.
-    #[cfg(feature = "variable-fonts")]
-    #[cfg(feature = "variable-fonts")]
     pub fn variations_of(&self, glyph: u16) -> Option<&'a [u8]> {
         if glyph >= self.glyph_count {
             return None;
@@ -220,8 +192,6 @@ impl<'a> Gvar<'a> {
 }
 
 /// Whether point numbers are shared, and the tuples of a glyph, by the bytes of its variations.
-#[cfg(feature = "variable-fonts")]
-#[cfg(feature = "variable-fonts")]
 pub fn tuple_headers(bytes: &[u8]) -> Option<(bool, TupleHeaders<'_>)> {
     let count = Reader::new(bytes).read::<u16>()?;
     let at = Reader::new_at(bytes, DATA_OFFSET).read::<u16>()?;
@@ -237,8 +207,6 @@ pub fn tuple_headers(bytes: &[u8]) -> Option<(bool, TupleHeaders<'_>)> {
 }
 
 /// The peaks of a region, and the bytes of the header after them.
-#[cfg(feature = "variable-fonts")]
-#[cfg(feature = "variable-fonts")]
 fn peaks_in<'a>(t: &Gvar<'a>, flags: u16, bytes: &'a [u8]) -> Option<(&'a [u8], &'a [u8])> {
     let size = t.axis_count as usize * 2;
     if flags >= EMBEDDED_PEAK_TUPLE {
@@ -251,8 +219,6 @@ fn peaks_in<'a>(t: &Gvar<'a>, flags: u16, bytes: &'a [u8]) -> Option<(&'a [u8], 
 }
 
 /// The region with these peaks, and the bytes of the header after it.
-#[cfg(feature = "variable-fonts")]
-#[cfg(feature = "variable-fonts")]
 fn ends_in<'a>(
     axis_count: u16,
     flags: u16,
@@ -270,23 +236,18 @@ fn ends_in<'a>(
 }
 
 /// The region of a tuple, and the bytes of the header after it.
-#[cfg(feature = "variable-fonts")]
-#[cfg(feature = "variable-fonts")]
 fn region_in<'a>(t: &Gvar<'a>, flags: u16, bytes: &'a [u8]) -> Option<(TupleRegion<'a>, &'a [u8])> {
     let (peaks, rest) = peaks_in(t, flags, bytes)?;
     ends_in(t.axis_count, flags, peaks, rest)
 }
 
 /// A tuple before its deltas are read.
-#[cfg(feature = "variable-fonts")]
 pub struct TupleHeader<'a> {
     region: TupleRegion<'a>,
     private_numbers: bool,
     packed: &'a [u8],
 }
 
-#[cfg(feature = "variable-fonts")]
-#[cfg(feature = "variable-fonts")]
 impl<'a> TupleHeader<'a> {
     /// How far it counts at a location, in parts of 2^30.
     pub fn scalar(&self, at: &[i32]) -> i64 {
@@ -304,8 +265,6 @@ impl<'a> TupleHeader<'a> {
     }
 }
 
-#[cfg(feature = "variable-fonts")]
-#[cfg(feature = "variable-fonts")]
 impl<'a> TupleHeaders<'a> {
     /// How many tuples are left.
     pub fn left(&self) -> u16 {
@@ -324,8 +283,6 @@ impl<'a> TupleHeaders<'a> {
 }
 
 /// The next tuple, without its deltas, and those after it, unless it is cut.
-#[cfg(feature = "variable-fonts")]
-#[cfg(feature = "variable-fonts")]
 pub fn next_header<'a>(
     t: &Gvar<'a>,
     r: TupleHeaders<'a>,
@@ -351,8 +308,6 @@ pub fn next_header<'a>(
 }
 
 /// A scalar, if there are as many.
-#[cfg(feature = "variable-fonts")]
-#[cfg(feature = "variable-fonts")]
 fn scalar_at(scalars: &[i64], index: usize) -> Option<i64> {
     if index < scalars.len() {
         Some(scalars[index])
@@ -362,8 +317,6 @@ fn scalar_at(scalars: &[i64], index: usize) -> Option<i64> {
 }
 
 /// The scalar of the next tuple, where that is a shared one without ends of its own whose scalar is known.
-#[cfg(feature = "variable-fonts")]
-#[cfg(feature = "variable-fonts")]
 pub(crate) fn listed_scalar(
     _t: &Gvar<'_>,
     _at: &[i32],
@@ -379,8 +332,6 @@ pub(crate) fn listed_scalar(
 }
 
 /// The scalar of a tuple, which may be known.
-#[cfg(feature = "variable-fonts")]
-#[cfg(feature = "variable-fonts")]
 pub(crate) fn scalar_by(listed: Option<i64>, header: &TupleHeader<'_>, at: &[i32]) -> i64 {
     match listed {
         Some(scalar) => scalar,
@@ -389,8 +340,6 @@ pub(crate) fn scalar_by(listed: Option<i64>, header: &TupleHeader<'_>, at: &[i32
 }
 
 /// The deltas of x and those of y, one for each of so many points, in the memory of lists that are spare.
-#[cfg(feature = "variable-fonts")]
-#[cfg(feature = "variable-fonts")]
 pub fn both_deltas(
     spare_x: Vec<i16>,
     spare_y: Vec<i16>,
@@ -403,8 +352,6 @@ pub fn both_deltas(
 }
 
 /// How many points have deltas: all below the limit, or those that are listed.
-#[cfg(feature = "variable-fonts")]
-#[cfg(feature = "variable-fonts")]
 pub(crate) fn count_of(limit: u32, numbers: &Option<Vec<u32>>) -> usize {
     match numbers {
         None => limit as usize,
@@ -413,8 +360,6 @@ pub(crate) fn count_of(limit: u32, numbers: &Option<Vec<u32>>) -> usize {
 }
 
 /// The point numbers that the tuples share, none for all, in the memory of a list that is spare, and the tuples.
-#[cfg(feature = "variable-fonts")]
-#[cfg(feature = "variable-fonts")]
 pub fn shared_numbers<'a>(
     alloc: Global,
     spare: &mut Vec<u32>,

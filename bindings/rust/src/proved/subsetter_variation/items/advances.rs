@@ -5,6 +5,7 @@
 //! A map of indexes without entries has no reading (FreeType and HarfBuzz take 0 there). The version of `HVAR` and `VVAR`
 //! isn't looked at. Both tables have the store and the map of advances at the same offsets.
 
+#[cfg(feature = "variable-fonts")]
 use crate::rattle::prelude::Vec;
 
 use crate::proved::subsetter_base::numbers::number_of;
@@ -13,7 +14,9 @@ use crate::proved::subsetter_base::Error;
 use crate::proved::subsetter_variation::items::item_variations::{
     in_whole_units, item_delta, item_store, nullable_offset, Store,
 };
+#[cfg(feature = "variable-fonts")]
 use crate::proved::subsetter_variation::items::known::each_delta;
+#[cfg(feature = "variable-fonts")]
 use crate::rattle::alloc::{AllocError, Global};
 
 /// itemVariationStoreOffset of `HVAR`, four bytes.
@@ -21,6 +24,8 @@ const ITEM_VARIATION_STORE_OFFSET: usize = 4;
 /// advanceWidthMappingOffset of `HVAR`, four bytes.
 const ADVANCE_WIDTH_MAPPING_OFFSET: usize = 8;
 /// vOrgMappingOffset of `VVAR`, four bytes.
+#[cfg(feature = "variable-fonts")]
+#[cfg(feature = "variable-fonts")]
 const V_ORG_MAPPING_OFFSET: usize = 20;
 
 /// entryFormat of a map, one byte, after format.
@@ -105,6 +110,8 @@ pub fn advance_delta(hvar: &[u8], at: &[i32], glyph: u16) -> Result<i64, Error> 
 }
 
 /// The item of the advance of each of these glyphs.
+#[cfg(feature = "variable-fonts")]
+#[cfg(feature = "variable-fonts")]
 fn advance_items(
     alloc: Global,
     hvar: &[u8],
@@ -118,6 +125,8 @@ fn advance_items(
 }
 
 /// `MalformedFont` for so many items: there is no store.
+#[cfg(feature = "variable-fonts")]
+#[cfg(feature = "variable-fonts")]
 fn without_store(alloc: Global, count: usize) -> Result<Vec<Result<i64, Error>>, AllocError> {
     let mut deltas = Vec::with_capacity(alloc, count)?;
     for _ in 0..count {
@@ -128,6 +137,8 @@ fn without_store(alloc: Global, count: usize) -> Result<Vec<Result<i64, Error>>,
 
 /// What each of these items varies by at a location, by the store of `HVAR` or `VVAR`. The scalar of a region is reckoned
 /// once, and so is the sum of an item.
+#[cfg(feature = "variable-fonts")]
+#[cfg(feature = "variable-fonts")]
 fn deltas_by(
     alloc: Global,
     table: &[u8],
@@ -141,6 +152,8 @@ fn deltas_by(
 }
 
 /// What the advance of each of these glyphs varies by at a location, each as `advance_delta` says.
+#[cfg(feature = "variable-fonts")]
+#[cfg(feature = "variable-fonts")]
 pub fn advance_deltas(
     alloc: Global,
     hvar: &[u8],
@@ -152,12 +165,16 @@ pub fn advance_deltas(
 }
 
 /// The indexes of a glyph's vertical origin: without a map there are none.
+#[cfg(feature = "variable-fonts")]
+#[cfg(feature = "variable-fonts")]
 fn origin_index(vvar: &[u8], glyph: u16) -> Option<(u32, u32)> {
     let at = nullable_offset(vvar, V_ORG_MAPPING_OFFSET)?;
     mapped_index(from_offset(vvar, at as usize)?, glyph)
 }
 
 /// The item of the vertical origin of each of these glyphs.
+#[cfg(feature = "variable-fonts")]
+#[cfg(feature = "variable-fonts")]
 fn origin_items(
     alloc: Global,
     vvar: &[u8],
@@ -172,6 +189,8 @@ fn origin_items(
 
 /// What the y of the vertical origin of each of these glyphs in `VORG` varies by at a location, in whole units. A table that
 /// is cut, or has no map of origins or no item for the glyph, is `MalformedFont`, 2^32 units or more `OverflowError`.
+#[cfg(feature = "variable-fonts")]
+#[cfg(feature = "variable-fonts")]
 pub fn origin_deltas(
     alloc: Global,
     vvar: &[u8],

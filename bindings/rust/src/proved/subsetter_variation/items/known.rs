@@ -4,12 +4,17 @@
 //! A region's scalar has a place by its number, and leaves it to the next one that has the same. A region that can't be read
 //! has none: it is a fault of the items that use it alone.
 
+#[cfg(feature = "variable-fonts")]
 use crate::rattle::prelude::Vec;
 
+#[cfg(feature = "variable-fonts")]
 use crate::proved::subsetter_base::Error;
+#[cfg(feature = "variable-fonts")]
+use crate::proved::subsetter_variation::items::item_variations::{in_whole_units, item_delta_by};
 use crate::proved::subsetter_variation::items::item_variations::{
-    in_whole_units, item_delta_by, region_items, region_scalar, Store,
+    region_items, region_scalar, Store,
 };
+#[cfg(feature = "variable-fonts")]
 use crate::rattle::alloc::{AllocError, Global};
 
 /// How many places there are where no memory is taken.
@@ -23,6 +28,8 @@ pub struct KnownScalar {
 }
 
 /// What an item varies by in whole units, or what is wrong with it.
+#[cfg(feature = "variable-fonts")]
+#[cfg(feature = "variable-fonts")]
 #[derive(Clone, Copy)]
 pub struct KnownDelta {
     pub outer: u32,
@@ -36,6 +43,8 @@ pub(crate) fn none_known() -> [Option<KnownScalar>; PLACES] {
 }
 
 /// So many places without scalars, one at least.
+#[cfg(feature = "variable-fonts")]
+#[cfg(feature = "variable-fonts")]
 fn no_scalars(alloc: Global, count: usize) -> Result<Vec<Option<KnownScalar>>, AllocError> {
     let mut places = Vec::with_capacity(alloc, count)?;
     places.push(None)?;
@@ -46,6 +55,8 @@ fn no_scalars(alloc: Global, count: usize) -> Result<Vec<Option<KnownScalar>>, A
 }
 
 /// So many places without deltas, one at least.
+#[cfg(feature = "variable-fonts")]
+#[cfg(feature = "variable-fonts")]
 fn no_deltas(alloc: Global, count: usize) -> Result<Vec<Option<KnownDelta>>, AllocError> {
     let mut places = Vec::with_capacity(alloc, count)?;
     places.push(None)?;
@@ -83,11 +94,15 @@ pub(crate) fn known_scalar(
 }
 
 /// Whether a delta is that of an item.
+#[cfg(feature = "variable-fonts")]
+#[cfg(feature = "variable-fonts")]
 fn is_of(known: KnownDelta, outer: u32, inner: u32) -> bool {
     known.outer == outer && known.inner == inner
 }
 
 /// The place of an item: where its delta is, or the next one that is free.
+#[cfg(feature = "variable-fonts")]
+#[cfg(feature = "variable-fonts")]
 fn place_of(known: &[Option<KnownDelta>], outer: u32, inner: u32) -> usize {
     let mixed = outer.wrapping_mul(0x9E3779B1) ^ inner.wrapping_mul(0x85EBCA6B);
     let start = (mixed ^ (mixed >> 15)) as usize % known.len();
@@ -115,6 +130,8 @@ fn place_of(known: &[Option<KnownDelta>], outer: u32, inner: u32) -> usize {
 }
 
 /// The delta of an item at a place, if it is known.
+#[cfg(feature = "variable-fonts")]
+#[cfg(feature = "variable-fonts")]
 fn find_delta(
     known: &[Option<KnownDelta>],
     place: usize,
@@ -130,11 +147,15 @@ fn find_delta(
 }
 
 /// A delta in whole units. `MalformedFont` where the item can't be read, `OverflowError` where it is 2^32 units or more.
+#[cfg(feature = "variable-fonts")]
+#[cfg(feature = "variable-fonts")]
 pub(crate) fn whole_or_fault(varied: Option<i128>) -> Result<i64, Error> {
     in_whole_units(varied.ok_or(Error::MalformedFont)?)
 }
 
 /// What an item varies by at a location, which is known then.
+#[cfg(feature = "variable-fonts")]
+#[cfg(feature = "variable-fonts")]
 fn known_delta(
     s: &Store<'_>,
     at: &[i32],
@@ -157,6 +178,8 @@ fn known_delta(
 }
 
 /// What an item of a list varies by at a location, which is known then; where there is none, `MalformedFont`.
+#[cfg(feature = "variable-fonts")]
+#[cfg(feature = "variable-fonts")]
 fn listed_delta(
     s: &Store<'_>,
     at: &[i32],
@@ -171,6 +194,8 @@ fn listed_delta(
 }
 
 /// What each item of a list varies by, in the memory of these places.
+#[cfg(feature = "variable-fonts")]
+#[cfg(feature = "variable-fonts")]
 fn each_delta_by(
     alloc: Global,
     s: &Store<'_>,
@@ -188,6 +213,8 @@ fn each_delta_by(
 
 /// What each item of a list varies by at a location, in whole units: `MalformedFont` for none, and where it can't be read. The scalar of
 /// a region is reckoned once, and so is the sum of an item.
+#[cfg(feature = "variable-fonts")]
+#[cfg(feature = "variable-fonts")]
 pub(crate) fn each_delta(
     alloc: Global,
     s: &Store<'_>,

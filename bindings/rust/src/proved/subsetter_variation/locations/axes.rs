@@ -37,6 +37,8 @@ fn axis_of(bytes: &[u8]) -> Axis {
 }
 
 /// The first axis of a tag.
+#[cfg(feature = "variable-fonts")]
+#[cfg(feature = "variable-fonts")]
 pub fn find_axis(axes: &[Axis], tag: Tag) -> Option<Axis> {
     for axis in axes {
         if axis.tag == tag {
@@ -86,11 +88,15 @@ pub fn user_coordinate(axis: &Axis, settings: &[(Tag, i32)]) -> i32 {
 }
 
 /// A number that is no greater than one and no less than another.
+#[cfg(feature = "variable-fonts")]
+#[cfg(feature = "variable-fonts")]
 fn within(greatest: i32, least: i32, coordinate: i32) -> i32 {
     coordinate.min(greatest).max(least)
 }
 
 /// The coordinate on an axis, clamped to it.
+#[cfg(feature = "variable-fonts")]
+#[cfg(feature = "variable-fonts")]
 pub fn clamped(axis: Axis, settings: &[(Tag, i32)]) -> i32 {
     let greatest = axis.maximum.max(axis.default);
     let least = axis.minimum.min(axis.default);

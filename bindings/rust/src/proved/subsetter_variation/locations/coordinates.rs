@@ -5,54 +5,36 @@
 //! rounded by `nearest`. Below the default of an axis that has nothing below it the coordinate is 0, as in HarfBuzz and
 //! fontTools.
 
-#[cfg(feature = "variable-fonts")]
 use crate::rattle::prelude::Vec;
 
-#[cfg(feature = "variable-fonts")]
-use crate::proved::subsetter_base::read::LazyArray16;
-use crate::proved::subsetter_base::read::Reader;
-#[cfg(feature = "variable-fonts")]
+use crate::proved::subsetter_base::read::{LazyArray16, Reader};
 use crate::proved::subsetter_base::{Error, Tag};
-#[cfg(feature = "variable-fonts")]
 use crate::proved::subsetter_variation::locations::axes::{
     axes, default_normalized, user_coordinate, Axis,
 };
-#[cfg(feature = "variable-fonts")]
 use crate::proved::subsetter_variation::locations::segments::{
     mapped, next_segment_map, AxisValueMap,
 };
-#[cfg(feature = "variable-fonts")]
 use crate::proved::subsetter_variation::rounding::nearest;
-#[cfg(feature = "variable-fonts")]
 use crate::rattle::alloc::Global;
 
 /// axisCount of `avar`, two bytes.
-#[cfg(feature = "variable-fonts")]
-#[cfg(feature = "variable-fonts")]
 const AXIS_COUNT: usize = 6;
 /// axisSegmentMaps of `avar`.
-#[cfg(feature = "variable-fonts")]
-#[cfg(feature = "variable-fonts")]
 const AXIS_SEGMENT_MAPS: usize = 8;
 
 /// 65536ths as 16384ths.
-#[cfg(feature = "variable-fonts")]
-#[cfg(feature = "variable-fonts")]
 fn fixed_to_f2dot14(n: i64) -> i32 {
     nearest(n, 4) as i32
 }
 
 /// The coordinate on one axis, in 16384ths.
-#[cfg(feature = "variable-fonts")]
-#[cfg(feature = "variable-fonts")]
 fn coordinate(axis: &Axis, ends: LazyArray16<'_, AxisValueMap>, settings: &[(Tag, i32)]) -> i32 {
     let place = default_normalized(axis, user_coordinate(axis, settings));
     fixed_to_f2dot14(mapped(ends, place))
 }
 
 /// On each axis, where none is mapped.
-#[cfg(feature = "variable-fonts")]
-#[cfg(feature = "variable-fonts")]
 fn unmapped_coordinates(
     alloc: Global,
     axes: &[Axis],
@@ -66,8 +48,6 @@ fn unmapped_coordinates(
 }
 
 /// On each axis, whose segments are after those of the axis before.
-#[cfg(feature = "variable-fonts")]
-#[cfg(feature = "variable-fonts")]
 fn coordinates_at(
     alloc: Global,
     axes: &[Axis],
@@ -84,8 +64,6 @@ fn coordinates_at(
 }
 
 /// On each axis, where `avar` has the segments of as many.
-#[cfg(feature = "variable-fonts")]
-#[cfg(feature = "variable-fonts")]
 fn mapped_coordinates(
     alloc: Global,
     axes: &[Axis],
@@ -102,8 +80,6 @@ fn mapped_coordinates(
 }
 
 /// On each axis, where no axis is mapped or `avar` has the segments of as many.
-#[cfg(feature = "variable-fonts")]
-#[cfg(feature = "variable-fonts")]
 fn coordinates_by(
     alloc: Global,
     axes: &[Axis],
@@ -135,8 +111,6 @@ pub fn is_other_version(table: Option<&[u8]>) -> bool {
 
 /// The coordinates on the axes of `fvar`, in 16384ths, for settings in 65536ths: the last one of an axis' tag, and else its
 /// default. A major version of `fvar` or `avar` other than 1 is `Unimplemented`, a cut table `MalformedFont`.
-#[cfg(feature = "variable-fonts")]
-#[cfg(feature = "variable-fonts")]
 pub fn coordinates(
     alloc: Global,
     fvar: &[u8],
