@@ -197,11 +197,7 @@ test("messages say why, and what is wanted", () => {
         ["OverflowError", "overflow occurred: tokens is 1", () => subsetter.pdfFont(made("made_variable.ttf"), SHOWN, { coordinates: { wght: 650 }, limits: { tokens: 1 } })],
         ["NotPermitted", 'embedding not permitted: OS/2: fsType 0x0002 forbids embedding: if you hold the rights, rights: "held"', () => subsetter.pdfFont(forbidding(2), SHOWN)],
         ["NotPermitted", 'embedding not permitted: OS/2: fsType 0x0100 forbids subsets: if you hold the rights, rights: "held" of new PdfText', () => new subsetter.PdfText(forbidding(0x100)).font()],
-<<<<<<< ours
-        ["BitmapsAlone", "bitmaps alone in font: sbix: the face has bitmaps and no outlines", () => subsetter.pdfFont(changed("made.ttf", "glyf", "sbix"), SHOWN)],
-=======
-        ["BitmapsAlone", "no outlines in font: sbix: the face has bitmaps and no outlines", () => subsetter.pdfFont(Buffer.from(Buffer.from(TTF).toString("latin1").replace("glyf", "sbix"), "latin1"), SHOWN)],
->>>>>>> theirs
+        ["BitmapsAlone", "no outlines in font: sbix: the face has bitmaps and no outlines", () => subsetter.pdfFont(changed("made.ttf", "glyf", "sbix"), SHOWN)],
         ["InvalidText", "invalid text: U+D800 is an unpaired surrogate", () => subsetter.glyphsOf(TTF, "\ud800")],
         ["InvalidText", "invalid text: U+DFFF is an unpaired surrogate", () => subsetter.codesOf([{ glyph: 1, text: "A\udfff" }])],
         ["InvalidText", "invalid text: a text has more than 256 UTF-16 units", () => subsetter.pdfFont(TTF, [...SHOWN, { glyph: 1, text: "\u{1f600}".repeat(129) }])],

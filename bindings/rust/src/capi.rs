@@ -201,8 +201,7 @@ pub fn explain(
     choices: &Choices,
 ) -> Option<Result<String, Error>> {
     let call = *CALLS.get(call as usize)?;
-<<<<<<< ours
-    // (a missing table is a malformed font there, and bitmaps alone are an unknown kind)
+    // (a missing table is a malformed font there, and no outlines are an unknown kind)
     let place = match status {
         1..=6 => status as usize,
         11 => return Some(text(reasons::find_prohibition(data, index))),
@@ -223,22 +222,6 @@ pub fn explain(
         coordinates: &settings,
         extras: choices.0.extras,
         limits: choices.0.limits,
-=======
-    let tokens = if tokens == 0 { 1_000_000 } else { tokens };
-    let limits = proved::Limits::new(tokens, if depth == 0 { 64 } else { depth })?;
-    let reason = match status {
-        11 => Ok(reasons::find_prohibition(data, index)),
-        // (a missing table is a malformed font there, and no outlines are an unknown kind)
-        1..=6 | 13 | 14 => {
-            let place = match status {
-                13 => 2,
-                14 => 1,
-                _ => status as usize,
-            };
-            reasons::explain(Global, call, ERRORS[place - 1], data, index, glyphs, &limits)
-        }
-        _ => Ok(None),
->>>>>>> theirs
     };
     let reason = reasons::explain(Global, data, &asked);
     Some(reason.map_err(refused).and_then(text))
