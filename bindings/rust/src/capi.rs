@@ -201,7 +201,7 @@ pub fn explain(
     let limits = proved::Limits::new(tokens, if depth == 0 { 64 } else { depth })?;
     let reason = match status {
         11 => Ok(reasons::find_prohibition(data, index)),
-        // (a missing table is a malformed font there, and bitmaps alone are an unknown kind)
+        // (a missing table is a malformed font there, and no outlines are an unknown kind)
         1..=6 | 13 | 14 => {
             let place = match status {
                 13 => 2,

@@ -1,12 +1,12 @@
 -- The table of a subset with other widths, read afresh: the same table with other charstrings.
 use Rattle.std.proofs.Common.{◌≡◌, ℕ, zero, suc, ◌+◌, ◌<◌, ◌≤◌, ◌^◌, List, [], ◌∷◌, ◌++◌, length, map, take, get_or, Option, Some, None, option_map, refl, sym, ap, ◌∙◌, subst, arith, append_assoc, length-append}
-use Rattle.std.specs.Prelude.{Result, nat_lt, ◌==◌, slice_get, slice_index}
+use Rattle.std.specs.Prelude.{Result, Ok, Err, nat_lt, ◌==◌, slice_get, slice_index}
 use Rattle.std.specs.List.{concat}
 use Rattle.std.specs.Option.{option_map_or, option_or}
 use Rattle.std.specs.Result.{result_ok}
 use Rattle.std.proofs.lemmas.Bool.{eqb-true, ltb-true}
 use Rattle.std.proofs.lemmas.List.{length-map, take_at}
-use Rattle.std.proofs.lemmas.Option.{same_Some, slice_get-get_or}
+use Rattle.std.proofs.lemmas.Option.{none-some, same_Some, slice_get-get_or}
 use Rattle.subsetter_base.specs.Options.{◌>>=◌}
 use Rattle.subsetter_base.specs.declared.error.Error.{Error}
 use Rattle.subsetter_base.proofs.Lists.{and_parts}
@@ -21,11 +21,7 @@ use Rattle.subsetter_cff.specs.Write.Laying.Fits.{Fits, FitsSelect}
 use Rattle.subsetter_cff.specs.Write.Laying.Layout.{FontDict, Offsets, Parts, cff_table, char_strings_offset, charset_bytes, font_dicts_from, font_dicts_of, front as front_bytes, nowhere, privates, select_bytes, strings, table_offsets}
 use Rattle.subsetter_cff.specs.Write.Plain.{cff_subset, parts_of}
 use Rattle.subsetter_cff.proofs.ReadLaws.Results.{bind_ok, same_Ok}
-use Rattle.subsetter_cff.proofs.ReadLaws.Soundness.{TopIsSound, was_opened}
 use Rattle.subsetter_cff.proofs.ReadLaws.SourceBytes.{source_of}
-use Rattle.subsetter_cff.proofs.WriteLaws.AgainLaws.Demands.{Shaped}
-use Rattle.subsetter_cff.proofs.WriteLaws.AgainLaws.Opening.{opened_again}
-use Rattle.subsetter_cff.proofs.WriteLaws.AgainLaws.Shapes.{shaped}
 use Rattle.subsetter_cff.proofs.WriteLaws.Headline.{answer_fits, opened_is}
 use Rattle.subsetter_cff.proofs.WriteLaws.Keeping.{entry_of_some}
 use Rattle.subsetter_cff.proofs.WriteLaws.LayingLaws.Fronts.{laid_out, parts_read}
@@ -94,7 +90,7 @@ places_are : (p : Parts) → table_offsets p ≡ places p (length p.char_strings
 unfolding font_dicts_of
 places_are p = refl
 
-module _ (p : Parts) (fits : Fits p) (shape : Shaped p) (texts : List (List ℕ)) (count : length texts ≡ length p.char_strings) (size : length (concat texts) + 1 < 2 ^ 32) where
+module _ (p : Parts) (fits : Fits p) (texts : List (List ℕ)) (count : length texts ≡ length p.char_strings) (size : length (concat texts) + 1 < 2 ^ 32) where
   new_front : in_front (with_texts p texts) (length texts) ≡ in_front p (length p.char_strings)
   new_front = same_front p texts (length texts) ∙ ap (in_front p) count
 
@@ -174,14 +170,14 @@ text_is cff glyph advance charstring private e f = rw (e, f) (changed_or (change
 string_of : (p : Parts) (fits : Fits p) (i : ℕ) (bytes : List ℕ) → slice_get p.char_strings i ≡ Some bytes → char_string (laid_out p) i ≡ Some bytes
 string_of p fits i bytes e = rw (chars_read p fits) (entry_of_some p.char_strings i bytes e)
 
-module _ (p : Parts) (fits : Fits p) (shape : Shaped p) (advances : List ℕ) (texts : List (List ℕ)) (from : charstrings_from (laid_out p) 0 advances ≡ Some texts)
+module _ (p : Parts) (fits : Fits p) (advances : List ℕ) (texts : List (List ℕ)) (from : charstrings_from (laid_out p) 0 advances ≡ Some texts)
     (all : length p.char_strings ≡ length advances) (size : length (concat texts) + 1 < 2 ^ 32) where
   texts_count : length texts ≡ length p.char_strings
   texts_count = texts_length (laid_out p) 0 advances texts from ∙ sym all
 
   has_width : (i : ℕ) → i < length advances → HasWidth (slice_index advances i) (laid_out p) (laid_out (with_texts p texts)) i
   has_width i lt =
-      let fits' = new_fits p fits shape texts texts_count size in
+      let fits' = new_fits p fits texts texts_count size in
       let old = (reads_as p fits).glyphs i (omega (arith, lt, all)) in
       let now = (reads_as (with_texts p texts) fits').glyphs i (omega (arith, lt, all, texts_count)) in
       let same : now.font_dict ≡ old.font_dict = same_Some _ _ (sym now.font_dict_is ∙ old.font_dict_is) in
@@ -201,8 +197,8 @@ module _ (p : Parts) (fits : Fits p) (shape : Shaped p) (advances : List ℕ) (t
 
   have_widths : (out : List ℕ) → cff_table (with_texts p texts) ≡ out → HaveWidths advances (cff_table p) out
   have_widths out is =
-      let fits' = new_fits p fits shape texts texts_count size in
-      let other = new_laid_out p fits shape texts texts_count size in
+      let fits' = new_fits p fits texts texts_count size in
+      let other = new_laid_out p fits texts texts_count size in
       subst (HaveWidths advances (cff_table p)) is (record {
         one = laid_out p;
         one_is = parts_read p fits;
@@ -217,38 +213,42 @@ front_is p fits = rw (char_strings_is p (table_offsets p), offset_operand_is (ch
 front_taken : (p : Parts) → take (char_strings_offset p) (cff_table p) ≡ in_front p (length p.char_strings)
 front_taken p = ap (take (char_strings_offset p)) (table_is p) ∙ take_at (in_front p (length p.char_strings)) (index p.char_strings) (char_strings_offset p) (length-in_front p)
 
-rebuilt_has : (p : Parts) (advances out : List ℕ) → Fits p → Shaped p → length p.char_strings ≡ length advances → rebuilt (laid_out p) advances ≡ Some out → HaveWidths advances (cff_table p) out
+rebuilt_has : (p : Parts) (advances out : List ℕ) → Fits p → length p.char_strings ≡ length advances → rebuilt (laid_out p) advances ≡ Some out → HaveWidths advances (cff_table p) out
 unfolding rebuilt
-rebuilt_has p advances out fits shape all e =
+rebuilt_has p advances out fits all e =
     let a = step (tables.front (laid_out p)) _ out e in
     let b = step (charstrings_from (laid_out p) 0 advances) _ out a.1.1 in
     let c = when _ (Some (a.0 ++ index b.0)) out b.1.1 in
     let sizes = and_parts (nat_lt (length b.0) 65536) (nat_lt (length (concat b.0) + 1) (2 ^ 32)) c.0 in
     let size = ltb-true (length (concat b.0) + 1) (2 ^ 32) sizes.1 in
     let start : a.0 ≡ in_front p (length p.char_strings) = same_Some _ _ (sym a.1.0 ∙ front_is p fits) ∙ front_taken p in
-    have_widths p fits shape advances b.0 b.1.0 all size out
-    (new_table p fits shape b.0 (texts_count p fits shape advances b.0 b.1.0 all size) size ∙ ap (λ (l : List ℕ). l ++ index b.0) (sym start) ∙ same_Some _ _ c.1)
+    have_widths p fits advances b.0 b.1.0 all size out
+    (new_table p fits b.0 (texts_count p fits advances b.0 b.1.0 all size) size ∙ ap (λ (l : List ℕ). l ++ index b.0) (sym start) ∙ same_Some _ _ c.1)
 
 count_is : (p : Parts) → Fits p → option_map_or length (char_strings (laid_out p)) 0 ≡ length p.char_strings
 count_is p fits = rw (chars_read p fits) (length-map p.char_strings Some)
 
-opened_has : (p : Parts) (advances out : List ℕ) → Fits p → Shaped p → with_widths (cff_table p) advances ≡ Some out → HaveWidths advances (cff_table p) out
+-- it is opened as the table that is read
+is_read : (p : Parts) (cff : Cff) (r : Result Cff Error) → Fits p → opened (cff_table p) ≡ r → result_ok r ≡ Some cff → cff ≡ laid_out p
+is_read p cff (Ok c) fits is e = same_Some _ _ (sym (opened_is (cff_table p) cff (is ∙ ap Ok (same_Some _ _ e))) ∙ parts_read p fits)
+is_read p cff (Err why) fits is e = absurd (none-some cff e)
+
+-- of any table that is laid out
+pub opened_has : (p : Parts) (advances out : List ℕ) → Fits p → with_widths (cff_table p) advances ≡ Some out → HaveWidths advances (cff_table p) out
 unfolding with_widths
-opened_has p advances out fits shape e =
-    let here : with_widths_of (laid_out p) advances ≡ Some out = ap (λ (r : Result Cff Error). result_ok r >>= λ cff. with_widths_of cff advances) (sym (opened_again p fits shape)) ∙ e in
+opened_has p advances out fits e =
+    let o = step (result_ok (opened (cff_table p))) (λ cff. with_widths_of cff advances) out e in
+    let here : with_widths_of (laid_out p) advances ≡ Some out = ap (λ (cff : Cff). with_widths_of cff advances) (sym (is_read p o.0 (opened (cff_table p)) fits refl o.1.0)) ∙ o.1.1 in
     let a = when _ (rebuilt (laid_out p) advances) out here in
     let both = and_parts (are_as_many (laid_out p) advances) (differs_from (laid_out p) 0 advances) a.0 in
     let many = and_parts (option_map_or length (char_strings (laid_out p)) 0 == length advances) (nat_lt (length advances) 65536) both.0 in
-    rebuilt_has p advances out fits shape (sym (count_is p fits) ∙ eqb-true _ (length advances) many.0) a.1
+    rebuilt_has p advances out fits (sym (count_is p fits) ∙ eqb-true _ (length advances) many.0) a.1
 
 pub tables_change : TablesChangeWidths
 unfolding cff_subset
 tables_change source tokens depth glyphs advances old new some few e w =
     let a = bind_ok (opened source) _ old e in
     let b = bind_ok (parts_of a.0 tokens depth glyphs) _ old a.1.1 in
-    let is = opened_is source a.0 a.1.0 in
-    let o = was_opened source a.0 a.1.0 in
-    let sound : TopIsSound a.0 = subst TopIsSound (same_Some _ _ (sym o.cff_is ∙ is)) o.top in
-    let fits = answer_fits source a.0 tokens depth glyphs b.0 (source_of source a.0 is) some few b.1.0 in
+    let fits = answer_fits source a.0 tokens depth glyphs b.0 (source_of source a.0 (opened_is source a.0 a.1.0)) some few b.1.0 in
     let table : cff_table b.0 ≡ old = same_Ok _ _ b.1.1 in
-    subst (λ (l : List ℕ). HaveWidths advances l new) table (opened_has b.0 advances new fits (shaped a.0 sound tokens depth glyphs b.0 b.1.0) (ap (λ (l : List ℕ). with_widths l advances) table ∙ w))
+    subst (λ (l : List ℕ). HaveWidths advances l new) table (opened_has b.0 advances new fits (ap (λ (l : List ℕ). with_widths l advances) table ∙ w))
