@@ -1041,7 +1041,7 @@ static void try_reasons(void)
         {"made.ttf", "name", 2, 99, SUBSETTER_CALL_SUBSET, 2, 0, SUBSETTER_DROP_NAMES, 0, 0, 1, ""},
         {"made_cff2.otf", "none", 0, 0, SUBSETTER_CALL_SUBSET, 3, 0, 0, 0, 0, 1, "CFF2: its outlines are taken at coordinates alone"},
         {"made_cff2.otf", "none", 0, 0, SUBSETTER_CALL_SUBSET_AT, 3, 0, 0, 0, 0, 1, ""},
-        {"made_cff2.otf", "none", 0, 0, SUBSETTER_CALL_EMBED_AT, 6, 5, 0, 0, 0, 1, "glyph 0: its charstring in CFF2 is wrong, or passes the limits"},
+        {"made_cff2.otf", "none", 0, 0, SUBSETTER_CALL_EMBED_AT, 6, 5, 0, 0, 0, 1, "glyph 1: its charstring in CFF2 is wrong, or passes the limits"},
         {"made_cff2.otf", "none", 0, 0, SUBSETTER_CALL_EMBED_AT, 6, 0, 0, 0, 0, 1, ""},
         {"made_variable.ttf", "gvar", 48, 32767, SUBSETTER_CALL_SUBSET_AT, 2, 0, 0, 650, 0, 1, "glyph 1: its variation data in gvar can't be read"},
         {"made_variable.ttf", "gvar", 48, 32767, SUBSETTER_CALL_SUBSET_AT, 2, 0, 0, 400, 0, 1, ""},

@@ -231,7 +231,7 @@ def test_no_coordinates():
     (subsetter.MalformedFont, "malformed font: face 1: the collection's faces are 0 to 0", lambda: subsetter.embed(made("made.ttc"), [1], 1)),
     (subsetter.NoCmap, "no usable cmap in font: the face has no table cmap", lambda: subsetter.glyphs_of(TTF.replace(b"cmap", b"none"), "A")),
     (subsetter.Unimplemented, "unsupported feature in font: CFF2: its outlines are taken at coordinates alone: coordinates={} is the default", lambda: subsetter.subset(made("made_cff2.otf"), [])),
-    (subsetter.CFFError, "processing CFF table failed: glyph 0: its charstring in CFF2 is wrong, or passes the limits",
+    (subsetter.CFFError, "processing CFF table failed: glyph 1: its charstring in CFF2 is wrong, or passes the limits",
      lambda: subsetter.embed(made("made_cff2.otf"), [1], coordinates={}, tokens=5)),
     (subsetter.MalformedFont, "malformed font: MVAR: the value of hasc can't be read",
      lambda: subsetter.pdf_font(made("made_variable.ttf").replace(b"\0\x08\0\3\0$cpht", b"\0\7\0\3\0$cpht"), [(1, "A")], coordinates={"wght": 650})),

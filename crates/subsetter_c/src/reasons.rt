@@ -157,7 +157,15 @@ pub extern "C" fn subsetter_explain_by_words(
     match (call_of(call), options_of(options)) {
         (Some(call), Some(chosen)) => hand_text(
             text_by(
-                alloc, call, status, font, index, coordinates, glyphs, options, &chosen,
+                alloc,
+                call,
+                status,
+                font,
+                index,
+                coordinates,
+                glyphs,
+                options,
+                &chosen,
             ),
             out,
             length,

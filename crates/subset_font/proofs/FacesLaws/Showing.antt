@@ -10,10 +10,8 @@ use Rattle.subsetter_sfnt.specs.Read.{Font, header_offset}
 use Rattle.subsetter_sfnt.specs.Extras.{all_extras}
 use Rattle.subsetter_type2.specs.declared.limits.Limits.{Limits}
 use Rattle.font_reasons.specs.Parts.{face_glyphs}
-use Rattle.font_reasons.specs.File.{or_else}
 use Rattle.font_reasons.specs.declared.asked.Call.TheVariants.{Subset}
-use Rattle.subset_font.specs.Refusals.Hint.{hint_of}
-use Rattle.subset_font.specs.Refusals.SecondLook.{seen_after}
+use Rattle.subset_font.specs.Refusals.SecondLook.{known_after}
 use Rattle.subset_font.specs.Faces.Accepted.{IsPlain, IsCause, IsAnswer}
 use Rattle.subset_font.specs.Faces.Info.{IsInfo, info_text, ShowsInfo, IsInfoFault}
 use Rattle.subset_task.specs.Refusals.Texts.{hint_text}
@@ -29,13 +27,13 @@ answered font refusal reason shown following h p q = subst (λ (text : Option (L
 
 -- the text of what is known is that of a cause
 pub cause_of : {X E : Type 0} (view : X → Option (List ℕ)) (font : Font) (failure : Failure) (given : List ℕ) (limits : Limits) (task : Task) (hint : Option Hint) (maxp : Option ℕ) (count : ℕ) (items : List ℕ) (r : Result X E) → given ≡ items → items ≡ counting 0 count → count ≡ unwrap_or maxp 0 → maxp ≡ face_glyphs font → limits.tokens ≤ 1000000 → IsPlain font.index limits Every task
-    → hint ≡ or_else (hint_of failure task font.bytes) (seen_after Subset failure task given font.bytes) → IfOk r (λ x. view x ≡ option_map hint_text hint) → IfOk r (λ x. IsCause font failure (view x))
+    → hint ≡ known_after Subset failure task given font.bytes → IfOk r (λ x. view x ≡ option_map hint_text hint) → IfOk r (λ x. IsCause font failure (view x))
 cause_of view font failure given limits task hint maxp count items (Ok x) are counted or_none has few plain known text = record {
   limits = limits;
   few = few;
   task = task;
   is_plain = plain;
-  is_text = text ∙ (ap (option_map hint_text) known ∙ ap (λ (all : List ℕ). option_map hint_text (or_else (hint_of failure task font.bytes) (seen_after Subset failure task all font.bytes)))
+  is_text = text ∙ (ap (option_map hint_text) known ∙ ap (λ (all : List ℕ). option_map hint_text (known_after Subset failure task all font.bytes))
       (are ∙ (counted ∙ (ap (counting 0) or_none ∙ ap (λ (n : Option ℕ). counting 0 (unwrap_or n 0)) has))));
 }
 cause_of view font failure given limits task hint maxp count items (Err e) are counted or_none has few plain known text = tt

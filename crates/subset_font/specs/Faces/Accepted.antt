@@ -9,10 +9,8 @@ use Rattle.subset_args.specs.Listing.Lists.{counting}
 use Rattle.subsetter_type2.specs.declared.limits.Limits.{Limits}
 use Rattle.subset_font.specs.Making.Made.{IsMade, IsUnmade}
 use Rattle.font_reasons.specs.Parts.{face_glyphs}
-use Rattle.font_reasons.specs.File.{or_else}
 use Rattle.font_reasons.specs.declared.asked.Call.TheVariants.{Subset}
-use Rattle.subset_font.specs.Refusals.Hint.{hint_of}
-use Rattle.subset_font.specs.Refusals.SecondLook.{seen_after}
+use Rattle.subset_font.specs.Refusals.SecondLook.{known_after}
 use Rattle.subset_task.specs.Refusals.Texts.{failure_text, hint_text}
 use Rattle.subset_task.specs.declared.task.RequestedGlyphs.{RequestedGlyphs}
 use Rattle.subset_task.specs.declared.task.RequestedGlyphs.TheVariants.{Every}
@@ -48,7 +46,7 @@ pub record IsCause (font : Font) (failure : Failure) (reason : Option (List ℕ)
   pub few : limits.tokens ≤ 1000000
   pub task : Task
   pub is_plain : IsPlain font.index limits Every task
-  pub is_text : reason ≡ option_map hint_text (or_else (hint_of failure task font.bytes) (seen_after Subset failure task (counting 0 (unwrap_or (face_glyphs font) 0)) font.bytes))
+  pub is_text : reason ≡ option_map hint_text (known_after Subset failure task (counting 0 (unwrap_or (face_glyphs font) 0)) font.bytes)
 
 -- ---- the answer
 

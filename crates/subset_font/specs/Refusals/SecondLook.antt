@@ -12,6 +12,7 @@ use Rattle.font_reasons.specs.declared.asked.Call.TheVariants.{Subset, SubsetAt,
 use Rattle.font_reasons.specs.declared.reason.Reason.{Reason}
 use Rattle.subsetter_sfnt.specs.Read.{Font as Face}
 use Rattle.subset_font.specs.Making.Made.{face_of}
+use Rattle.subset_font.specs.Refusals.Hint.{hint_of}
 use Rattle.subset_task.specs.declared.refusals.failure.Failure.{Failure}
 use Rattle.subset_task.specs.declared.refusals.failure.Failure.TheVariants.{Error}
 use Rattle.subset_task.specs.declared.refusals.hint.text.Hint.{Hint}
@@ -47,3 +48,7 @@ seen_again call e task glyphs bytes = option_map Font (or_else (explained (quest
 abbrev pub seen_after : Call → Failure → Task → List ℕ → List ℕ → Option Hint
 seen_after call (Error e) task glyphs bytes = seen_again call e task glyphs bytes
 seen_after call other task glyphs bytes = None
+
+-- what is known at once, or else this
+abbrev pub known_after : Call → Failure → Task → List ℕ → List ℕ → Option Hint
+known_after call failure task glyphs bytes = or_else (hint_of failure task bytes) (seen_after call failure task glyphs bytes)

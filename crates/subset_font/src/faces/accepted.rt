@@ -8,8 +8,7 @@ ghost use Rattle.subset_task.specs.Refusals.Texts.{hint_text};
 ghost use Rattle.subset_task.specs.declared.task.RequestedGlyphs.{RequestedGlyphs};
 
 use crate::making::subset::make_of;
-use crate::refusals::hint::found::find_hint;
-use crate::refusals::second_look::look_after;
+use crate::refusals::second_look::all_known;
 use font_reasons::{Call, count_glyphs};
 use std::alloc::{AllocError, Global};
 use subset_task::making::requested::first_glyphs;
@@ -121,9 +120,8 @@ fn reason_of(
     let limits = limits_for(font, index);
     let pieces = [RequestedGlyphs::Every];
     let task = task_for(index, limits, &pieces);
-    let hint = find_hint(failure, font, &task);
-    let seen = look_after(alloc, Call::Subset, failure, font, &task, &glyphs)?;
-    text_of(alloc, hint.or(seen))
+    let hint = all_known(alloc, Call::Subset, failure, font, &task, &glyphs)?;
+    text_of(alloc, hint)
 }
 
 /// Whether memory ran out.

@@ -3,9 +3,9 @@
 ghost use Rattle.std.specs.Prelude.{◌≡◌, [], IfOk, unwrap_or};
 ghost use Rattle.std.specs.Option.{option_copied};
 ghost use Rattle.subset_font.specs.Making.Made.{face_of};
-ghost use Rattle.subset_font.specs.Refusals.SecondLook.{call_of, seen_after, seen_again, uncounted};
+ghost use Rattle.subset_font.specs.Refusals.SecondLook.{call_of, known_after, seen_after, seen_again, uncounted};
 
-use crate::refusals::hint::found::shown;
+use crate::refusals::hint::found::{find_hint, shown};
 use font_reasons::{Asked, Call, Reason, explain, no_table};
 use std::alloc::{AllocError, Global};
 use subset_task::refusals::failure::Failure;
@@ -89,4 +89,19 @@ pub fn look_after(
         Failure::Error(error) => look_again(alloc, call, *error, font, task, glyphs),
         _ => Ok(None),
     }
+}
+
+/// What is known of a failure at once, or else what it shows.
+pub fn all_known(
+    alloc: Global,
+    call: Call,
+    failure: &Failure,
+    font: &[u8],
+    task: &Task<'_>,
+    glyphs: &[u16],
+) -> Result<Option<Hint>, AllocError>
+    ensures { IfOk result (λ hint. hint ≡ known_after call failure.now task.now glyphs.now font.now) }
+{
+    let seen = look_after(alloc, call, failure, font, task, glyphs)?;
+    Ok(find_hint(failure, font, task).or(seen))
 }

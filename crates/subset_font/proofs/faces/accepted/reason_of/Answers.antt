@@ -8,5 +8,5 @@ use Rattle.subset_font.proofs.faces.accepted.reason_of.Goals as goal
 
 pub returns : goal.returns
 returns c =
-    cause_of (option_map string_bytes) (record { bytes = c.args.font.now; index = c.args.index; extras = all_extras }) c.args.failure.now c.deref.result.now c.limits_for-limits.result c.task_for-task.result _ c.count_glyphs.result c.unwrap_or-count.result c.in_ok-glyphs.glyphs.items c.text_of.result
-    c.deref.ensures.value c.in_ok-glyphs.ensures c.unwrap_or-count.ensures c.count_glyphs.ensures c.limits_for-limits.ensures (c.task_for-task.ensures Every refl) _ c.text_of.ensures
+    cause_of (option_map string_bytes) (record { bytes = c.args.font.now; index = c.args.index; extras = all_extras }) c.args.failure.now c.deref.result.now c.limits_for-limits.result c.task_for-task.result c.in_ok-hint.hint c.count_glyphs.result c.unwrap_or-count.result c.in_ok-glyphs.glyphs.items c.text_of.result
+    c.deref.ensures.value c.in_ok-glyphs.ensures c.unwrap_or-count.ensures c.count_glyphs.ensures c.limits_for-limits.ensures (c.task_for-task.ensures Every refl) c.in_ok-hint.ensures c.text_of.ensures
