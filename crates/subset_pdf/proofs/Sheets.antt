@@ -1,5 +1,5 @@
 -- What is answered for glyphs in use, and for glyphs and their texts.
-use Rattle.std.proofs.Common.{◌≡◌, ◌⊎◌, inl, inr, ℕ, ℤ, List, [], ◌∷◌, Bool, length, map, Result, Ok, Err, refl, sym, ap, subst, ◌∙◌}
+use Rattle.std.proofs.Common.{◌≡◌, ◌⊎◌, inl, inr, ℕ, ℤ, List, [], ◌∷◌, Bool, length, map, Result, Ok, Err, sym, ap, subst, ◌∙◌}
 use Rattle.std.specs.Prelude.{IfOk, IfErr, Option}
 use Rattle.std.specs.Option.{option_map}
 use Rattle.subsetter_base.specs.declared.tag.Tag.{Tag}
@@ -45,7 +45,7 @@ fault_named font settings options us order TextTooLong fault = (order, fault)
 fault_named font settings options us order BitmapsAlone (bare is) = unopened font settings options us UnknownKind (bare_unopened font is)
 
 text_fault_named : (font : Font) (settings : List (Tag × ℤ)) (options : FontOptions) (count : ℕ) (ps : List Pair) (e : FontError) → HasTextFault font settings options count [] ps e → HasTextFault font settings options count [] ps (fault_of (named e))
-text_fault_named font settings options count ps e (in_subset no) = let f = fault_named font settings (subset_options options) _ no.order e no.fault in in_subset (record { order = f.0; fault = f.1 })
+text_fault_named font settings options count ps e (in_subset lacking) = let f = fault_named font settings (subset_options options) _ lacking.order e lacking.fault in in_subset (record { order = f.0; fault = f.1 })
 text_fault_named font settings options count ps _ (in_drawing subset made fault) = in_drawing subset made fault
 
 module _ (bytes : List ℕ) (request : PdfRequest) (shown : List Shown) where

@@ -61,7 +61,7 @@ impl From<FontError> for SheetError {
 // ---- by codes
 
 /// What the PDF has of the font for glyphs in use.
-#[tactic(auto, using(crate::proofs::Sheets::font_made, crate::proofs::Sheets::font_refused))]
+#[tactic(auto, using(crate::proofs::Sheets::font_made))]
 fn font_for(
     alloc: Global,
     data: &[u8],
@@ -110,7 +110,7 @@ fn coded_sheet(
 // ---- as a text
 
 /// What a PDF has of the font of a line.
-#[tactic(auto, using(crate::proofs::Sheets::text_made, crate::proofs::Sheets::text_refused))]
+#[tactic(auto, using(crate::proofs::Sheets::text_made))]
 fn text_for(
     alloc: Global,
     data: &[u8],
