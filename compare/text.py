@@ -256,7 +256,7 @@ def compare_line(row, commands, room):
 
 def read(lines, asked, programs, room, pool):
     """For the lines as they are here (the program is ""), and as programs make them: the program, the reader, the line, the grade and the text."""
-    config, others = writers.with_fonts(lines, room), [it for it in lines if not it.texts]
+    config, others = programs and writers.with_fonts(lines, room), [it for it in lines if not it.texts]
 
     def made(name):
         pages = writers.write(name, others, config, room) if name else [(it, it.path, 1) for it in lines]
@@ -291,8 +291,7 @@ def main():
         lines = [it.line for it in found if hasattr(it, "line")]
         if 0 < len(found) < len(rows):
             left.say("time", f"it ended after {len(found)} of {len(rows)} lines")
-        paths = [it.path for it in lines if not words.short]
-        judged = pool.submit(readers.preflight, paths, room)
+        judged = pool.submit(readers.preflight, [it.path for it in lines if not words.short], room)
         for name, reader, line, came, got in read(lines, asked, programs, room, pool):
             left.counts.update({(name or line.script, reader, it): came > least for least, it in enumerate(("near", "exact"))})
             left.counts[name or line.script] += reader == asked[0]
@@ -317,4 +316,4 @@ def main():
     by_all = ", ".join(f"{said(it, scripts)} by {it}" for it in asked)
     others = "".join(f"; by the same of {counts[name]} lines of {name} {', '.join(said(it, [name]) for it in asked)}" for name in programs)
     same = "".join(f"; the same bytes of {counts[name]} lines by {name}" for name in commands)
-    reports.end([*found, left], counts["lines"], f"{counts['lines']} lines of {len(scripts)} kinds of text, exact (or near) {by_all}{others}{same}; {counts['packed'] / (counts['sheets'] or 1):.3f} of the bytes of sheets{f'; {len(paths)} files valid as PDF/A-1b' if paths else ''}")
+    reports.end([*found, left], counts["lines"], f"{counts['lines']} lines of {len(scripts)} kinds of text, exact (or near) {by_all}{others}{same}; {counts['packed'] / (counts['sheets'] or 1):.3f} of the bytes of sheets{f'; {len(judged.result())} files valid as PDF/A-1b' if not words.short else ''}")

@@ -24,7 +24,7 @@ ALLOWED = {
     ("pdf_runs", "enum RunError"): (1, "the case itself"),
     ("pdf_operators", "parts_of_run"): (1, "`words_of_run` has no other error"),
     ("pdf_operators", "push_part"): (1, "`pieces_of_clusters` has no other error"),
-    ("pdf_operators", "add_codes"): (1, "`pieces_of_run` has no other error"),
+    ("pdf_operators", "add_codes"): (1, "`pieces_of_clusters` has no other error"),
     ("pdf_operators", "code_pieces"): (1, "of `codes_of` without OverflowError"),
     ("pdf_operators", "show_run"): (1, "`clusters_of_run` has no other error"),
     ("pdf_operators", "write_run"): (1, "`write_operators` has no other error"),

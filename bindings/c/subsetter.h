@@ -92,7 +92,7 @@ enum {
     SUBSETTER_INVALID_TEXT = 12,
     /* The font has no table by which characters have glyphs; of the calls that look them up alone. */
     SUBSETTER_NO_CMAP = 13,
-    /* The font has bitmaps (`CBDT`, `sbix` or `EBDT`) and no outlines; of the calls that make a font for PDF alone. Others answer 1. */
+    /* The face has no outlines (`glyf`, `CFF `, `CFF2`); of the calls that make a font for PDF alone. Others answer 1. */
     SUBSETTER_BITMAPS_ALONE = 14,
     /* The font of a text would have more than 65,535 codes: the run is for another text. */
     SUBSETTER_OVERFULL = 15,
@@ -109,7 +109,7 @@ static inline const char *subsetter_status_text(uint32_t status)
         "the limit of the depth is 0", "wrong option, size or text", "embedding not permitted", "invalid text"
     };
     return status < sizeof texts / sizeof *texts ? texts[status]
-           : status == 13 ? "no usable cmap in font" : status == 14 ? "bitmaps alone in font" : status == 15 ? "too many codes" : status == 16 ? "invalid numbers" : "unknown status";
+           : status == 13 ? "no usable cmap in font" : status == 14 ? "no outlines in font" : status == 15 ? "too many codes" : status == 16 ? "invalid numbers" : "unknown status";
 }
 
 /* This text from the library, in ASCII, without a zero at the end: print it by "%.*s", with (int)length in front.

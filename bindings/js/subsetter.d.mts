@@ -37,7 +37,7 @@ export class NotPermitted extends SubsetterError {}
 export class InvalidText extends SubsetterError {}
 /** The font has no table by which characters have glyphs. */
 export class NoCmap extends SubsetterError {}
-/** The font has bitmaps (`CBDT`, `sbix` or `EBDT`) and no outlines: `pdfFont` alone throws it. */
+/** The face has no outlines (`glyf`, `CFF `, `CFF2`), but bitmaps or other pictures, or none: `pdfFont` alone throws it. */
 export class BitmapsAlone extends UnknownKind {}
 /** The font lacks characters of a text. */
 export class MissingCharacters extends SubsetterError {

@@ -9,7 +9,6 @@ import build
 import fonts
 from pdf_readers import Unread, ran
 
-# (LibreOffice opens no collection by a link)
 CONFIG = '<?xml version="1.0"?><!DOCTYPE fontconfig SYSTEM "fonts.dtd"><fontconfig><dir>%s/fonts</dir><cachedir>%s/cache</cachedir>%s</fontconfig>'
 NAMED = ('<match target="scan"><test name="file"><string>%s</string></test><test name="index"><int>0</int></test>'
          '<edit name="family" mode="assign"><string>%s</string></edit><edit name="slant" mode="assign"><int>0</int></edit></match>')
@@ -48,38 +47,31 @@ def document(lines, stem):
                      f'<office:master-styles>{masters}</office:master-styles><office:body><office:text>{"".join(rows)}</office:text></office:body></office:document>')
 
 
-def by_chromium(lines, stem):
-    return ["--headless", "--no-sandbox", "--disable-gpu", f"--user-data-dir={stem}.profile", "--no-pdf-header-footer", f"--print-to-pdf={stem}.pdf", f"file://{page(lines, stem)}"]
+def marked(line):
+    """The same for Pango."""
+    return f"<span lang='{line.language or 'en'}' font_features='{chosen(line, '', ',')}'>{html.escape(line.text)}</span>"
 
 
-def by_libreoffice(lines, stem):
-    return [f"-env:UserInstallation=file://{stem}.profile", "--headless", "--convert-to", "pdf", "--outdir", os.path.dirname(stem), document(lines, stem)]
-
-
-def by_pango(lines, stem):
-    """(a line alone)"""
-    text = f"<span lang='{lines[0].language or 'en'}' font_features='{chosen(lines[0], '', ',')}'>{html.escape(lines[0].text)}</span>"
-    return ["--no-display", "--markup", f"--font={family(lines[0])}, 24", f"--text={text}", f"--output={stem}.pdf", *["--gravity=east", "--rotate=-90"] * lines[0].is_vertical]
-
-
-def by_weasyprint(lines, stem):
-    return [page(lines, stem), stem + ".pdf"]
-
-
-# Each program, its command, and the words that it is called with.
-WRITERS = {"Chromium": ("chromium", by_chromium), "LibreOffice": ("soffice", by_libreoffice), "Pango": ("pango-view", by_pango), "WeasyPrint": ("weasyprint", by_weasyprint)}
+# Each program, its command, and the words that it is called with for lines (Pango for one alone) and the stem of a file.
+WRITERS = {
+    "Chromium": ("chromium", lambda lines, stem: ["--headless", "--no-sandbox", "--disable-gpu", f"--user-data-dir={stem}.profile", "--no-pdf-header-footer", f"--print-to-pdf={stem}.pdf", f"file://{page(lines, stem)}"]),
+    "LibreOffice": ("soffice", lambda lines, stem: [f"-env:UserInstallation=file://{stem}.profile", "--headless", "--convert-to", "pdf", "--outdir", os.path.dirname(stem), document(lines, stem)]),
+    "Pango": ("pango-view", lambda lines, stem: ["--no-display", "--markup", f"--font={family(lines[0])}, 24", f"--text={marked(lines[0])}", f"--output={stem}.pdf", *["--gravity=east", "--rotate=-90"] * lines[0].is_vertical]),
+    "WeasyPrint": ("weasyprint", lambda lines, stem: [page(lines, stem), stem + ".pdf"]),
+}
 
 
 def there(skipped):
     """Installs the programs that aren't skipped: those that are there, and those that aren't."""
     asked = {name: command for name, (command, _) in WRITERS.items() if name not in skipped}
-    subprocess.run([os.path.join(build.ROOT, "tools", "install"), *asked.values(), *["fc-scan"] * bool(asked)])
+    subprocess.run([os.path.join(build.ROOT, "tools", "install"), *asked.values()])
     return [[name for name, command in asked.items() if bool(shutil.which(command)) == is_there] for is_there in (True, False)]
 
 
 def with_fonts(lines, room):
     """Lays out the fonts of the lines: the configuration that names them."""
     os.makedirs(os.path.join(room, "fonts"))
+    # (LibreOffice opens no collection by a link)
     places = {family(it): shutil.copy(it.font, os.path.join(room, "fonts")) for it in lines}
     return fonts.put(os.path.join(room, "fonts.conf"), CONFIG % (room, room, "".join(NAMED % (path, name) for name, path in places.items())))
 

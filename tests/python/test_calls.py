@@ -239,7 +239,7 @@ def test_no_coordinates():
     (subsetter.OverflowError, "overflow occurred: tokens is 1", lambda: subsetter.advances(made("made_variable.ttf"), [1], coordinates={"wght": 650}, tokens=1)),
     (subsetter.NotPermitted, 'embedding not permitted: OS/2: fsType 0x0104 forbids subsets: if you hold the rights, rights="held"',
      lambda: subsetter.pdf_font(made("made.otf"), [])),
-    (subsetter.BitmapsAlone, "bitmaps alone in font: sbix: the face has bitmaps and no outlines", lambda: subsetter.pdf_font(TTF.replace(b"glyf", b"sbix", 1), [])),
+    (subsetter.BitmapsAlone, "no outlines in font: sbix: the face has bitmaps and no outlines", lambda: subsetter.pdf_font(TTF.replace(b"glyf", b"sbix", 1), [])),
     (subsetter.InvalidText, "invalid text: U+DFFF is an unpaired surrogate", lambda: subsetter.glyphs_of(TTF, "A\udfff")),
     (subsetter.InvalidText, "invalid text: U+D800 is an unpaired surrogate", lambda: subsetter.codes_of([(1, "\ud800")])),
     (subsetter.InvalidText, "invalid text: a text has more than 256 UTF-16 units", lambda: subsetter.pdf_font(TTF, [(1, "\U0001f600" * 129)])),

@@ -16,7 +16,7 @@ pub const NOT_PERMITTED: u32 = 11;
 pub const INVALID_TEXT: u32 = 12;
 /// The font has no table by which characters have glyphs.
 pub const NO_CMAP: u32 = 13;
-/// The font has bitmaps and no outlines.
+/// The face has no outlines.
 pub const BITMAPS_ALONE: u32 = 14;
 /// The font of a text would have too many codes.
 pub const OVERFULL: u32 = 15;
@@ -55,7 +55,7 @@ pub fn status_text(status: u32) -> &'static [u8] {
         NOT_PERMITTED => b"embedding not permitted",
         INVALID_TEXT => b"invalid text",
         NO_CMAP => b"no usable cmap in font",
-        BITMAPS_ALONE => b"bitmaps alone in font",
+        BITMAPS_ALONE => b"no outlines in font",
         OVERFULL => b"too many codes",
         INVALID_NUMBERS => b"invalid numbers",
         _ => b"unknown status",

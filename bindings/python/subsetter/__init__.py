@@ -127,7 +127,7 @@ class NoCmap(Error):
 
 
 class BitmapsAlone(UnknownKind):
-    """The font has bitmaps (`CBDT`, `sbix` or `EBDT`) and no outlines: `pdf_font` alone raises it."""
+    """The face has no outlines (`glyf`, `CFF `, `CFF2`), but bitmaps or other pictures, or none: `pdf_font` alone raises it."""
 
 
 class MissingCharacters(Error, ValueError):

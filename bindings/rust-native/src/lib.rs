@@ -74,7 +74,7 @@ impl fmt::Display for Error {
             Self::NotPermitted => "embedding not permitted",
             Self::InvalidText => "invalid text",
             Self::NoCmap => "no usable cmap in font",
-            Self::BitmapsAlone => "bitmaps alone in font",
+            Self::BitmapsAlone => "no outlines in font",
             Self::Unknown(status) => return write!(f, "unknown status {status}"),
         })
     }

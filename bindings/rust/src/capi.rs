@@ -201,7 +201,7 @@ pub fn explain(
     choices: &Choices,
 ) -> Option<Result<String, Error>> {
     let call = *CALLS.get(call as usize)?;
-    // (a missing table is a malformed font there, and bitmaps alone are an unknown kind)
+    // (a missing table is a malformed font there, and no outlines are an unknown kind)
     let place = match status {
         1..=6 => status as usize,
         11 => return Some(text(reasons::find_prohibition(data, index))),

@@ -38,8 +38,11 @@ use Rattle.subsetter_cff.proofs.WriteLaws.NewDictsLaws.FontDicts.{none_left_out}
 use Rattle.subsetter_cff.proofs.WriteLaws.NewDictsLaws.FontDictSteps.{agrees, dict_at, dict_made}
 use Rattle.pdf_widths.specs.Change.{advance_of}
 use Rattle.pdf_widths.specs.Defaults.{default_width_operator, defaults_of, nominal_width_operator, whole_or_zero}
+use Rattle.pdf_widths.specs.Laws.{HaveWidths}
 use Rattle.pdf_widths.specs.Opening.{opening_of}
+use Rattle.pdf_widths.specs.Tables.{with_widths}
 use Rattle.pdf_widths.specs.declared.defaults.Defaults.{Defaults}
+use Rattle.pdf_widths.proofs.Whole.{opened_has}
 use Rattle.cff_repeats.specs.Laws.{HasDict, HasFigures, IsFigure, advance_in}
 use Rattle.cff_repeats.specs.Repeats.{calls_none, figure, figures_of, is_count, repeated, with_repeats}
 use Rattle.cff_repeats.proofs.BlankTraces.{blank_opens, blank_text, blank_traces, wanted_says}
@@ -222,9 +225,16 @@ module _ (bytes : List ℕ) (cff : Cff) (source : cff_parts bytes ≡ Some cff) 
 is_written : (p q r : Parts) (out : List ℕ) → p ≡ q → q ≡ r → cff_table r ≡ out → cff_table p ≡ out
 is_written p q r out a b c = ap cff_table (a ∙ b) ∙ c
 
-pub repeats_have : (bytes : List ℕ) (figures : List (Option ℕ)) (out : List ℕ) → with_repeats bytes figures ≡ Ok out → HasFigures figures bytes out
+-- what the new table is laid out of
+record IsLaid (bytes : List ℕ) (figures : List (Option ℕ)) (out : List ℕ) : Type 0 where
+  made : Parts
+  fits : Fits made
+  table : cff_table made ≡ out
+  has : HasFigures figures bytes (cff_table made)
+
+laid : (bytes : List ℕ) (figures : List (Option ℕ)) (out : List ℕ) → with_repeats bytes figures ≡ Ok out → IsLaid bytes figures out
 unfolding with_repeats repeated
-repeats_have bytes figures out e =
+laid bytes figures out e =
     let c = passed (is_count (length figures)) OverflowError _ out e in
     let counts = and_parts (nat_lt 0 (length figures)) (nat_lt (length figures) 65536) c.0 in
     let a = bind_ok (opened bytes) _ out c.1 in
@@ -233,9 +243,25 @@ repeats_have bytes figures out e =
     let l = bind_ok (limited n.0) _ out n.1.1 in
     let limited_are = are_limited a.0 k.0 n.0 l.0 n.1.0 l.1.0 in
     let s = parts_steps a.0 k.0 n.0 limited_are.made in
-    subst (HasFigures figures bytes) (is_written _ n.0 l.0 out s.parts_are limited_are.same (same_Ok (cff_table l.0) out l.1.1))
-    (has_figures bytes a.0 (opened_is bytes a.0 a.1.0) figures (ltb-true 0 (length figures) counts.0) (let lt = ltb-true (length figures) 65536 counts.1 in omega (arith, lt)) k.0 k.1.0
-    s.copyright s.notice s.font_name s.dicts s.dicts_are s.copyright_is s.notice_is s.font_name_is (subst Limits (sym s.parts_are) limited_are.limits))
+    let source = opened_is bytes a.0 a.1.0 in
+    let some = ltb-true 0 (length figures) counts.0 in
+    let few : length figures ≤ 65535 = let lt = ltb-true (length figures) 65536 counts.1 in omega (arith, lt) in
+    let limits = subst Limits (sym s.parts_are) limited_are.limits in
+    record {
+      made = parts bytes a.0 source figures some few k.0 k.1.0 s.copyright s.notice s.font_name s.dicts s.dicts_are s.copyright_is s.notice_is s.font_name_is;
+      fits = fits bytes a.0 source figures some few k.0 k.1.0 s.copyright s.notice s.font_name s.dicts s.dicts_are s.copyright_is s.notice_is s.font_name_is limits;
+      table = is_written _ n.0 l.0 out s.parts_are limited_are.same (same_Ok (cff_table l.0) out l.1.1);
+      has = has_figures bytes a.0 source figures some few k.0 k.1.0 s.copyright s.notice s.font_name s.dicts s.dicts_are s.copyright_is s.notice_is s.font_name_is limits;
+    }
+
+pub repeats_have : (bytes : List ℕ) (figures : List (Option ℕ)) (out : List ℕ) → with_repeats bytes figures ≡ Ok out → HasFigures figures bytes out
+repeats_have bytes figures out e = let l = laid bytes figures out e in subst (HasFigures figures bytes) l.table l.has
+
+-- with other widths it is the same but for these
+pub repeats_change : (bytes : List ℕ) (figures : List (Option ℕ)) (advances out new : List ℕ) → with_repeats bytes figures ≡ Ok out → with_widths out advances ≡ Some new → HaveWidths advances out new
+repeats_change bytes figures advances out new e w =
+    let l = laid bytes figures out e in
+    subst (λ (o : List ℕ). HaveWidths advances o new) l.table (opened_has l.made advances new l.fits (ap (λ (o : List ℕ). with_widths o advances) l.table ∙ w))
 
 pub given_have : (bytes : List ℕ) (figures : List (Option ℕ)) {X : Type 0} (view : X → List ℕ) (r : Result X Error) → Gives view r (with_repeats bytes figures) → IfOk r (λ x. HasFigures figures bytes (view x))
 given_have bytes figures view (Ok x) h = repeats_have bytes figures (view x) h

@@ -1,9 +1,11 @@
 -- Figures of a cluster, of which one is cut.
-use Rattle.std.proofs.Common.{◌≡◌, ℕ, zero, suc, ◌+◌, ◌<◌, Bool, true, false, ◌&&◌, List, [], ◌∷◌, ◌++◌, append-nil, length, get_or, map, take, drop, refl, sym, ap, ◌∙◌, append_assoc, arith, add-one, ℤ, pos, negsuc}
+use Rattle.std.proofs.Common.{◌≡◌, ℕ, zero, suc, ◌+◌, ◌-◌, ◌<◌, ◌≤◌, Bool, true, false, ◌&&◌, List, [], ◌∷◌, ◌++◌, append-nil, length, get_or, map, take, drop, refl, sym, ap, ◌∙◌, append_assoc, arith, add-one, ℤ, pos, negsuc}
 use Rattle.std.specs.Prelude.{unsigned_abs}
+use Rattle.std.proofs.lemmas.List.{take_all}
 use Rattle.pdf_runs.specs.declared.items.Item.{Item}
 use Rattle.pdf_runs.specs.declared.items.Direction.{Direction}
 use Rattle.pdf_runs.specs.declared.items.Direction.TheVariants.{LeftToRight, RightToLeft, TopToBottom}
+use Rattle.pdf_runs.specs.Items.{in_reading, text_in, text_of, visual}
 use Rattle.pdf_figures.specs.declared.choice.Choice.{Choice}
 use Rattle.pdf_figures.specs.declared.ink.OwnInk.{OwnInk}
 use Rattle.pdf_figures.specs.Figures.{Figured, Ink, at_place, cut_one, divided, first_share, glyph, is_advance, is_whole, own, parts_of, title_of, whole, x_total}
@@ -61,3 +63,14 @@ pub one_divided : (d : Direction) (c : Choice) (is : List Item) (w : Figured) �
 one_divided LeftToRight c is w = append-nil (cut_one c (first_share LeftToRight 1 is) w)
 one_divided RightToLeft c is w = append-nil (cut_one c (first_share RightToLeft 1 is) w)
 one_divided TopToBottom c is w = append-nil (cut_one c (first_share TopToBottom 1 is) w)
+
+-- the figure of a cluster of one glyph has all its characters
+pub alone_put : (d : Direction) (c : Choice) (is : List Item) (e : Item) (f : Item → Figured) (old new : List Figured) → length is ≡ 1 → new ≡ old ++ cut_one c (visual d (text_of is)) (f (get_or is 0 e))
+    → new ≡ old ++ at_place (in_reading d (length is) 0) (cut_one c (first_share d (length is) is)) (map f is)
+alone_put d c [] e f old new l h = absurd (omega arith)
+alone_put d c (i ∷ []) e f old new l h =
+    let t : List ℕ = text_in i.text in
+    h
+    ∙ ap (λ (s : List ℕ). old ++ cut_one c (visual d s) (f i)) (sym (take_all (1 + (length t - 1)) t (omega arith)))
+    ∙ ap (λ (fs : List Figured). old ++ fs) (sym (one_divided d c (i ∷ []) (f i)))
+alone_put d c (i ∷ j ∷ is) e f old new l h = absurd (omega arith)

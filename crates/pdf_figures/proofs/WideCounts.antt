@@ -1,5 +1,5 @@
 -- How many characters are no marks, in either order, and figures that are cut one character after the other.
-use Rattle.std.proofs.Common.{◌≡◌, ℕ, suc, ◌+◌, ◌-◌, ◌/◌, ◌^◌, ◌<◌, ◌≤◌, Bool, true, false, cond, List, [], ◌∷◌, ◌++◌, length, get_or, drop, reverse, refl, sym, ap, ◌∙◌, append_assoc, arith, ℤ, pos, ◌-ℤ◌, None}
+use Rattle.std.proofs.Common.{◌≡◌, ℕ, suc, ◌+◌, ◌-◌, ◌/◌, ◌^◌, ◌<◌, ◌≤◌, Bool, true, false, nat_lt, cond, List, [], ◌∷◌, ◌++◌, length, get_or, drop, reverse, refl, sym, ap, ◌∙◌, append_assoc, arith, ℤ, pos, ◌-ℤ◌, None}
 use Rattle.std.specs.Prelude.{unsigned_abs}
 use Rattle.std.proofs.lemmas.Grind.{common_steps}
 use Rattle.std.proofs.lemmas.Int.{ints}
@@ -37,6 +37,19 @@ pub wide_visual : (d : Direction) (xs : List ℕ) → wide_count (visual d xs) �
 wide_visual LeftToRight xs = refl
 wide_visual RightToLeft xs = wide_reverse xs
 wide_visual TopToBottom xs = refl
+
+few_on : (b : Bool) → nat_lt 1 (cond b 0 1) ≡ false
+few_on true = refl
+few_on false = refl
+
+few : (xs : List ℕ) → length xs ≤ 1 → nat_lt 1 (wide_count xs) ≡ false
+few [] l = refl
+few (x ∷ []) l = few_on (is_mark x)
+few (x ∷ y ∷ xs) l = absurd (omega arith)
+
+-- one character isn't several
+pub few_wide : (d : Direction) (xs : List ℕ) → length xs ≤ 1 → nat_lt 1 (wide_count (visual d xs)) ≡ false
+few_wide d xs l = ap (nat_lt 1) (wide_visual d xs) ∙ few xs l
 
 -- ---- one after the other
 

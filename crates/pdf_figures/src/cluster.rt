@@ -88,7 +88,25 @@ fn push_each<'a>(
     Ok(())
 }
 
+/// Puts what stands for a glyph with these characters after others, cut.
+fn push_alone<'a>(
+    alloc: Global,
+    figures: &mut Vec<Figure<'a>>,
+    direction: Direction,
+    choice: &Choice<'_>,
+    item: &Item<'a>,
+    as_it_is: bool,
+    share: &[char],
+) -> Result<(), Error>
+    ensures ok { OnOk result (figures_seen figures.new.items ≡ figures_seen figures.old.items ++ cut_one choice.now (visual direction share.now) (beside_unless as_it_is choice.now item.now)) }
+    ensures err { IfErr result (λ e. e ≡ OutOfMemory) }
+{
+    let figure = figure_of(alloc, choice, item, as_it_is)?;
+    push_cut_one(alloc, figures, direction, choice, figure, share)
+}
+
 /// Puts what stands for the glyphs of a cluster after others, of which the first in reading order is cut.
+#[tactic(auto, using(crate::proofs::Placing::alone_put))]
 fn push_divided<'a>(
     alloc: Global,
     figures: &mut Vec<Figure<'a>>,
@@ -101,8 +119,20 @@ fn push_divided<'a>(
     ensures ok { OnOk result (figures_seen figures.new.items ≡ figures_seen figures.old.items ++ at_place (in_reading direction (length items.now) 0) (cut_one choice.now (first_share direction (length items.now) items.now)) (map (beside_unless as_they_are choice.now) items.now)) }
     ensures err { IfErr result (λ e. e ≡ OutOfMemory) }
 {
+    let text = text_of(items);
+    if items.len() == 1 {
+        return push_alone(
+            alloc,
+            figures,
+            direction,
+            choice,
+            &items[0],
+            as_they_are,
+            text,
+        );
+    }
     let first = in_reading(direction, items.len(), 0);
-    let share = first_share(text_of(items), items.len());
+    let share = first_share(text, items.len());
     let before = front(items, first);
     push_each(alloc, figures, choice, before, as_they_are)?;
     let figure = figure_of(alloc, choice, &items[first], as_they_are)?;

@@ -138,6 +138,14 @@ fn part_and_rest<'a>(alloc: Global, whole: Uncut<'a>, part: u16, more: usize) ->
     }
 }
 
+/// Whether several characters are no marks.
+#[tactic(auto, using(crate::proofs::WideCounts::few_wide))]
+fn are_several(direction: Direction, share: &[char]) -> bool
+    ensures { result ≡ nat_lt 1 (wide_count (visual direction share.now)) }
+{
+    1 < share.len() && 1 < wide_count(direction, share)
+}
+
 /// Puts a figure for each character after others, as they are seen. Marks have no width.
 fn push_cut<'a>(
     alloc: Global,
@@ -257,7 +265,7 @@ pub fn push_cut_one<'a>(
     ensures ok { OnOk result (figures_seen figures.new.items ≡ figures_seen figures.old.items ++ cut_one choice.now (visual direction share.now) (figure_seen figure.entry)) }
     ensures err { IfErr result (λ e. e ≡ OutOfMemory) }
 {
-    if 1 < wide_count(direction, share) && is_divisible(choice, &figure) {
+    if are_several(direction, share) && is_divisible(choice, &figure) {
         let width = ink_advance(choice, &figure.ink);
         let whole = in_parts(alloc, figure)?;
         return push_cut(alloc, figures, direction, whole, width, share);

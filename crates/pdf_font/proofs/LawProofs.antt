@@ -22,8 +22,8 @@ use Rattle.pdf_codes.proofs.StayLaws.{codes_stay as stay, codes_are_determined}
 use Rattle.pdf_values.specs.Permission.{is_permitted, permission}
 use Rattle.pdf_values.specs.declared.permission.Permission.{Permission}
 use Rattle.pdf_font.specs.Laws.{CodesNeedNoFont, CodesStay, HaveNoFault}
-use Rattle.pdf_font.specs.PdfFont.{in_embedding, long_text, no_maxp, not_permitted, of_bitmaps, overfull}
-use Rattle.pdf_font.proofs.Refused.{alone_final}
+use Rattle.pdf_font.specs.PdfFont.{bare, in_embedding, long_text, no_maxp, not_permitted, overfull}
+use Rattle.pdf_font.proofs.Refused.{bare_final}
 use Rattle.pdf_font.proofs.Tables.{no_maxp_again}
 
 -- ---- an embedding has no fault
@@ -72,7 +72,7 @@ have_no_fault font settings options us f p _ (not_permitted h) =
     let yes : is_permitted (permission (stored font (codes "OS/2"))) options.rights ≡ true = sym (ap (λ (x : Permission). is_permitted x options.rights) p.permission) ∙ p.permitted in
     let both : true ≡ false = sym yes ∙ h in cc
 have_no_fault font settings options us f p _ (long_text h) = let both : true ≡ false = sym h ∙ p.short in cc
-have_no_fault font settings options us f p _ (of_bitmaps h) = alone_final font settings options us h f p
+have_no_fault font settings options us f p _ (bare h) = bare_final font settings options us h f p
 
 -- ---- codes
 

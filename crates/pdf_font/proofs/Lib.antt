@@ -1,7 +1,7 @@
 mod AllWidths
 mod Answered
 mod Fresh
-pub mod Bitmaps
+pub mod Bare
 mod BoxedPrograms
 mod CffWidths
 mod KeptBoxes

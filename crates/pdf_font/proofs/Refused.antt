@@ -20,12 +20,12 @@ use Rattle.pdf_values.specs.Permission.{is_permitted, permission}
 use Rattle.pdf_values.specs.declared.permission.Permission.{Permission}
 use Rattle.pdf_font.specs.First.{CanBeOpened, IsFoundFirst}
 use Rattle.pdf_font.specs.Opened.{IsOpened}
-use Rattle.pdf_font.specs.PdfFont.{HasFontFault, HasNoPdfFont, has_bitmaps_alone, in_embedding, long_text, not_permitted, of_bitmaps}
+use Rattle.pdf_font.specs.PdfFont.{HasFontFault, HasNoPdfFont, bare, in_embedding, lacks_outlines, long_text, not_permitted}
 use Rattle.pdf_source.specs.declared.choice.FontOptions.{FontOptions}
 use Rattle.pdf_font.specs.declared.error.FontError.{FontError}
 use Rattle.pdf_font.specs.declared.error.FontError.TheVariants.{Subset, NotPermitted, TextTooLong, BitmapsAlone}
 use Rattle.pdf_font.specs.declared.font.PdfFont.{PdfFont}
-use Rattle.pdf_font.proofs.Bitmaps.{alone_unopened}
+use Rattle.pdf_font.proofs.Bare.{bare_unopened}
 
 -- opening takes no memory
 fault_not_memory : (font : Font) (e : Error) → HasOpeningFault font e → e ≡ OutOfMemory → ⊥
@@ -77,11 +77,11 @@ module _ (font : Font) (settings : List (Tag × ℤ)) (options : FontOptions) (u
   pub too_long_final : has_long_text us ≡ true → HasNoPdfFont font settings options us
   too_long_final h = λ f q. let both : true ≡ false = sym h ∙ q.short in cc
 
-  pub of_alone : has_bitmaps_alone font ≡ true → (order : List ℕ) × HasFontFault font settings options us order BitmapsAlone
-  of_alone alone = ([], of_bitmaps alone)
+  pub of_bare : lacks_outlines font ≡ true → (order : List ℕ) × HasFontFault font settings options us order BitmapsAlone
+  of_bare lacks = ([], bare lacks)
 
-  pub alone_final : has_bitmaps_alone font ≡ true → HasNoPdfFont font settings options us
-  alone_final alone = unopened_final UnknownKind (alone_unopened font alone)
+  pub bare_final : lacks_outlines font ≡ true → HasNoPdfFont font settings options us
+  bare_final lacks = unopened_final UnknownKind (bare_unopened font lacks)
 
   -- ---- what is found first
 
@@ -91,17 +91,17 @@ module _ (font : Font) (settings : List (Tag × ℤ)) (options : FontOptions) (u
   abbrev Permitted : Bool → Type 0
   Permitted b = is_permitted (permission (stored font (codes "OS/2"))) options.rights ≡ b
 
-  pub first_alone : has_bitmaps_alone font ≡ true → First (Err BitmapsAlone)
-  first_alone alone = record {
-    bitmaps = λ _. refl;
-    unopened = λ no. absurd (let both : true ≡ false = sym alone ∙ no in cc);
-    forbidden = λ clean no. absurd (clean UnknownKind (alone_unopened font alone));
-    long = λ clean yes l. absurd (clean UnknownKind (alone_unopened font alone));
+  pub first_bare : lacks_outlines font ≡ true → First (Err BitmapsAlone)
+  first_bare lacks = record {
+    bare = λ _. refl;
+    unopened = λ no. absurd (let both : true ≡ false = sym lacks ∙ no in cc);
+    forbidden = λ clean no. absurd (clean UnknownKind (bare_unopened font lacks));
+    long = λ clean yes l. absurd (clean UnknownKind (bare_unopened font lacks));
   }
 
-  pub first_unopened : has_bitmaps_alone font ≡ false → (d : Error) → HasOpeningFaultAt font d → First (Err (Subset d))
+  pub first_unopened : lacks_outlines font ≡ false → (d : Error) → HasOpeningFaultAt font d → First (Err (Subset d))
   first_unopened other d fault = record {
-    bitmaps = λ alone. absurd (let both : true ≡ false = sym alone ∙ other in cc);
+    bare = λ lacks. absurd (let both : true ≡ false = sym lacks ∙ other in cc);
     unopened = λ no e f. (d, refl, fault);
     forbidden = λ clean no. absurd (clean d fault);
     long = λ clean yes l. absurd (clean d fault);
@@ -112,7 +112,7 @@ module _ (font : Font) (settings : List (Tag × ℤ)) (options : FontOptions) (u
 
   pub first_forbidden : CanBeOpened font → (p : Permission) → p ≡ permission (stored font (codes "OS/2")) → is_permitted p options.rights ≡ false → First (Err (NotPermitted p))
   first_forbidden clean p is h = record {
-    bitmaps = λ alone. absurd (clean UnknownKind (alone_unopened font alone));
+    bare = λ lacks. absurd (clean UnknownKind (bare_unopened font lacks));
     unopened = λ no e f. absurd (clean e f);
     forbidden = λ _ no. ap (λ (x : Permission). Err (NotPermitted x)) is;
     long = λ _ yes l. absurd (let no = permitted_by p false is h in let both : true ≡ false = sym yes ∙ no in cc);
@@ -120,7 +120,7 @@ module _ (font : Font) (settings : List (Tag × ℤ)) (options : FontOptions) (u
 
   pub first_long : CanBeOpened font → (p : Permission) → p ≡ permission (stored font (codes "OS/2")) → is_permitted p options.rights ≡ true → First (Err TextTooLong)
   first_long clean p is h = record {
-    bitmaps = λ alone. absurd (clean UnknownKind (alone_unopened font alone));
+    bare = λ lacks. absurd (clean UnknownKind (bare_unopened font lacks));
     unopened = λ no e f. absurd (clean e f);
     forbidden = λ _ no. absurd (let yes = permitted_by p true is h in let both : true ≡ false = sym yes ∙ no in cc);
     long = λ _ yes l. refl;
@@ -129,7 +129,7 @@ module _ (font : Font) (settings : List (Tag × ℤ)) (options : FontOptions) (u
   -- where none of them is found, nothing is said
   pub first_none : CanBeOpened font → (p : Permission) → p ≡ permission (stored font (codes "OS/2")) → is_permitted p options.rights ≡ true → has_long_text us ≡ false → (r : Result PdfFont FontError) → First r
   first_none clean p is h short r = record {
-    bitmaps = λ alone. absurd (clean UnknownKind (alone_unopened font alone));
+    bare = λ lacks. absurd (clean UnknownKind (bare_unopened font lacks));
     unopened = λ no e f. absurd (clean e f);
     forbidden = λ _ no. absurd (let yes = permitted_by p true is h in let both : true ≡ false = sym yes ∙ no in cc);
     long = λ _ yes l. absurd (let both : true ≡ false = sym l ∙ short in cc);

@@ -7,7 +7,7 @@ use Rattle.pdf_codes.specs.Codes.{Used}
 use Rattle.pdf_codes.specs.Shown.{has_long_text}
 use Rattle.pdf_values.specs.Permission.{is_permitted, permission}
 use Rattle.pdf_source.specs.declared.choice.FontOptions.{FontOptions}
-use Rattle.pdf_font.specs.PdfFont.{has_bitmaps_alone}
+use Rattle.pdf_font.specs.PdfFont.{lacks_outlines}
 use Rattle.pdf_font.specs.declared.error.FontError.{FontError}
 use Rattle.pdf_font.specs.declared.error.FontError.TheVariants.{Subset, NotPermitted, TextTooLong, BitmapsAlone}
 use Rattle.pdf_font.specs.declared.font.PdfFont.{PdfFont}
@@ -16,10 +16,10 @@ abbrev pub CanBeOpened : Font → Type 0
 CanBeOpened font = (e : Error) → ¬ (HasOpeningFaultAt font e)
 
 pub record IsFoundFirst (font : Font) (options : FontOptions) (us : List Used) (r : Result PdfFont FontError) : Type 0 where
-  -- that the font has bitmaps and no outlines
-  pub bitmaps : has_bitmaps_alone font ≡ true → r ≡ Err BitmapsAlone
+  -- that the face has no outlines
+  pub bare : lacks_outlines font ≡ true → r ≡ Err BitmapsAlone
   -- then a fault that stands against opening it, under its name
-  pub unopened : has_bitmaps_alone font ≡ false → (e : Error) → HasOpeningFaultAt font e → (d : Error) × (r ≡ Err (Subset d)) × HasOpeningFaultAt font d
+  pub unopened : lacks_outlines font ≡ false → (e : Error) → HasOpeningFaultAt font e → (d : Error) × (r ≡ Err (Subset d)) × HasOpeningFaultAt font d
   -- then that `fsType` forbids it, and the caller holds no rights
   pub forbidden : CanBeOpened font → is_permitted (permission (stored font (codes "OS/2"))) options.rights ≡ false → r ≡ Err (NotPermitted (permission (stored font (codes "OS/2"))))
   -- then a text that is too long

@@ -1,10 +1,10 @@
 -- What a PDF has of a font for the glyphs in use (ISO 32000-1, 9.6 to 9.10), and why there is none.
-use Rattle.std.specs.Prelude.{◌≡◌, ℕ, ◌-◌, nat_le, Bool, true, false, is_some, if◌then◌else◌, List, ◌++◌, map, length, take, codes, Option, Some, None, ℤ, IfSome, IsSome}
+use Rattle.std.specs.Prelude.{◌≡◌, ℕ, ◌-◌, nat_le, ◌&&◌, Bool, true, false, not, is_some, if◌then◌else◌, List, ◌++◌, map, length, take, codes, Option, Some, None, ℤ, IfSome, IsSome}
 use Rattle.std.specs.Option.{option_map, unwrap_or}
 use Rattle.subsetter_base.specs.declared.tag.Tag.{Tag}
 use Rattle.subsetter_base.specs.declared.error.Error.{Error}
 use Rattle.subsetter_base.specs.declared.error.Error.TheVariants.{MalformedFont, OverflowError}
-use Rattle.subsetter_sfnt.specs.Read.{Font, as_font, flavor, stored, table}
+use Rattle.subsetter_sfnt.specs.Read.{Font, as_font, flavor, records, stored, table}
 use Rattle.subsetter_sfnt.specs.FontAt.{font_at}
 use Rattle.subsetter_sfnt.specs.declared.flavor.FontFlavor.TheVariants.{TrueType}
 use Rattle.subsetter.specs.Bound.{IsWithin}
@@ -17,7 +17,7 @@ use Rattle.cid_embed.specs.Embed.{numbering}
 use Rattle.cid_embed.specs.Width.{units_per_em, width}
 use Rattle.cid_embed.specs.declared.embedding.Embedded.{Embedded}
 use Rattle.cid_embed_at.specs.Embed.{HasEmbedFaultAt, IsEmbeddingAnswerAt}
-use Rattle.subsetter_sfnt.specs.Alone.{bitmaps_alone}
+use Rattle.subsetter_sfnt.specs.Alone.{has_outlines}
 use Rattle.pdf_codes.specs.Codes.{AreCodes, IsOverfull, Used, coded, glyphs_of}
 use Rattle.pdf_codes.specs.Cmaps.Leading.{AreLed, name_of, own_cmap, own_name, pairs_with, text_of}
 use Rattle.pdf_codes.specs.Shown.{has_long_text}
@@ -145,9 +145,9 @@ pub record IsPdfFont (font : Font) (settings : List (Tag × ℤ)) (options : Fon
 
 -- ---- why there is none
 
--- it has bitmaps and no outlines
-abbrev pub has_bitmaps_alone : Font → Bool
-has_bitmaps_alone font = is_some (bitmaps_alone (whole font))
+-- its directory is read, and has no table of outlines
+abbrev pub lacks_outlines : Font → Bool
+lacks_outlines font = is_some (records (whole font)) && not (has_outlines (stored (whole font)))
 
 -- what can stand against it, under the name of the error; sizes are judged for an order of the new font's glyphs
 pub data HasFontFault (font : Font) (settings : List (Tag × ℤ)) (options : FontOptions) (us : List Used) (order : List ℕ) : FontError → Type 0 where
@@ -160,8 +160,8 @@ pub data HasFontFault (font : Font) (settings : List (Tag × ℤ)) (options : Fo
   not_permitted : is_permitted (permission (stored font (codes "OS/2"))) options.rights ≡ false → HasFontFault font settings options us order (NotPermitted (permission (stored font (codes "OS/2"))))
   -- a text has more than 256 UTF-16 units
   long_text : has_long_text us ≡ true → HasFontFault font settings options us order TextTooLong
-  -- it has bitmaps and no outlines
-  of_bitmaps : has_bitmaps_alone font ≡ true → HasFontFault font settings options us order BitmapsAlone
+  -- it has no outlines
+  bare : lacks_outlines font ≡ true → HasFontFault font settings options us order BitmapsAlone
 
 -- nothing is answered
 abbrev pub HasNoPdfFont : Font → List (Tag × ℤ) → FontOptions → List Used → Type 0

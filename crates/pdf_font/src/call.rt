@@ -4,13 +4,14 @@ ghost use Rattle.std.specs.Prelude.{◌≡◌, ◌≢◌, ◌⊎◌, ℕ, List, 
 ghost use Rattle.subsetter_base.specs.declared.error.Error.{Error as SpecError};
 ghost use Rattle.subsetter_base.specs.declared.error.Error.TheVariants.{OutOfMemory};
 ghost use Rattle.subsetter_variable.specs.Subset.{HasOpeningFaultAt};
+ghost use Rattle.subsetter_sfnt.specs.Extras.{all_extras};
 ghost use Rattle.subsetter_sfnt.specs.FontAt.{font_at};
 ghost use Rattle.subsetter_sfnt.specs.Read.{stored, table_in};
 ghost use Rattle.pdf_codes.specs.Shown.{uses_of};
 ghost use Rattle.pdf_values.specs.Permission.{permission};
 ghost use Rattle.pdf_font.specs.First.{IsFoundFirst};
 ghost use Rattle.pdf_font.specs.Opened.{IsOpened};
-ghost use Rattle.pdf_font.specs.PdfFont.{HasFontFault, HasNoPdfFont, IsEmbeddedFor, IsPdfFont, font_of};
+ghost use Rattle.pdf_font.specs.PdfFont.{HasFontFault, HasNoPdfFont, IsEmbeddedFor, IsPdfFont, font_of, lacks_outlines};
 ghost use Rattle.pdf_font.specs.declared.error.FontError.{FontError as SpecFontError};
 ghost use Rattle.pdf_font.specs.declared.error.FontError.TheVariants.{Subset};
 
@@ -23,10 +24,18 @@ use pdf_values::{Permission, is_permitted, permission_of};
 use std::alloc::Global;
 use subsetter::{Extras, Options, Tag};
 use subsetter_base::Error;
-use subsetter_sfnt::alone::bitmaps_alone;
+use subsetter_sfnt::alone::has_outlines;
+use subsetter_sfnt::directory::records;
 use subsetter_sfnt::face::Face;
 use subsetter_sfnt::parse::parse;
 use subsetter_variable::check_opening_at;
+
+/// Whether a face's directory is read, and has no table of outlines: neither `glyf` nor `CFF ` nor `CFF2`.
+pub fn lacks_outlines(data: &[u8], index: u32) -> bool
+    ensures { result ≡ lacks_outlines (font_at «data».now index all_extras) }
+{
+    records(data, index).is_some() && !has_outlines(data, index)
+}
 
 /// The face of a font that can be opened.
 fn opened_face(data: &[u8], index: u32, extras: Extras) -> Result<Face<'_>, Error>
@@ -96,8 +105,7 @@ fn made(
 ///
 /// The first of these that comes:
 ///
-/// - `BitmapsAlone`: the font has bitmaps (`CBDT` with `CBLC`, `sbix`, or `EBDT` with `EBLC`) and no outlines (`glyf`, `CFF `,
-///   `CFF2`).
+/// - `BitmapsAlone`: the face's directory is read, and has no table of outlines (`glyf`, `CFF `, `CFF2`).
 /// - `Subset`: the font can't be opened.
 /// - `NotPermitted`: `fsType` forbids it, and the caller holds no rights.
 /// - `TextTooLong`: a text has more than 256 UTF-16 units.
@@ -119,10 +127,10 @@ pub fn pdf_font(
     ensures no_answer { IfErr result (λ e. (e ≡ Subset OutOfMemory) ⊎ HasNoPdfFont (font_of «data».now index options.now) coordinates.now options.now (uses_of shown.now)) }
     // Where a fault is found before memory is taken, the answer isn't out of memory.
     ensures before_memory { (e : SpecError) → HasOpeningFaultAt (font_of «data».now index options.now) e → result ≢ Err (Subset OutOfMemory) }
-    // Such faults come first, in this order: bitmaps alone, opening, permission, texts.
+    // Such faults come first, in this order: no outlines, opening, permission, texts.
     ensures first { IsFoundFirst (font_of «data».now index options.now) options.now (uses_of shown.now) result }
 {
-    if bitmaps_alone(data, index).is_some() {
+    if lacks_outlines(data, index) {
         return Err(FontError::BitmapsAlone);
     }
     let face = match opened_face(data, index, options.extras()) {

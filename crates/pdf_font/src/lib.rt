@@ -13,7 +13,7 @@ mod error;
 mod font;
 mod laws;
 
-pub use call::pdf_font;
+pub use call::{lacks_outlines, pdf_font};
 pub use error::FontError;
 pub use font::PdfFont;
 pub use laws::{

@@ -300,7 +300,7 @@ pub fn write_operators(
     ensures read { IfOk result (λ text. said_in text.items ≡ flat_map (marks_of size pairs.now) (acts_of operations.now)) }
     ensures err { IfErr result (λ e. e ≡ OutOfMemory) }
 {
-    let mut text = Vec::new(alloc);
+    let mut text = Vec::with_capacity(alloc, operations.len())?;
     let mut array = OpenArray {
         strings: 0,
         codes: 0,

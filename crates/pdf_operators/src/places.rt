@@ -120,13 +120,17 @@ fn thousandfold(length: i64) -> i64
 }
 
 /// A length of so many units to the em, to the nearest thousandth, halves up.
-#[tactic(auto, unfolding(pdf_values::specs::Rounding::thousandths))]
+#[tactic(auto, unfolding(pdf_values::specs::Rounding::thousandths), using(crate::proofs::Near::none_long))]
 fn thousandths(length: i64, units: u16) -> i64
     requires above { 0 < units }
     requires small { unsigned_abs length ≤ 2 ^ 33 }
     ensures value { result ≡ thousandths length units }
     ensures bound { unsigned_abs result ≤ 1000 * 2 ^ 33 }
 {
+    // (most glyphs are on the line)
+    if length == 0 {
+        return 0;
+    }
     nearest(thousandfold(length), u64::from(units))
 }
 

@@ -19,7 +19,7 @@ use crate::parts::{is_long, is_spanned, parts_of_run};
 use crate::places::{Font, Stop, advance_of, end_of, last_back, next, start};
 use pdf_runs::{
     Direction, Item, Pair, Piece, RunError, clusters_of_run, codes_of, is_run, pair_of,
-    pieces_of_clusters, pieces_of_run,
+    pieces_of_clusters,
 };
 use std::alloc::Global;
 use subsetter_base::Error;
@@ -205,13 +205,14 @@ fn push_end(
     }
 }
 
-/// What shows parts from a stop on, up to the end of the line.
+/// What shows parts with so many clusters from a stop on, up to the end of the line.
 fn operations_of_parts<'a>(
     alloc: Global,
     font: Font<'_>,
     direction: Direction,
     end: i32,
     first: Stop,
+    count: usize,
     parts: &[&'a [&'a [Item<'a>]]],
 ) -> Result<Vec<Operation<'a>>, RunError>
     requires { 0 < font.units }
@@ -219,7 +220,7 @@ fn operations_of_parts<'a>(
     ensures valid { OnOk result (are_shown font.entry direction end first (groups parts.now) ≡ true) }
     ensures err { IfErr result (λ e. (e ≡ OutOfMemory) ⊎ ((e ≡ InvalidText) × (are_shown font.entry direction end first (groups parts.now) ≡ false))) }
 {
-    let mut operations = Vec::with_capacity(alloc, parts.len())?;
+    let mut operations = Vec::with_capacity(alloc, count)?;
     let mut stop = first;
     for part in parts {
         stop = push_part(alloc, &mut operations, font, direction, stop, *part)?;
@@ -271,6 +272,7 @@ fn operations_of_run<'a>(
         direction,
         end_of(direction, advance),
         first,
+        found.len(),
         &parts,
     )
 }
@@ -295,21 +297,23 @@ fn code_pieces(
     Ok(())
 }
 
-/// Gives the pieces of a run codes.
+/// Gives the pieces of a run codes, given its clusters.
 fn add_codes(
     alloc: Global,
     font: Font<'_>,
     direction: Direction,
     pairs: &mut Remapper<u16, Pair>,
     items: &[Item<'_>],
+    found: &[&[Item<'_>]],
 ) -> Result<(), RunError>
+    requires { lists found.now ≡ clusters items.now }
     ensures pairs { OnOk result (pairs.new ≡ with_pairs pairs.old (pieces_of_run direction font.entry.inked.now items.now)) }
     ensures coded { OnOk result (AreCoded pairs.new (pieces_of_run direction font.entry.inked.now items.now)) }
     ensures few { OnOk result (length pairs.new ≤ 65535) }
     ensures stay { KeepsCodes pairs.old pairs.new }
     ensures err { IfErr result (λ e. IsFull pairs.old pairs.new (pieces_of_run direction font.entry.inked.now items.now) e) }
 {
-    let pieces = match pieces_of_run(alloc, direction, font.inked, items) {
+    let pieces = match pieces_of_clusters(alloc, direction, font.inked, found) {
         Ok(pieces) => pieces,
         Err(_) => return Err(RunError::OutOfMemory),
     };
@@ -377,7 +381,7 @@ pub fn show_run<'a>(
         Err(_) => return Err(RunError::OutOfMemory),
     };
     let operations = operations_of_run(alloc, font, direction, order, items, &found)?;
-    add_codes(alloc, font, direction, pairs, items)?;
+    add_codes(alloc, font, direction, pairs, items, &found)?;
     write_run(
         alloc,
         font,

@@ -33,7 +33,8 @@ pub fn all_metrics(
     ensures ok { IfOk result (λ v. v.items ≡ metrics.now ++ map (own_metrics units) own.now) }
     ensures err { IfErr result (λ e. e ≡ OutOfMemory) }
 {
-    let mut all = Vec::from_slice(alloc, metrics)?;
+    let mut all = Vec::with_capacity(alloc, metrics.len() + own.len())?;
+    all.extend_from_slice(metrics)?;
     for glyph in own {
         all.push(own_metrics(units, glyph))?;
     }

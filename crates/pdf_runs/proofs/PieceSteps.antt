@@ -1,15 +1,16 @@
 -- Pieces that are written one after the other.
-use Rattle.std.proofs.Common.{◌≡◌, ℕ, zero, suc, ◌+◌, ◌-◌, ◌<◌, ◌≤◌, Bool, true, false, not, nat_lt, List, [], ◌∷◌, ◌++◌, length, get_or, map, take, drop, slice_get, flat_map, Result, Ok, Err, OnOk, Option, Some, None, if◌then◌else◌, refl, sym, ap, ◌∙◌, append_assoc, arith, lt-ltb, ltb-true, Bor}
+use Rattle.std.proofs.Common.{◌≡◌, ℕ, zero, suc, ◌+◌, ◌-◌, ◌<◌, ◌≤◌, Bool, true, false, not, nat_lt, List, [], ◌∷◌, ◌++◌, length, get_or, map, take, drop, slice_get, flat_map, Result, Ok, Err, OnOk, Option, Some, None, if◌then◌else◌, refl, sym, ap, ◌∙◌, append-nil, append_assoc, arith, lt-ltb, ltb-true, Bor}
 use Rattle.std.specs.List.{position_or_len}
-use Rattle.std.proofs.lemmas.List.{drop_more, length-map, take_rest}
+use Rattle.std.proofs.lemmas.List.{drop_more, length-map, take_all, take_rest}
 use Rattle.std.proofs.lemmas.List.Sums.{prefix_len_is}
 use Rattle.std.proofs.lemmas.Bool.Decides.{nat_tests}
 use Rattle.std.proofs.lemmas.Option.{slice_get-get_or}
 use Rattle.pdf_runs.specs.declared.items.Direction.{Direction}
+use Rattle.pdf_runs.specs.declared.items.Direction.TheVariants.{LeftToRight, RightToLeft, TopToBottom}
 use Rattle.pdf_runs.specs.declared.items.Item.{Item}
 use Rattle.pdf_runs.specs.declared.pieces.Piece.{Piece}
 use Rattle.pdf_runs.specs.Clusters.{lists}
-use Rattle.pdf_runs.specs.Items.{text_of, visual}
+use Rattle.pdf_runs.specs.Items.{text_in, text_of, visual}
 use Rattle.pdf_runs.specs.Marks.{is_mark}
 use Rattle.pdf_runs.specs.Pieces.{bearer, blank_of, piece_of, pieces_of_cluster, shares_of, spread, spread_all}
 use Rattle.pdf_runs.specs.Shares.{shares}
@@ -123,10 +124,43 @@ spread_written inked i cs k n c old one two three there all l is a b d =
     ∙ ap (λ (o : Option ℕ). old ++ (before ++ piece_of inked i o ∷ following)) (sym says)
     ∙ ap (λ (m : ℕ). old ++ (map blank_of (take m cs) ++ piece_of inked i (slice_get cs m) ∷ map blank_of (drop (m + 1) cs))) there
 
--- a glyph that has no characters says nothing
-pub spread_alone : (inked : List Bool) (i : Item) (cs : List ℕ) (old new : List Piece) → length cs ≡ 0 → new ≡ old ++ piece_of inked i None ∷ [] → new ≡ old ++ spread inked i cs
-spread_alone inked i [] old new e h = h
-spread_alone inked i (c ∷ cs) old new e h = absurd (omega arith)
+-- the only character is that of the glyph
+bearer_alone : (c : ℕ) → bearer (c ∷ []) ≡ 0
+bearer_alone c = omega (arith, bearer_below (c ∷ []) (bearer (c ∷ [])) refl (omega arith))
+
+spread_one : (inked : List Bool) (i : Item) (c : ℕ) → spread inked i (c ∷ []) ≡ piece_of inked i (Some c) ∷ []
+spread_one inked i c = ap (λ (k : ℕ). map blank_of (take k (c ∷ [])) ++ piece_of inked i (slice_get (c ∷ []) k) ∷ map blank_of (drop (k + 1) (c ∷ []))) (bearer_alone c)
+
+spread_few : (d : Direction) (inked : List Bool) (i : Item) (cs : List ℕ) → length cs ≤ 1 → spread inked i (visual d cs) ≡ piece_of inked i (slice_get cs 0) ∷ []
+spread_few LeftToRight inked i [] l = refl
+spread_few RightToLeft inked i [] l = refl
+spread_few TopToBottom inked i [] l = refl
+spread_few LeftToRight inked i (c ∷ []) l = spread_one inked i c
+spread_few RightToLeft inked i (c ∷ []) l = spread_one inked i c
+spread_few TopToBottom inked i (c ∷ []) l = spread_one inked i c
+spread_few d inked i (c ∷ e ∷ cs) l = absurd (omega arith)
+
+-- a glyph that has one character or none says that
+pub spread_alone : (d : Direction) (inked : List Bool) (i : Item) (cs : List ℕ) (old new : List Piece) → length cs ≤ 1 → new ≡ old ++ piece_of inked i (slice_get cs 0) ∷ [] → new ≡ old ++ spread inked i (visual d cs)
+spread_alone d inked i cs old new l h = h ∙ ap (λ (ps : List Piece). old ++ ps) (sym (spread_few d inked i cs l))
+
+-- the glyph of a cluster of one says its text
+shares_alone : (d : Direction) (i : Item) → shares_of d (i ∷ []) ≡ visual d (take (1 + (length (text_in i.text) - 1)) (text_in i.text)) ∷ []
+shares_alone LeftToRight i = refl
+shares_alone RightToLeft i = refl
+shares_alone TopToBottom i = refl
+
+cluster_of_one : (d : Direction) (inked : List Bool) (i : Item) → spread inked i (visual d (text_in i.text)) ≡ pieces_of_cluster d inked (i ∷ [])
+cluster_of_one d inked i =
+    let cs : List ℕ = text_in i.text in
+    ap (λ (l : List ℕ). spread inked i (visual d l)) (sym (take_all (1 + (length cs - 1)) cs (omega arith)))
+    ∙ sym (append-nil (spread inked i (visual d (take (1 + (length cs - 1)) cs))))
+    ∙ ap (λ (ss : List (List ℕ)). spread_all inked (i ∷ []) ss) (sym (shares_alone d i))
+
+pub cluster_alone : (d : Direction) (inked : List Bool) (items : List Item) (e : Item) (old new : List Piece) → length items ≡ 1 → new ≡ old ++ spread inked (get_or items 0 e) (visual d (text_of items)) → new ≡ old ++ pieces_of_cluster d inked items
+cluster_alone d inked (i ∷ []) e old new l h = h ∙ ap (λ (ps : List Piece). old ++ ps) (cluster_of_one d inked i)
+cluster_alone d inked [] e old new l h = absurd (omega arith)
+cluster_alone d inked (i ∷ j ∷ is) e old new l h = absurd (omega arith)
 
 -- ---- clusters of a run
 

@@ -1,14 +1,16 @@
 -- Items of glyphs that have cluster numbers, one after the other.
-use Rattle.std.proofs.Common.{◌≡◌, ℕ, zero, suc, ◌+◌, ◌-◌, ◌<◌, ◌≤◌, min, Bool, true, false, not, ◌&&◌, nat_le, nat_lt, if◌then◌else◌, List, [], ◌∷◌, ◌++◌, length, map, get_or, take, drop, Option, Some, None, refl, sym, ap, ◌∙◌, subst, append_assoc, append-nil, arith, length-drop, inl, inr, le-leb}
+use Rattle.std.proofs.Common.{◌≡◌, ℕ, zero, suc, ◌+◌, ◌-◌, ◌<◌, ◌≤◌, min, Bool, true, false, not, ◌&&◌, nat_le, nat_lt, if◌then◌else◌, List, [], ◌∷◌, ◌++◌, length, map, get_or, take, drop, Option, Some, None, refl, sym, ap, ◌∙◌, subst, append_assoc, append-nil, arith, length-drop, inl, inr, le-leb, lt-ltb, slice_get, ◌==◌}
 use Rattle.std.specs.Prelude.{◌⊎◌}
 use Rattle.std.proofs.lemmas.Bool.{cases_lt}
+use Rattle.std.proofs.lemmas.Bool.Decides.{Decides-eqb, nat_tests}
+use Rattle.std.proofs.lemmas.List.Sums.{prefix_len_is}
 use Rattle.std.specs.List.Sorted.{IsNonDecreasing}
 use Rattle.std.proofs.lemmas.List.{drop_all, drop_more, map-append, take_all, take_rest}
 use Rattle.pdf_runs.specs.declared.items.Direction.{Direction}
 use Rattle.pdf_runs.specs.declared.items.Item.{Item}
 use Rattle.pdf_runs.specs.declared.shaped.Shaped.{Shaped}
 use Rattle.pdf_runs.specs.declared.shaped.Unit.{Unit as Counted}
-use Rattle.pdf_runs.specs.Shaped.{Labelled, all_labelled, label, labelled, seen, starts, text_seen, width}
+use Rattle.pdf_runs.specs.Shaped.{Labelled, all_labelled, is_at, label, labelled, place_in, seen, starts, text_seen, width}
 use Rattle.pdf_runs.proofs.MarkLaws.{ascends, rises}
 
 -- ---- where characters begin
@@ -28,6 +30,28 @@ rise_is u cs ss e = subst IsNonDecreasing (sym e) (starts_rise u cs)
 
 pub starts_all : (u : Counted) (cs found : List ℕ) (k at : ℕ) → length cs ≤ k → found ++ starts u at (drop k cs) ≡ starts u 0 cs → found ≡ starts u 0 cs
 starts_all u cs found k at l h = sym (append-nil found) ∙ sym (ap (λ (l : List ℕ). found ++ starts u at l) (drop_all k cs l)) ∙ h
+
+at_is : (ss : List ℕ) (k n : ℕ) → is_at (slice_get ss k) n ≡ true → (k < length ss) × (get_or ss k 0 ≡ n)
+at_is [] k n e = absurd cc
+at_is (s ∷ ss) zero n e = (omega arith, (Decides-eqb s n).0 e)
+at_is (s ∷ ss) (suc k) n e = let more = at_is ss k n e in (omega (arith, more.0), more.1)
+
+not_less : (m n : ℕ) → m ≡ n → nat_lt m n ≡ false
+not_less m n e = grind (arith, nat_tests)
+
+-- the place of the first character, where it begins at a number
+pub first_is_place : (ss : List ℕ) (k n : ℕ) → k ≡ 0 → is_at (slice_get ss k) n ≡ true → place_in ss n ≡ k
+first_is_place ss k n e h =
+    let here = at_is ss k n h in
+    prefix_len_is (λ s. nat_lt s n) ss k 0 (omega (arith, here.0)) (λ j l. absurd (omega arith)) (λ l. not_less (get_or ss k 0) n here.1)
+
+-- and of another one, where the one before it begins before
+pub later_is_place : (ss : List ℕ) (k n : ℕ) → IsNonDecreasing ss → get_or ss (k - 1) 0 < n → is_at (slice_get ss k) n ≡ true → place_in ss n ≡ k
+later_is_place ss k n up before h =
+    let here = at_is ss k n h in
+    prefix_len_is (λ s. nat_lt s n) ss k 0 (omega (arith, here.0))
+    (λ j l. lt-ltb (get_or ss j 0) n (omega (arith, up j (k - 1) 0 (omega arith) (omega (arith, here.0)))))
+    (λ l. not_less (get_or ss k 0) n here.1)
 
 -- ---- the characters from a place to another
 

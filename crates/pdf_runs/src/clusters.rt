@@ -62,7 +62,7 @@ pub fn clusters_of_run<'a>(
     ensures ok { IfOk result (λ found. lists found.items ≡ clusters items.now) }
     ensures err { IfErr result (λ e. e ≡ OutOfMemory) }
 {
-    let mut found = Vec::new(alloc);
+    let mut found = Vec::with_capacity(alloc, items.len())?;
     let mut rest = items;
     while rest.len() > 0 {
         let count = cluster_size(rest);

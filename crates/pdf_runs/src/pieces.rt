@@ -1,6 +1,6 @@
 //! What stands for the glyphs of a run: figures that each say at most one character.
 
-ghost use Rattle.std.specs.Prelude.{◌≡◌, ◌<◌, ◌≤◌, ◌-◌, ◌+◌, ◌++◌, ◌∷◌, [], true, not, get_or, length, map, take, drop, IfErr, IfOk, OnOk, Some};
+ghost use Rattle.std.specs.Prelude.{◌≡◌, ◌<◌, ◌≤◌, ◌-◌, ◌+◌, ◌++◌, ◌∷◌, [], true, not, get_or, length, map, take, drop, slice_get, IfErr, IfOk, OnOk, Some};
 ghost use Rattle.subsetter_base.specs.declared.error.Error.TheVariants.{OutOfMemory};
 ghost use Rattle.pdf_runs.specs.Clusters.{lists};
 ghost use Rattle.pdf_runs.specs.Items.{text_in, text_of, visual};
@@ -145,6 +145,13 @@ fn push_blanks(
     Ok(())
 }
 
+/// The first character, if there is one.
+fn first_of(share: &[char]) -> Option<char>
+    ensures { result ≡ slice_get share.now 0 }
+{
+    share.first().copied()
+}
+
 /// Puts a glyph with what it says after others, and blanks for its other characters.
 #[tactic(auto, using(crate::proofs::PieceSteps::spread_alone))]
 fn push_spread(
@@ -157,8 +164,8 @@ fn push_spread(
     ensures ok { OnOk result (pieces.new.items ≡ pieces.old.items ++ spread inked.now item.now (visual direction share.now)) }
     ensures err { IfErr result (λ e. e ≡ OutOfMemory) }
 {
-    if share.len() == 0 {
-        pieces.push(piece_of(inked, item, None))?;
+    if share.len() <= 1 {
+        pieces.push(piece_of(inked, item, first_of(share)))?;
         return Ok(());
     }
     let bearer = bearer(direction, share);
@@ -191,6 +198,7 @@ pub fn text_of<'a>(items: &[Item<'a>]) -> &'a [char]
 }
 
 /// Puts the pieces of a cluster after others.
+#[tactic(auto, using(crate::proofs::PieceSteps::cluster_alone))]
 fn push_cluster(
     pieces: &mut Vec<Piece>,
     direction: Direction,
@@ -201,6 +209,9 @@ fn push_cluster(
     ensures err { IfErr result (λ e. e ≡ OutOfMemory) }
 {
     let text = text_of(items);
+    if items.len() == 1 {
+        return push_spread(pieces, direction, inked, &items[0], text);
+    }
     for place in 0..items.len() {
         let share = share_at(direction, text, items.len(), place);
         push_spread(pieces, direction, inked, &items[place], share)?;

@@ -1,6 +1,6 @@
 //! Items of the glyphs that HarfBuzz gives for a text.
 
-ghost use Rattle.std.specs.Prelude.{◌≡◌, ◌<◌, ◌≤◌, ◌⊎◌, None, map, length, slice_get, true, false, IfErr, IfOk, OnOk};
+ghost use Rattle.std.specs.Prelude.{◌≡◌, ◌<◌, ◌≤◌, ◌⊎◌, None, map, length, slice_get, true, false, IfErr, IfOk, IsTrue, OnOk};
 ghost use Rattle.std.specs.List.Sorted.{IsNonDecreasing};
 ghost use Rattle.pdf_runs.specs.declared.error.RunError.TheVariants.{InvalidText, OutOfMemory};
 ghost use Rattle.pdf_runs.specs.Shaped.{all_labelled, are_ordered, are_small, are_starts, between, end_of, follows, is_at, is_shaped, items_of, label, labelled, next_place, place_in, places, seen, starts, text_seen, width};
@@ -84,6 +84,38 @@ fn place_in(starts: &[u64], number: u32) -> usize
     starts.partition_point(|start| *start < units)
 }
 
+/// Whether the character at a place is the first one that begins at a number of units.
+#[tactic(auto, using(crate::proofs::ShapedLaws::first_is_place, crate::proofs::ShapedLaws::later_is_place))]
+fn is_place(starts: &[u64], place: usize, number: u32) -> bool
+    requires { IsNonDecreasing starts.now }
+    ensures { IsTrue result → place_in starts.now number ≡ place }
+{
+    is_at(starts, place, number) && (place == 0 || starts[place - 1] < u64::from(number))
+}
+
+/// Where the character would be that begins at a number of units, if it is at a place or beside it.
+fn beside(starts: &[u64], place: usize, number: u32) -> usize {
+    if place >= starts.len() || u64::from(number) < starts[place] {
+        place.saturating_sub(1)
+    } else if starts[place] == u64::from(number) {
+        place
+    } else {
+        place + 1
+    }
+}
+
+/// How many characters begin before a number of units, mostly so many as before another one, or one more or less.
+fn place_near(starts: &[u64], other: usize, number: u32) -> usize
+    requires { IsNonDecreasing starts.now }
+    ensures { result ≡ place_in starts.now number }
+{
+    let place = beside(starts, other, number);
+    if is_place(starts, place, number) {
+        return place;
+    }
+    place_in(starts, number)
+}
+
 /// Whether the character at a place begins at a number of units.
 fn is_at(starts: &[u64], place: usize, number: u32) -> bool
     ensures { result ≡ is_at (slice_get starts.now place) number }
@@ -101,8 +133,9 @@ fn places_in(alloc: Global, starts: &[u64], shaped: &[Shaped]) -> Result<Vec<usi
     ensures err { IfErr result (λ e. (e ≡ OutOfMemory) ⊎ ((e ≡ InvalidText) × (are_starts starts.now shaped.now ≡ false))) }
 {
     let mut found = Vec::with_capacity(alloc, shaped.len())?;
+    let mut place = 0;
     for glyph in shaped {
-        let place = place_in(starts, glyph.cluster);
+        place = place_near(starts, place, glyph.cluster);
         if !is_at(starts, place, glyph.cluster) {
             return Err(RunError::InvalidText);
         }

@@ -1,6 +1,6 @@
 -- What draws the codes, step by step.
-use Rattle.std.proofs.Common.{◌≡◌, ℕ, ◌+◌, ◌<◌, List, [], ◌∷◌, length, Option, Some, Vec, Global, sym, ap, subst, ◌∙◌, ◌⊎◌, inl, inr, arith}
-use Rattle.std.specs.Prelude.{Result, Ok, Err, IfOk, IfErr}
+use Rattle.std.proofs.Common.{◌≡◌, ℕ, ◌+◌, ◌<◌, List, [], ◌∷◌, length, Option, Some, None, Vec, Global, refl, sym, ap, subst, ◌∙◌, ◌⊎◌, inl, inr, arith}
+use Rattle.std.specs.Prelude.{Result, Ok, Err, IfOk, IfErr, unwrap_or}
 use Rattle.std.specs.Option.{option_map}
 use Rattle.subsetter_base.specs.Gives.{Fails}
 use Rattle.subsetter_base.specs.declared.error.Error.{Error}
@@ -10,7 +10,10 @@ use Rattle.subsetter_sfnt.specs.Read.{as_font, table_in}
 use Rattle.subsetter_variable.proofs.Stands.{fails_is, find_is}
 use Rattle.own_glyphs.specs.declared.glyph.OwnGlyph.{OwnGlyph}
 use Rattle.cff_repeats.specs.Repeats.{with_repeats}
-use Rattle.pdf_text_font.specs.Drawn.{AreMapped, HasMore, IsUnmapped, IsUnrepeated, count_by, crowded, figures_of, glyph_count, unrepeated}
+use Rattle.cff_repeats.proofs.Whole.{repeats_change}
+use Rattle.pdf_widths.specs.Laws.{HaveWidths}
+use Rattle.pdf_widths.specs.Tables.{with_widths}
+use Rattle.pdf_text_font.specs.Drawn.{AreMapped, HasMore, IsUnmapped, IsUnrepeated, count_by, crowded, figures_of, glyph_count, unrepeated, with_advances}
 use Rattle.pdf_text_font.specs.declared.drawn.Drawn.{Drawn}
 use Rattle.pdf_text_font.specs.declared.pairs.Drawing.{Drawing}
 
@@ -40,3 +43,10 @@ others_refused others owns seen file (Err e) some same (inr f) = inr (some, subs
 
 pub not_repeated : (cff : List ℕ) (others : List OwnGlyph) (ds : List Drawing) (ns : List (Option ℕ)) (e : Error) → ns ≡ figures_of others ds → Fails e (with_repeats cff ns) → (e ≡ OutOfMemory) ⊎ IsUnrepeated cff others ds e
 not_repeated cff others ds ns e same h = elim (fails_is e (with_repeats cff ns) h) [ inl m ↦ inl m | inr f ↦ inr (unrepeated (sym (ap (with_repeats cff) same) ∙ f)) ]
+
+by_widths : (again program advances : List ℕ) (o : Option (List ℕ)) → with_widths again advances ≡ o → program ≡ unwrap_or o again → ((new : List ℕ) → with_widths again advances ≡ Some new → HaveWidths advances again new) → (program ≡ again) ⊎ HaveWidths advances again program
+by_widths again program advances None e is have = inl is
+by_widths again program advances (Some new) e is have = inr (subst (HaveWidths advances again) (sym is) (have new e))
+
+pub widths_read : (cff : List ℕ) (ns : List (Option ℕ)) (advances again program : List ℕ) → with_repeats cff ns ≡ Ok again → program ≡ with_advances advances again → (program ≡ again) ⊎ HaveWidths advances again program
+widths_read cff ns advances again program made is = by_widths again program advances (with_widths again advances) refl is (λ new e. repeats_change cff ns advances again new made e)

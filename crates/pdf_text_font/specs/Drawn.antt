@@ -1,5 +1,5 @@
 -- What draws the codes of a text: the program, and with TrueType outlines the map from CIDs to its glyphs (ISO 32000-1, 9.7.4.2).
-use Rattle.std.specs.Prelude.{◌≡◌, ◌⊎◌, ◌<◌, ◌+◌, ◌&&◌, ℕ, ◌==◌, Bool, true, false, if◌then◌else◌, List, [], ◌∷◌, length, map, slice_get, codes, Option, Some, None, unwrap_or, Err, pos}
+use Rattle.std.specs.Prelude.{◌≡◌, ◌⊎◌, ◌<◌, ◌+◌, ◌&&◌, ℕ, Bool, true, false, List, [], ◌∷◌, length, map, slice_get, codes, Option, Some, None, unwrap_or, Err, pos}
 use Rattle.std.specs.List.{list_all}
 use Rattle.std.specs.Ordering.{int_eq}
 use Rattle.subsetter_base.specs.Options.{◌>>=◌}
@@ -14,6 +14,7 @@ use Rattle.own_glyphs.specs.declared.glyph.OwnGlyph.{OwnGlyph}
 use Rattle.own_glyphs.specs.declared.glyph.Part.{Part}
 use Rattle.cff_repeats.specs.Laws.{HasFigures}
 use Rattle.cff_repeats.specs.Repeats.{with_repeats}
+use Rattle.pdf_widths.specs.Laws.{HaveWidths}
 use Rattle.pdf_widths.specs.Tables.{with_widths}
 use Rattle.pdf_text.specs.declared.values.ProgramKind.{ProgramKind}
 use Rattle.pdf_text.specs.declared.values.ProgramKind.TheVariants.{TrueType, BareCff, OpenType}
@@ -83,16 +84,17 @@ figure_of others Nothing = None
 abbrev pub figures_of : List OwnGlyph → List Drawing → List (Option ℕ)
 figures_of others ds = map (figure_of others) ds
 
--- with these advances, where there are own glyphs
-abbrev pub with_advances : ℕ → List ℕ → List ℕ → List ℕ
-with_advances owns advances cff = if owns == 0 then cff else unwrap_or (with_widths cff advances) cff
+abbrev pub with_advances : List ℕ → List ℕ → List ℕ
+with_advances advances cff = unwrap_or (with_widths cff advances) cff
 
 -- of each code the charstring of its figure, whose CID is the code, with its advance
-pub record AreRepeated (cff : List ℕ) (others : List OwnGlyph) (owns : ℕ) (advances : List ℕ) (ds : List Drawing) (program : List ℕ) (map : Option (List ℕ)) : Type 0 where
+pub record AreRepeated (cff : List ℕ) (others : List OwnGlyph) (advances : List ℕ) (ds : List Drawing) (program : List ℕ) (map : Option (List ℕ)) : Type 0 where
   pub still : are_still others ≡ true
   pub again : List ℕ
   pub figures : HasFigures (figures_of others ds) cff again
-  pub widths : program ≡ with_advances owns advances again
+  pub exact : program ≡ with_advances advances again
+  -- read afresh it is that table, or says the same but for widths, which are these advances
+  pub widths : (program ≡ again) ⊎ HaveWidths advances again program
   pub none : map ≡ None
 
 pub data IsUnrepeated (cff : List ℕ) (others : List OwnGlyph) (ds : List Drawing) : Error → Type 0 where
@@ -104,8 +106,8 @@ pub data IsUnrepeated (cff : List ℕ) (others : List OwnGlyph) (ds : List Drawi
 -- each code draws its glyph of a subset, or one of others that come after these, of which so many are own ones; in the program codes have these advances
 abbrev pub AreDrawn : ProgramKind → List ℕ → List OwnGlyph → ℕ → List ℕ → List Drawing → List ℕ → Option (List ℕ) → Type 0
 AreDrawn TrueType subset others owns advances ds program map = AreMapped subset others owns ds program map
-AreDrawn BareCff subset others owns advances ds program map = AreRepeated subset others owns advances ds program map
-AreDrawn OpenType subset others owns advances ds program map = AreRepeated subset others owns advances ds program map
+AreDrawn BareCff subset others owns advances ds program map = AreRepeated subset others advances ds program map
+AreDrawn OpenType subset others owns advances ds program map = AreRepeated subset others advances ds program map
 
 -- why they aren't drawn, under the name of the error; with TrueType outlines only others can be refused
 abbrev pub HasDrawingFault : ProgramKind → List ℕ → List OwnGlyph → ℕ → List Drawing → Error → Type 0

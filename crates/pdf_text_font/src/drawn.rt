@@ -166,19 +166,11 @@ fn figures_of(
     Ok(figures)
 }
 
-/// A `CFF ` whose codes have these advances, where there are own glyphs.
-fn with_advances(
-    alloc: Global,
-    owns: usize,
-    advances: &[u16],
-    cff: Vec<u8>,
-) -> Result<Vec<u8>, Error>
-    ensures ok { IfOk result (λ v. v.items ≡ with_advances owns advances.now cff.items) }
+/// A `CFF ` whose codes have these advances.
+fn with_advances(alloc: Global, advances: &[u16], cff: Vec<u8>) -> Result<Vec<u8>, Error>
+    ensures ok { IfOk result (λ v. v.items ≡ with_advances advances.now cff.items) }
     ensures err { IfErr result (λ e. e ≡ OutOfMemory) }
 {
-    if owns == 0 {
-        return Ok(cff);
-    }
     match with_widths(alloc, &cff, advances)? {
         Some(new) => Ok(new),
         None => Ok(cff),
@@ -190,11 +182,10 @@ fn repeated(
     alloc: Global,
     cff: &[u8],
     others: &[OwnGlyph<'_>],
-    owns: usize,
     advances: &[u16],
     drawings: &[Drawing],
 ) -> Result<Drawn, Error>
-    ensures ok { IfOk result (λ d. AreRepeated cff.now others.now owns advances.now drawings.now d.program.items (option_map (λ m. m.items) d.map)) }
+    ensures ok { IfOk result (λ d. AreRepeated cff.now others.now advances.now drawings.now d.program.items (option_map (λ m. m.items) d.map)) }
     ensures err { IfErr result (λ e. (e ≡ OutOfMemory) ⊎ IsUnrepeated cff.now others.now drawings.now e) }
 {
     if !are_still(others) {
@@ -202,7 +193,7 @@ fn repeated(
     }
     let figures = figures_of(alloc, others, drawings)?;
     let again = with_repeats(alloc, cff, &figures)?;
-    let program = with_advances(alloc, owns, advances, again)?;
+    let program = with_advances(alloc, advances, again)?;
     Ok(Drawn { program, map: None })
 }
 
@@ -230,7 +221,7 @@ pub fn draw_codes(
     match kind {
         ProgramKind::TrueType => mapped(alloc, program, others, owns, drawings),
         ProgramKind::BareCff | ProgramKind::OpenType => {
-            repeated(alloc, &program, others, owns, advances, drawings)
+            repeated(alloc, &program, others, advances, drawings)
         }
     }
 }

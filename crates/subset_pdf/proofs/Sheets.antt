@@ -1,15 +1,20 @@
 -- What is answered for glyphs in use, and for glyphs and their texts.
-use Rattle.std.proofs.Common.{◌≡◌, ◌⊎◌, inl, inr, ℕ, List, [], ◌∷◌, Bool, length, map, Result, Ok, Err, refl, sym, ap, subst, ◌∙◌}
+use Rattle.std.proofs.Common.{◌≡◌, ◌⊎◌, inl, inr, ℕ, ℤ, List, [], ◌∷◌, Bool, length, map, Result, Ok, Err, refl, sym, ap, subst, ◌∙◌}
 use Rattle.std.specs.Prelude.{IfOk, IfErr, Option}
 use Rattle.std.specs.Option.{option_map}
+use Rattle.subsetter_base.specs.declared.tag.Tag.{Tag}
 use Rattle.subsetter_base.specs.declared.error.Error.{Error}
-use Rattle.subsetter_base.specs.declared.error.Error.TheVariants.{OutOfMemory, OverflowError}
+use Rattle.subsetter_base.specs.declared.error.Error.TheVariants.{OutOfMemory, OverflowError, UnknownKind}
+use Rattle.subsetter_sfnt.specs.Read.{Font}
+use Rattle.pdf_codes.specs.Codes.{Used}
 use Rattle.pdf_codes.specs.Shown.{texts_of, uses_of}
 use Rattle.pdf_codes.specs.declared.shown.Shown.{Shown}
 use Rattle.pdf_source.specs.declared.choice.FontOptions.{FontOptions}
-use Rattle.pdf_font.specs.PdfFont.{HasFontFault, IsPdfFont, font_of}
+use Rattle.pdf_font.specs.PdfFont.{HasFontFault, IsPdfFont, bare, font_of}
+use Rattle.pdf_font.proofs.Bare.{bare_unopened}
+use Rattle.pdf_font.proofs.Refused.{unopened}
 use Rattle.pdf_font.specs.declared.error.FontError.{FontError}
-use Rattle.pdf_font.specs.declared.error.FontError.TheVariants.{Subset}
+use Rattle.pdf_font.specs.declared.error.FontError.TheVariants.{Subset, NotPermitted, TextTooLong, BitmapsAlone}
 use Rattle.pdf_font.specs.declared.font.PdfFont.{PdfFont}
 use Rattle.pdf_objects.specs.Glyphs.{IsSheetOf, IsSheetOfFont, IsTooLargeFor}
 use Rattle.pdf_objects.specs.View.{IsViewOf, IsViewWith}
@@ -18,18 +23,30 @@ use Rattle.pdf_sheet.specs.File.{AreInTable, body_of, file_of}
 use Rattle.pdf_sheet.specs.Lines.{AreTooLarge, lines_values}
 use Rattle.pdf_sheet.specs.declared.frame.Layout.{Layout}
 use Rattle.pdf_sheet.specs.declared.lines.SheetLine.{SheetLine}
+use Rattle.pdf_runs.specs.declared.codes.Pair.{Pair}
 use Rattle.pdf_text_font.specs.Pairs.{by_code}
-use Rattle.pdf_text_font.specs.TextFont.{HasTextFault, IsTextFont}
+use Rattle.pdf_text_font.specs.TextFont.{HasTextFault, IsTextFont, in_drawing, in_subset, subset_options}
 use Rattle.pdf_text_font.specs.declared.font.TextFont.{TextFont}
 use Rattle.subset_pdf.specs.Line.{HasLineFault, IsLineFor}
 use Rattle.subset_pdf.specs.Options.{options_of}
 use Rattle.subset_pdf.specs.Shown.{entries_of, entry_of}
-use Rattle.subset_pdf.specs.Sheet.{HasCodedFault, HasFaultFor, HasNoPage, HasSheetFault, HasSheetFaultAs, HasSheetFaultBy, HasTextFaultFor, HasTextSheetFault, IsCodedSheet, IsFontFor, IsPage, IsSheetAs, IsSheetBy, IsSheetFor, IsTextFor, IsTextSheet, IsTooLargeAs, IsViewOfLine, in_font, is_text, named, no_line, no_page, no_text, too_large}
+use Rattle.subset_pdf.specs.Sheet.{HasCodedFault, HasFaultFor, HasNoPage, HasSheetFault, HasSheetFaultAs, HasSheetFaultBy, HasTextFaultFor, HasTextSheetFault, IsCodedSheet, IsFontFor, IsPage, IsSheetAs, IsSheetBy, IsSheetFor, IsTextFor, IsTextSheet, IsTooLargeAs, IsViewOfLine, fault_of, in_font, is_text, named, no_line, no_page, no_text, too_large}
 use Rattle.subset_pdf.specs.declared.line.Line.{Line}
 use Rattle.subset_pdf.specs.declared.options.PdfRequest.{PdfRequest}
 use Rattle.subset_pdf.specs.declared.sheet.Sheet.{Sheet}
 use Rattle.subset_pdf.specs.declared.sheet.SheetError.{SheetError}
 use Rattle.subset_pdf.specs.declared.sheet.SheetError.TheVariants.{Font as RefusedFont}
+
+-- a fault by the name of its error
+fault_named : (font : Font) (settings : List (Tag × ℤ)) (options : FontOptions) (us : List Used) (order : List ℕ) (e : FontError) → HasFontFault font settings options us order e → (o : List ℕ) × HasFontFault font settings options us o (fault_of (named e))
+fault_named font settings options us order (Subset e) fault = (order, fault)
+fault_named font settings options us order (NotPermitted p) fault = (order, fault)
+fault_named font settings options us order TextTooLong fault = (order, fault)
+fault_named font settings options us order BitmapsAlone (bare is) = unopened font settings options us UnknownKind (bare_unopened font is)
+
+text_fault_named : (font : Font) (settings : List (Tag × ℤ)) (options : FontOptions) (count : ℕ) (ps : List Pair) (e : FontError) → HasTextFault font settings options count [] ps e → HasTextFault font settings options count [] ps (fault_of (named e))
+text_fault_named font settings options count ps e (in_subset no) = let f = fault_named font settings (subset_options options) _ no.order e no.fault in in_subset (record { order = f.0; fault = f.1 })
+text_fault_named font settings options count ps _ (in_drawing subset made fault) = in_drawing subset made fault
 
 module _ (bytes : List ℕ) (request : PdfRequest) (shown : List Shown) where
   -- a fault for which `pdf_font` answers nothing, by the options that it gets
@@ -41,7 +58,7 @@ module _ (bytes : List ℕ) (request : PdfRequest) (shown : List Shown) where
 
   refused_by : (e : FontError) → FaultBy (options_of request) e → (named e ≡ RefusedFont OutOfMemory) ⊎ HasFaultFor bytes request shown (named e)
   refused_by e (inl memory) = inl (ap named memory)
-  refused_by e (inr fault) = inr (record { error = e; name = refl; fault = fault })
+  refused_by e (inr fault) = inr (fault_named (font_of bytes request.index (options_of request)) request.at.now (options_of request) (uses_of shown) fault.0 e fault.1)
 
   pub font_refused : (options : FontOptions) (e : FontError) (why : SheetError) → options ≡ options_of request → FaultBy options e → why ≡ named e → (why ≡ RefusedFont OutOfMemory) ⊎ HasFaultFor bytes request shown why
   font_refused options e why is h name = subst (λ (w : SheetError). (w ≡ RefusedFont OutOfMemory) ⊎ HasFaultFor bytes request shown w) (sym name) (refused_by e (subst (λ (o : FontOptions). FaultBy o e) is h))
@@ -74,7 +91,7 @@ module _ (bytes : List ℕ) (request : PdfRequest) (shown : List Shown) where
 
   unmade_by : (line : Line) (e : FontError) → TextFaultBy line (options_of request) e → (named e ≡ RefusedFont OutOfMemory) ⊎ HasTextFaultFor bytes request line (named e)
   unmade_by line e (inl memory) = inl (ap named memory)
-  unmade_by line e (inr fault) = inr (record { error = e; name = refl; fault = fault })
+  unmade_by line e (inr fault) = inr (text_fault_named (font_of bytes request.index (options_of request)) request.at.now (options_of request) line.glyph_count (by_code line.pairs) e fault)
 
   pub text_refused : (line : Line) (options : FontOptions) (e : FontError) (why : SheetError) → options ≡ options_of request → TextFaultBy line options e → why ≡ named e → (why ≡ RefusedFont OutOfMemory) ⊎ HasTextFaultFor bytes request line why
   text_refused line options e why is h name = subst (λ (w : SheetError). (w ≡ RefusedFont OutOfMemory) ⊎ HasTextFaultFor bytes request line w) (sym name) (unmade_by line e (subst (λ (o : FontOptions). TextFaultBy line o e) is h))

@@ -36,11 +36,11 @@ named (Forbidden p) = NotPermitted p
 named TooLong = TextTooLong
 named BitmapsAlone = Font UnknownKind
 
--- a fault under its name
-pub record IsNamed (Why : FontError → Type 0) (why : SheetError) : Type 0 where
-  pub error : FontError
-  pub name : why ≡ named error
-  pub fault : Why error
+-- the error of a fault by this name: a face without outlines is of an unknown kind
+abbrev pub fault_of : SheetError → FontError
+fault_of (Font e) = Subset e
+fault_of (NotPermitted p) = Forbidden p
+fault_of TextTooLong = TooLong
 
 -- ---- glyphs in use by their codes
 
@@ -55,7 +55,7 @@ pub record IsCodedSheet (bytes : List ℕ) (request : PdfRequest) (shown : List 
 
 -- a fault for which `pdf_font` answers nothing
 abbrev pub HasFaultFor : List ℕ → PdfRequest → List Shown → SheetError → Type 0
-HasFaultFor bytes request shown why = IsNamed (λ e. (order : List ℕ) × HasFontFault (font_of bytes request.index (options_of request)) request.at.now (options_of request) (uses_of shown) order e) why
+HasFaultFor bytes request shown why = (order : List ℕ) × HasFontFault (font_of bytes request.index (options_of request)) request.at.now (options_of request) (uses_of shown) order (fault_of why)
 
 -- the sheet of a font is too large
 abbrev pub IsTooLargeAs : PdfFont → List Shown → Layout → SheetError → Type 0
@@ -72,7 +72,7 @@ abbrev pub IsTextFor : List ℕ → PdfRequest → Line → TextFont → Type 0
 IsTextFor bytes request line text = IsTextFont (font_of bytes request.index (options_of request)) request.at.now (options_of request) line.glyph_count [] (by_code line.pairs) text
 
 abbrev pub HasTextFaultFor : List ℕ → PdfRequest → Line → SheetError → Type 0
-HasTextFaultFor bytes request line why = IsNamed (HasTextFault (font_of bytes request.index (options_of request)) request.at.now (options_of request) line.glyph_count [] (by_code line.pairs)) why
+HasTextFaultFor bytes request line why = HasTextFault (font_of bytes request.index (options_of request)) request.at.now (options_of request) line.glyph_count [] (by_code line.pairs) (fault_of why)
 
 -- its font and the line, as `write_lines` takes them
 pub record IsViewOfLine (text : TextFont) (line : Line) (view : FontView) (shown : SheetLine) : Type 0 where

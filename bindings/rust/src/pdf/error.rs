@@ -17,7 +17,7 @@ pub enum FontError {
     TextTooLong,
     /// The font has no table by which characters have glyphs.
     NoCmap,
-    /// The font has bitmaps (`CBDT`, `sbix` or `EBDT`) and no outlines.
+    /// The face has no outlines (`glyf`, `CFF `, `CFF2`), but bitmaps or other pictures, or none.
     BitmapsAlone,
 }
 
@@ -34,7 +34,7 @@ impl fmt::Display for FontError {
             Self::NotPermitted(_) => f.write_str("embedding not permitted"),
             Self::TextTooLong => f.write_str("text too long"),
             Self::NoCmap => f.write_str("no usable cmap in font"),
-            Self::BitmapsAlone => f.write_str("bitmaps alone in font"),
+            Self::BitmapsAlone => f.write_str("no outlines in font"),
         }
     }
 }

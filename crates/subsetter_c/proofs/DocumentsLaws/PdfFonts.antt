@@ -16,8 +16,8 @@ use Rattle.pdf_codes.specs.declared.shown.Shown.{Shown}
 use Rattle.pdf_values.specs.Permission.{is_permitted, permission}
 use Rattle.pdf_source.specs.declared.choice.FontOptions.{FontOptions}
 use Rattle.pdf_font.specs.First.{CanBeOpened, IsFoundFirst}
-use Rattle.pdf_font.specs.PdfFont.{HasFontFault, HasNoPdfFont, IsPdfFont, font_of, has_bitmaps_alone, in_embedding, of_bitmaps}
-use Rattle.pdf_font.proofs.Bitmaps.{alone_unopened}
+use Rattle.pdf_font.specs.PdfFont.{HasFontFault, HasNoPdfFont, IsPdfFont, bare as no_outlines, font_of, in_embedding, lacks_outlines}
+use Rattle.pdf_font.proofs.Bare.{bare_unopened}
 use Rattle.pdf_font.specs.declared.error.FontError.{FontError}
 use Rattle.pdf_font.specs.declared.error.FontError.TheVariants.{Subset, NotPermitted, TextTooLong, BitmapsAlone}
 use Rattle.pdf_font.specs.declared.font.PdfFont.{PdfFont}
@@ -39,31 +39,31 @@ module _ (font : Font) (settings : List (Tag × ℤ)) (options : FontOptions) (u
   unopened_final : (e : Error) → HasOpeningFaultAt font e → HasNoPdfFont font settings options us
   unopened_final e fault f is = opening_final options.limits.bytes options.limits.tokens options.limits.depth font settings (glyphs_of us) e fault is.made.new is.made.within is.made.embedded
 
-  -- a font of bitmaps alone
-  pub alone : has_bitmaps_alone font ≡ true → IsFontRefused font settings options us BitmapsAlone
-  alone is = record {
-    why = inr (([], of_bitmaps is), unopened_final UnknownKind (alone_unopened font is));
-    bitmaps = λ _. refl;
+  -- a face without outlines
+  pub bare : lacks_outlines font ≡ true → IsFontRefused font settings options us BitmapsAlone
+  bare is = record {
+    why = inr (([], no_outlines is), unopened_final UnknownKind (bare_unopened font is));
+    bare = λ _. refl;
     unopened = λ no. absurd (let both : true ≡ false = sym is ∙ no in cc);
-    forbidden = λ opens denied. absurd (opens UnknownKind (alone_unopened font is));
-    long = λ opens held h. absurd (opens UnknownKind (alone_unopened font is));
+    forbidden = λ opens denied. absurd (opens UnknownKind (bare_unopened font is));
+    long = λ opens held h. absurd (opens UnknownKind (bare_unopened font is));
   }
 
-  not_alone : {X : Type 0} → has_bitmaps_alone font ≡ false → has_bitmaps_alone font ≡ true → X
-  not_alone other is = absurd (let both : true ≡ false = sym is ∙ other in cc)
+  not_bare : {X : Type 0} → lacks_outlines font ≡ false → lacks_outlines font ≡ true → X
+  not_bare other is = absurd (let both : true ≡ false = sym is ∙ other in cc)
 
   -- of another, before the call: memory ran out, and the font can be opened, or it can't
-  pub unopened : {X : Type 0} → has_bitmaps_alone font ≡ false → (e : Error) → (e ≡ OutOfMemory) ⊎ HasOpeningFaultAt font e → ((why : Error) → HasOpeningFaultAt font why → failed {X = X} e ≡ Err OutOfMemory → ⊥) → IsFontRefused font settings options us (Subset e)
+  pub unopened : {X : Type 0} → lacks_outlines font ≡ false → (e : Error) → (e ≡ OutOfMemory) ⊎ HasOpeningFaultAt font e → ((why : Error) → HasOpeningFaultAt font why → failed {X = X} e ≡ Err OutOfMemory → ⊥) → IsFontRefused font settings options us (Subset e)
   unopened {X} other e (inl memory) before = record {
     why = inl (ap Subset memory);
-    bitmaps = not_alone other;
+    bare = not_bare other;
     unopened = λ no fault h. absurd (before fault h (ap (failed {X = X}) memory));
     forbidden = λ opens denied. inl (ap Subset memory);
     long = λ opens held h. inl (ap Subset memory);
   }
   unopened other e (inr fault) before = record {
     why = inr (([], in_embedding (opening_fault options.limits.bytes options.limits.tokens options.limits.depth font settings (glyphs_of us) e fault)), unopened_final e fault);
-    bitmaps = not_alone other;
+    bare = not_bare other;
     unopened = λ no why h. (e, refl, fault);
     forbidden = λ opens denied. absurd (opens e fault);
     long = λ opens held h. absurd (opens e fault);
@@ -74,7 +74,7 @@ module _ (font : Font) (settings : List (Tag × ℤ)) (options : FontOptions) (u
 
   -- a font that is answered can be opened
   pub without_memory : (f : PdfFont) → IsPdfFont font settings options us f → IsFontRefused font settings options us (Subset OutOfMemory)
-  without_memory f is = record { why = inl refl; bitmaps = λ h. absurd (unopened_final UnknownKind (alone_unopened font h) f is); unopened = λ no fault h. absurd (unopened_final fault h f is); forbidden = λ opens denied. inl refl; long = λ opens held h. inl refl }
+  without_memory f is = record { why = inl refl; bare = λ h. absurd (unopened_final UnknownKind (bare_unopened font h) f is); unopened = λ no fault h. absurd (unopened_final fault h f is); forbidden = λ opens denied. inl refl; long = λ opens held h. inl refl }
 
   module _ (given : List (Tag × ℤ)) (used : List Used) (g : given ≡ settings) (u : used ≡ us) where
     there : (P : List (Tag × ℤ) → List Used → Type 0) → P given used → P settings us
@@ -84,10 +84,10 @@ module _ (font : Font) (settings : List (Tag × ℤ)) (options : FontOptions) (u
     answered (Ok f) ok = there (λ s l. IsPdfFont font s options l f) ok
     answered (Err e) ok = tt
 
-    alone_by : (e : FontError) → IsFoundFirst font options used (Err e) → has_bitmaps_alone font ≡ true → e ≡ BitmapsAlone
-    alone_by e found is = same_error e BitmapsAlone (found.bitmaps is)
+    bare_by : (e : FontError) → IsFoundFirst font options used (Err e) → lacks_outlines font ≡ true → e ≡ BitmapsAlone
+    bare_by e found is = same_error e BitmapsAlone (found.bare is)
 
-    first : (e : FontError) → IsFoundFirst font options used (Err e) → has_bitmaps_alone font ≡ false → (fault : Error) → HasOpeningFaultAt font fault → (d : Error) × (e ≡ Subset d) × HasOpeningFaultAt font d
+    first : (e : FontError) → IsFoundFirst font options used (Err e) → lacks_outlines font ≡ false → (fault : Error) → HasOpeningFaultAt font fault → (d : Error) × (e ≡ Subset d) × HasOpeningFaultAt font d
     first e found other fault h = let d = found.unopened other fault h in (d.0, same_error e (Subset d.0) d.1, d.2)
 
     forbidden_by : (e : FontError) → IsFoundFirst font options used (Err e) → CanBeOpened font → is_permitted (permission (stored font (codes "OS/2"))) options.rights ≡ false → (e ≡ Subset OutOfMemory) ⊎ (e ≡ NotPermitted (permission (stored font (codes "OS/2"))))
@@ -98,18 +98,18 @@ module _ (font : Font) (settings : List (Tag × ℤ)) (options : FontOptions) (u
 
     pub refused_by : (r : Result PdfFont FontError) → IfErr r (λ e. (e ≡ Subset OutOfMemory) ⊎ ((order : List ℕ) × HasFontFault font given options used order e)) → IfErr r (λ e. (e ≡ Subset OutOfMemory) ⊎ HasNoPdfFont font given options used) → IsFoundFirst font options used r → IfErr r (IsFontRefused font settings options us)
     refused_by (Ok f) err none found = tt
-    refused_by (Err e) (inl memory) none found = record { why = inl memory; bitmaps = alone_by e found; unopened = first e found; forbidden = forbidden_by e found; long = long_by e found }
-    refused_by (Err e) (inr fault) (inl memory) found = record { why = inl memory; bitmaps = alone_by e found; unopened = first e found; forbidden = forbidden_by e found; long = long_by e found }
+    refused_by (Err e) (inl memory) none found = record { why = inl memory; bare = bare_by e found; unopened = first e found; forbidden = forbidden_by e found; long = long_by e found }
+    refused_by (Err e) (inr fault) (inl memory) found = record { why = inl memory; bare = bare_by e found; unopened = first e found; forbidden = forbidden_by e found; long = long_by e found }
     refused_by (Err e) (inr fault) (inr none) found = record {
       why = inr ((fault.0, there (λ s l. HasFontFault font s options l fault.0 e) fault.1), there (λ s l. HasNoPdfFont font s options l) none);
-      bitmaps = alone_by e found;
+      bare = bare_by e found;
       unopened = first e found;
       forbidden = forbidden_by e found;
       long = long_by e found;
     }
 
 -- the same for extras that are those of the options
-pub unopened_at : {X : Type 0} (bytes : List ℕ) (index : ℕ) (settings : List (Tag × ℤ)) (options : FontOptions) (us : List Used) (extras : Extras) → extras ≡ extras_of options → has_bitmaps_alone (font_of bytes index options) ≡ false → (e : Error) → (e ≡ OutOfMemory) ⊎ HasOpeningFaultAt (font_at bytes index extras) e → ((why : Error) → HasOpeningFaultAt (font_at bytes index extras) why → failed {X = X} e ≡ Err OutOfMemory → ⊥) → IsFontRefused (font_of bytes index options) settings options us (Subset e)
+pub unopened_at : {X : Type 0} (bytes : List ℕ) (index : ℕ) (settings : List (Tag × ℤ)) (options : FontOptions) (us : List Used) (extras : Extras) → extras ≡ extras_of options → lacks_outlines (font_of bytes index options) ≡ false → (e : Error) → (e ≡ OutOfMemory) ⊎ HasOpeningFaultAt (font_at bytes index extras) e → ((why : Error) → HasOpeningFaultAt (font_at bytes index extras) why → failed {X = X} e ≡ Err OutOfMemory → ⊥) → IsFontRefused (font_of bytes index options) settings options us (Subset e)
 unopened_at {X} bytes index settings options us extras is other e err before =
     unopened (font_of bytes index options) settings options us {X = X} other e
     (subst (λ (x : Extras). (e ≡ OutOfMemory) ⊎ HasOpeningFaultAt (font_at bytes index x) e) is err)

@@ -42,7 +42,7 @@ invalid_text = 12
 abbrev pub no_cmap : ℕ
 no_cmap = 13
 
--- the font has bitmaps and no outlines
+-- the face has no outlines
 abbrev pub bitmaps_alone : ℕ
 bitmaps_alone = 14
 
@@ -71,7 +71,7 @@ status_text status =
     else if status == not_permitted then codes "embedding not permitted"
     else if status == invalid_text then codes "invalid text"
     else if status == no_cmap then codes "no usable cmap in font"
-    else if status == bitmaps_alone then codes "bitmaps alone in font"
+    else if status == bitmaps_alone then codes "no outlines in font"
     else if status == overfull then codes "too many codes"
     else if status == invalid_numbers then codes "invalid numbers"
     else codes "unknown status"

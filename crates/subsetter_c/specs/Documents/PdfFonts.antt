@@ -18,7 +18,7 @@ use Rattle.pdf_values.specs.declared.permission.Usage.{Usage}
 use Rattle.pdf_values.specs.declared.permission.Usage.TheVariants.{Unsaid, Installable, Editable, PreviewAndPrint, Restricted}
 use Rattle.pdf_source.specs.declared.choice.FontOptions.{FontOptions}
 use Rattle.pdf_font.specs.First.{CanBeOpened}
-use Rattle.pdf_font.specs.PdfFont.{HasFontFault, HasNoPdfFont, IsPdfFont, font_of, has_bitmaps_alone}
+use Rattle.pdf_font.specs.PdfFont.{HasFontFault, HasNoPdfFont, IsPdfFont, font_of, lacks_outlines}
 use Rattle.pdf_font.specs.declared.error.FontError.{FontError}
 use Rattle.pdf_font.specs.declared.error.FontError.TheVariants.{Subset, NotPermitted, TextTooLong, BitmapsAlone}
 use Rattle.pdf_font.specs.declared.font.PdfFont.{PdfFont}
@@ -144,10 +144,10 @@ refusal_status BitmapsAlone = bitmaps_alone
 pub record IsFontRefused (font : Font) (settings : List (Tag × ℤ)) (options : FontOptions) (us : List Used) (e : FontError) : Type 0 where
   -- memory ran out, or the font or the request has a fault of that name, and then no call answers a font
   pub why : (e ≡ Subset OutOfMemory) ⊎ (((order : List ℕ) × HasFontFault font settings options us order e) × HasNoPdfFont font settings options us)
-  -- a font of bitmaps alone is refused for that, also without memory
-  pub bitmaps : has_bitmaps_alone font ≡ true → e ≡ BitmapsAlone
+  -- a face without outlines is refused for that, also without memory
+  pub bare : lacks_outlines font ≡ true → e ≡ BitmapsAlone
   -- and another that can't be opened
-  pub unopened : has_bitmaps_alone font ≡ false → (fault : Error) → HasOpeningFaultAt font fault → (d : Error) × (e ≡ Subset d) × HasOpeningFaultAt font d
+  pub unopened : lacks_outlines font ≡ false → (fault : Error) → HasOpeningFaultAt font fault → (d : Error) × (e ≡ Subset d) × HasOpeningFaultAt font d
   -- then one that `fsType` forbids, unless memory ran out
   pub forbidden : CanBeOpened font → is_permitted (permission (stored font (codes "OS/2"))) options.rights ≡ false → (e ≡ Subset OutOfMemory) ⊎ (e ≡ NotPermitted (permission (stored font (codes "OS/2"))))
   -- then one with a text that is too long

@@ -22,7 +22,7 @@ pub const NOT_PERMITTED: u32 = 11;
 pub const INVALID_TEXT: u32 = 12;
 /// The font has no table by which characters have glyphs.
 pub const NO_CMAP: u32 = 13;
-/// The font has bitmaps and no outlines.
+/// The face has no outlines.
 pub const BITMAPS_ALONE: u32 = 14;
 /// There would be more than 65,535 codes.
 pub const OVERFULL: u32 = 15;
@@ -64,7 +64,7 @@ pub fn status_text(status: u32) -> &'static [u8]
         11 => b"embedding not permitted",
         12 => b"invalid text",
         13 => b"no usable cmap in font",
-        14 => b"bitmaps alone in font",
+        14 => b"no outlines in font",
         15 => b"too many codes",
         16 => b"invalid numbers",
         _ => b"unknown status",

@@ -17,12 +17,11 @@ use crate::answers::status::{BITMAPS_ALONE, DONE, INVALID_TEXT, NOT_PERMITTED, s
 use crate::settings::{Coordinate, settings_for};
 use pdf_font::{
     Column, Columns, FontError, FontOptions, NamedCmap, PdfFont, ProgramKind, Shown, Usage,
-    pdf_font,
+    lacks_outlines, pdf_font,
 };
 use std::alloc::Global;
 use subsetter::{Error, Extras, Tag};
 use subsetter_pdf_c::{PdfMade, PdfNumbers, characters_of, shown_of};
-use subsetter_sfnt::alone::bitmaps_alone;
 use subsetter_variable::check_opening_at;
 
 // ---- numbers
@@ -336,7 +335,7 @@ pub fn font_for(
     ensures ok { IfOk result (λ f. IsPdfFont (font_of font.now index options.now) (settings_of coordinates.now) options.now (uses_in glyphs.now text.now ends.now) f) }
     ensures err { IfErr result (λ e. IsFontRefused (font_of font.now index options.now) (settings_of coordinates.now) options.now (uses_in glyphs.now text.now ends.now) e) }
 {
-    if bitmaps_alone(font, index).is_some() {
+    if lacks_outlines(font, index) {
         return Err(FontError::BitmapsAlone);
     }
     let extras = options.extras();

@@ -97,8 +97,9 @@ fn wrong_hvar(font: &[u8], index: u32, at: &[i32], glyphs: &[u16]) -> Option<Rea
     unread_hvar(hvar, at.len()).or(first_advance(hvar, at, glyphs))
 }
 
-/// Whether the variation of the metric of a tag can't be read.
-fn wrong_metric(mvar: &[u8], at: &[i32], tag: Tag) -> Option<Reason> {
+/// Whether the variation of the metric of a tag, these bytes, can't be read.
+fn wrong_metric(mvar: &[u8], at: &[i32], name: &[u8; 4]) -> Option<Reason> {
+    let tag = Tag::new(name);
     if is_malformed(metric_delta(mvar, at, tag)) {
         return Some(Reason::WrongMetric(tag));
     }
@@ -107,25 +108,19 @@ fn wrong_metric(mvar: &[u8], at: &[i32], tag: Tag) -> Option<Reason> {
 
 /// What is wrong with the metrics of lines in `MVAR`.
 fn wrong_lines(mvar: &[u8], at: &[i32]) -> Option<Reason> {
-    let ascender = wrong_metric(mvar, at, Tag::new(b"hasc"));
-    let descender = wrong_metric(mvar, at, Tag::new(b"hdsc"));
-    let line_gap = wrong_metric(mvar, at, Tag::new(b"hlgp"));
-    ascender.or(descender.or(line_gap))
+    let others = wrong_metric(mvar, at, b"hdsc").or(wrong_metric(mvar, at, b"hlgp"));
+    wrong_metric(mvar, at, b"hasc").or(others)
 }
 
 /// What is wrong with those of the caret.
 fn wrong_caret(mvar: &[u8], at: &[i32]) -> Option<Reason> {
-    let rise = wrong_metric(mvar, at, Tag::new(b"hcrs"));
-    let run = wrong_metric(mvar, at, Tag::new(b"hcrn"));
-    let offset = wrong_metric(mvar, at, Tag::new(b"hcof"));
-    rise.or(run.or(offset))
+    let others = wrong_metric(mvar, at, b"hcrn").or(wrong_metric(mvar, at, b"hcof"));
+    wrong_metric(mvar, at, b"hcrs").or(others)
 }
 
 /// What is wrong with those of the underline.
 fn wrong_underline(mvar: &[u8], at: &[i32]) -> Option<Reason> {
-    let position = wrong_metric(mvar, at, Tag::new(b"undo"));
-    let thickness = wrong_metric(mvar, at, Tag::new(b"unds"));
-    position.or(thickness)
+    wrong_metric(mvar, at, b"undo").or(wrong_metric(mvar, at, b"unds"))
 }
 
 /// What is wrong with those of the underline, where `post` has them.

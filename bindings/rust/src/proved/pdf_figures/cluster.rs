@@ -67,6 +67,20 @@ fn push_each<'a>(
     Ok(())
 }
 
+/// Puts what stands for a glyph with these characters after others, cut.
+fn push_alone<'a>(
+    alloc: Global,
+    figures: &mut Vec<Figure<'a>>,
+    direction: Direction,
+    choice: &Choice<'_>,
+    item: &Item<'a>,
+    as_it_is: bool,
+    share: &[char],
+) -> Result<(), Error> {
+    let figure = figure_of(alloc, choice, item, as_it_is)?;
+    push_cut_one(alloc, figures, direction, choice, figure, share)
+}
+
 /// Puts what stands for the glyphs of a cluster after others, of which the first in reading order is cut.
 fn push_divided<'a>(
     alloc: Global,
@@ -76,8 +90,20 @@ fn push_divided<'a>(
     items: &[Item<'a>],
     as_they_are: bool,
 ) -> Result<(), Error> {
+    let text = text_of(items);
+    if items.len() == 1 {
+        return push_alone(
+            alloc,
+            figures,
+            direction,
+            choice,
+            &items[0],
+            as_they_are,
+            text,
+        );
+    }
     let first = in_reading(direction, items.len(), 0);
-    let share = first_share(text_of(items), items.len());
+    let share = first_share(text, items.len());
     let before = front(items, first);
     push_each(alloc, figures, choice, before, as_they_are)?;
     let figure = figure_of(alloc, choice, &items[first], as_they_are)?;

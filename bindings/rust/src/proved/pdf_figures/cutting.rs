@@ -114,6 +114,11 @@ fn part_and_rest<'a>(alloc: Global, whole: Uncut<'a>, part: u16, more: usize) ->
     }
 }
 
+/// Whether several characters are no marks.
+fn are_several(direction: Direction, share: &[char]) -> bool {
+    1 < share.len() && 1 < wide_count(direction, share)
+}
+
 /// Puts a figure for each character after others, as they are seen. Marks have no width.
 fn push_cut<'a>(
     alloc: Global,
@@ -213,7 +218,7 @@ pub fn push_cut_one<'a>(
     figure: Figure<'a>,
     share: &[char],
 ) -> Result<(), Error> {
-    if 1 < wide_count(direction, share) && is_divisible(choice, &figure) {
+    if are_several(direction, share) && is_divisible(choice, &figure) {
         let width = ink_advance(choice, &figure.ink);
         let whole = in_parts(alloc, figure)?;
         return push_cut(alloc, figures, direction, whole, width, share);

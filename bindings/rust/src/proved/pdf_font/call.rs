@@ -9,11 +9,17 @@ use crate::proved::pdf_source::{new_font, FontOptions};
 use crate::proved::pdf_values::{is_permitted, permission_of, Permission};
 use crate::proved::subsetter::{Extras, Options, Tag};
 use crate::proved::subsetter_base::Error;
-use crate::proved::subsetter_sfnt::alone::bitmaps_alone;
+use crate::proved::subsetter_sfnt::alone::has_outlines;
+use crate::proved::subsetter_sfnt::directory::records;
 use crate::proved::subsetter_sfnt::face::Face;
 use crate::proved::subsetter_sfnt::parse::parse;
 use crate::proved::subsetter_variable::check_opening_at;
 use crate::rattle::alloc::Global;
+
+/// Whether a face's directory is read, and has no table of outlines: neither `glyf` nor `CFF ` nor `CFF2`.
+pub fn lacks_outlines(data: &[u8], index: u32) -> bool {
+    records(data, index).is_some() && !has_outlines(data, index)
+}
 
 /// The face of a font that can be opened.
 fn opened_face(data: &[u8], index: u32, extras: Extras) -> Result<Face<'_>, Error> {
@@ -68,8 +74,7 @@ fn made(
 ///
 /// The first of these that comes:
 ///
-/// - `BitmapsAlone`: the font has bitmaps (`CBDT` with `CBLC`, `sbix`, or `EBDT` with `EBLC`) and no outlines (`glyf`, `CFF `,
-///   `CFF2`).
+/// - `BitmapsAlone`: the face's directory is read, and has no table of outlines (`glyf`, `CFF `, `CFF2`).
 /// - `Subset`: the font can't be opened.
 /// - `NotPermitted`: `fsType` forbids it, and the caller holds no rights.
 /// - `TextTooLong`: a text has more than 256 UTF-16 units.
@@ -83,7 +88,7 @@ pub fn pdf_font(
     shown: &[Shown<'_>],
     options: &FontOptions,
 ) -> Result<PdfFont, FontError> {
-    if bitmaps_alone(data, index).is_some() {
+    if lacks_outlines(data, index) {
         return Err(FontError::BitmapsAlone);
     }
     let face = match opened_face(data, index, options.extras()) {

@@ -13,6 +13,6 @@ pub enum FontError {
     NotPermitted(Permission),
     /// A text has more than 256 UTF-16 units.
     TextTooLong,
-    /// The font has bitmaps and no outlines.
+    /// The face has no outlines, but bitmaps or other pictures, or none.
     BitmapsAlone,
 }

@@ -220,7 +220,7 @@ pub fn write_operators(
     pairs: &Remapper<u16, Pair>,
     operations: &[Operation<'_>],
 ) -> Result<Vec<u8>, Error> {
-    let mut text = Vec::new(alloc);
+    let mut text = Vec::with_capacity(alloc, operations.len())?;
     let mut array = OpenArray {
         strings: 0,
         codes: 0,

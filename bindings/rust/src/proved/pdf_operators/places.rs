@@ -102,6 +102,10 @@ fn thousandfold(length: i64) -> i64 {
 
 /// A length of so many units to the em, to the nearest thousandth, halves up.
 fn thousandths(length: i64, units: u16) -> i64 {
+    // (most glyphs are on the line)
+    if length == 0 {
+        return 0;
+    }
     nearest(thousandfold(length), u64::from(units))
 }
 

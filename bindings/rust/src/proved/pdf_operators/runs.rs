@@ -10,8 +10,8 @@ use crate::proved::pdf_operators::places::{
     advance_of, end_of, last_back, next, start, Font, Stop,
 };
 use crate::proved::pdf_runs::{
-    clusters_of_run, codes_of, is_run, pair_of, pieces_of_clusters, pieces_of_run, Direction, Item,
-    Pair, Piece, RunError,
+    clusters_of_run, codes_of, is_run, pair_of, pieces_of_clusters, Direction, Item, Pair, Piece,
+    RunError,
 };
 use crate::proved::subsetter_base::remapper::Remapper;
 use crate::proved::subsetter_base::Error;
@@ -149,16 +149,17 @@ fn push_end(
     }
 }
 
-/// What shows parts from a stop on, up to the end of the line.
+/// What shows parts with so many clusters from a stop on, up to the end of the line.
 fn operations_of_parts<'a>(
     alloc: Global,
     font: Font<'_>,
     direction: Direction,
     end: i32,
     first: Stop,
+    count: usize,
     parts: &[&'a [&'a [Item<'a>]]],
 ) -> Result<Vec<Operation<'a>>, RunError> {
-    let mut operations = Vec::with_capacity(alloc, parts.len())?;
+    let mut operations = Vec::with_capacity(alloc, count)?;
     let mut stop = first;
     for part in parts {
         stop = push_part(alloc, &mut operations, font, direction, stop, *part)?;
@@ -200,6 +201,7 @@ fn operations_of_run<'a>(
         direction,
         end_of(direction, advance),
         first,
+        found.len(),
         &parts,
     )
 }
@@ -218,15 +220,16 @@ fn code_pieces(
     Ok(())
 }
 
-/// Gives the pieces of a run codes.
+/// Gives the pieces of a run codes, given its clusters.
 fn add_codes(
     alloc: Global,
     font: Font<'_>,
     direction: Direction,
     pairs: &mut Remapper<u16, Pair>,
-    items: &[Item<'_>],
+    _items: &[Item<'_>],
+    found: &[&[Item<'_>]],
 ) -> Result<(), RunError> {
-    let pieces = match pieces_of_run(alloc, direction, font.inked, items) {
+    let pieces = match pieces_of_clusters(alloc, direction, font.inked, found) {
         Ok(pieces) => pieces,
         Err(_) => return Err(RunError::OutOfMemory),
     };
@@ -277,7 +280,7 @@ pub fn show_run<'a>(
         Err(_) => return Err(RunError::OutOfMemory),
     };
     let operations = operations_of_run(alloc, font, direction, order, items, &found)?;
-    add_codes(alloc, font, direction, pairs, items)?;
+    add_codes(alloc, font, direction, pairs, items, &found)?;
     write_run(
         alloc,
         font,

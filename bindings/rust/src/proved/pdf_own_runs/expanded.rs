@@ -25,7 +25,8 @@ pub fn all_metrics(
     metrics: &[GlyphMetrics],
     own: &[OwnInk],
 ) -> Result<Vec<GlyphMetrics>, RunError> {
-    let mut all = Vec::from_slice(alloc, metrics)?;
+    let mut all = Vec::with_capacity(alloc, metrics.len() + own.len())?;
+    all.extend_from_slice(metrics)?;
     for glyph in own {
         all.push(own_metrics(units, glyph))?;
     }

@@ -41,7 +41,7 @@ pub fn clusters_of_run<'a>(
     alloc: Global,
     items: &'a [Item<'a>],
 ) -> Result<Vec<&'a [Item<'a>]>, Error> {
-    let mut found = Vec::new(alloc);
+    let mut found = Vec::with_capacity(alloc, items.len())?;
     let mut rest = items;
     while rest.len() > 0 {
         let count = cluster_size(rest);

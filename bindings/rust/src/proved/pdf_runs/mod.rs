@@ -25,6 +25,8 @@ pub use codes::{code_in, codes_of, no_pairs, pair_of, Pair};
 pub use error::RunError;
 pub use items::{is_run, Direction, Item};
 pub use marks::is_mark;
-pub use pieces::{pieces_of_clusters, pieces_of_run, text_of, Figure, Piece};
+#[cfg(feature = "program")]
+pub use pieces::pieces_of_run;
+pub use pieces::{pieces_of_clusters, text_of, Figure, Piece};
 pub use shaped::{items_of, Shaped, Unit};
 pub use words::words_of_run;

@@ -3,6 +3,7 @@
 
 use crate::rattle::prelude::Vec;
 
+#[cfg(feature = "program")]
 use crate::proved::pdf_runs::clusters::clusters_of_run;
 use crate::proved::pdf_runs::items::{Direction, Item};
 use crate::proved::pdf_runs::marks::is_mark;
@@ -118,6 +119,11 @@ fn push_blanks(
     Ok(())
 }
 
+/// The first character, if there is one.
+fn first_of(share: &[char]) -> Option<char> {
+    share.first().copied()
+}
+
 /// Puts a glyph with what it says after others, and blanks for its other characters.
 fn push_spread(
     pieces: &mut Vec<Piece>,
@@ -126,8 +132,8 @@ fn push_spread(
     item: &Item<'_>,
     share: &[char],
 ) -> Result<(), Error> {
-    if share.len() == 0 {
-        pieces.push(piece_of(inked, item, None))?;
+    if share.len() <= 1 {
+        pieces.push(piece_of(inked, item, first_of(share)))?;
         return Ok(());
     }
     let bearer = bearer(direction, share);
@@ -163,6 +169,9 @@ fn push_cluster(
     items: &[Item<'_>],
 ) -> Result<(), Error> {
     let text = text_of(items);
+    if items.len() == 1 {
+        return push_spread(pieces, direction, inked, &items[0], text);
+    }
     for place in 0..items.len() {
         let share = share_at(direction, text, items.len(), place);
         push_spread(pieces, direction, inked, &items[place], share)?;
@@ -193,6 +202,7 @@ pub fn pieces_of_clusters(
 /// # Errors
 ///
 /// `OutOfMemory` alone.
+#[cfg(feature = "program")]
 pub fn pieces_of_run(
     alloc: Global,
     direction: Direction,

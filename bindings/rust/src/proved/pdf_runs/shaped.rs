@@ -78,6 +78,31 @@ fn place_in(starts: &[u64], number: u32) -> usize {
     starts.partition_point(|start| *start < units)
 }
 
+/// Whether the character at a place is the first one that begins at a number of units.
+fn is_place(starts: &[u64], place: usize, number: u32) -> bool {
+    is_at(starts, place, number) && (place == 0 || starts[place - 1] < u64::from(number))
+}
+
+/// Where the character would be that begins at a number of units, if it is at a place or beside it.
+fn beside(starts: &[u64], place: usize, number: u32) -> usize {
+    if place >= starts.len() || u64::from(number) < starts[place] {
+        place.saturating_sub(1)
+    } else if starts[place] == u64::from(number) {
+        place
+    } else {
+        place + 1
+    }
+}
+
+/// How many characters begin before a number of units, mostly so many as before another one, or one more or less.
+fn place_near(starts: &[u64], other: usize, number: u32) -> usize {
+    let place = beside(starts, other, number);
+    if is_place(starts, place, number) {
+        return place;
+    }
+    place_in(starts, number)
+}
+
 /// Whether the character at a place begins at a number of units.
 fn is_at(starts: &[u64], place: usize, number: u32) -> bool {
     place < starts.len() && starts[place] == u64::from(number)
@@ -88,8 +113,9 @@ fn is_at(starts: &[u64], place: usize, number: u32) -> bool {
 /// The place in a text of each glyph's cluster, of those where its characters begin.
 fn places_in(alloc: Global, starts: &[u64], shaped: &[Shaped]) -> Result<Vec<usize>, RunError> {
     let mut found = Vec::with_capacity(alloc, shaped.len())?;
+    let mut place = 0;
     for glyph in shaped {
-        let place = place_in(starts, glyph.cluster);
+        place = place_near(starts, place, glyph.cluster);
         if !is_at(starts, place, glyph.cluster) {
             return Err(RunError::InvalidText);
         }

@@ -134,16 +134,8 @@ fn figures_of(
     Ok(figures)
 }
 
-/// A `CFF ` whose codes have these advances, where there are own glyphs.
-fn with_advances(
-    alloc: Global,
-    owns: usize,
-    advances: &[u16],
-    cff: Vec<u8>,
-) -> Result<Vec<u8>, Error> {
-    if owns == 0 {
-        return Ok(cff);
-    }
+/// A `CFF ` whose codes have these advances.
+fn with_advances(alloc: Global, advances: &[u16], cff: Vec<u8>) -> Result<Vec<u8>, Error> {
     match with_widths(alloc, &cff, advances)? {
         Some(new) => Ok(new),
         None => Ok(cff),
@@ -155,7 +147,6 @@ fn repeated(
     alloc: Global,
     cff: &[u8],
     others: &[OwnGlyph<'_>],
-    owns: usize,
     advances: &[u16],
     drawings: &[Drawing],
 ) -> Result<Drawn, Error> {
@@ -164,7 +155,7 @@ fn repeated(
     }
     let figures = figures_of(alloc, others, drawings)?;
     let again = with_repeats(alloc, cff, &figures)?;
-    let program = with_advances(alloc, owns, advances, again)?;
+    let program = with_advances(alloc, advances, again)?;
     Ok(Drawn { program, map: None })
 }
 
@@ -189,7 +180,7 @@ pub fn draw_codes(
     match kind {
         ProgramKind::TrueType => mapped(alloc, program, others, owns, drawings),
         ProgramKind::BareCff | ProgramKind::OpenType => {
-            repeated(alloc, &program, others, owns, advances, drawings)
+            repeated(alloc, &program, others, advances, drawings)
         }
     }
 }

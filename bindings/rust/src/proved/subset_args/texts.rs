@@ -123,7 +123,7 @@ fn expected(wrong: Wrong) -> &'static str {
     match wrong {
         Wrong::NoInput => "expected: the file of a font, or - for standard input",
         Wrong::NoOutput => {
-            "expected: a file for the new font, by -o or behind IN; - is standard output"
+            "expected: a file for the new font, by -o or after IN; - is standard output"
         }
         Wrong::NoIndex | Wrong::Index | Wrong::FaceIndex => {
             "expected: the face of a collection, from 0; of other fonts 0"

@@ -15,7 +15,7 @@ returns-clause-ok c =
     let f : Item → Figured = beside_unless c.args.as_they_are c.args.choice.now in
     let share : List ℕ = c.first_share-share.result.now in
     let of_share : visual c.args.direction share ≡ first_share c.args.direction (length is) is =
-    ap (visual c.args.direction) (c.first_share-share.ensures ∙ ap (λ (t : List ℕ). take (first_count (length is) t) t) c.text_of.ensures) in
+    ap (visual c.args.direction) (c.first_share-share.ensures ∙ ap (λ (t : List ℕ). take (first_count (length is) t) t) c.text_of-text.ensures) in
     let made : List Figured = cut_one c.args.choice.now (visual c.args.direction share) (figure_seen c.in_ok-figure.figure) in
     on_ok_then c.push_each-2.result c.push_each-2.ensures.ok
     (λ d. three_put (figures_seen c.args.figures.now.items) (figures_seen c.push_each.new.figures.items) (figures_seen c.push_cut_one.new.figures.items) (figures_seen c.push_each-2.new.figures.items)

@@ -1,5 +1,4 @@
 use Rattle.std.proofs.Common.{◌≡◌, true, false, sym, ap, subst, ◌∙◌, inr}
-use Rattle.std.specs.Prelude.{is_some}
 use Rattle.subsetter_base.specs.declared.error.Error.TheVariants.{OutOfMemory}
 use Rattle.subsetter_variable.specs.Subset.{HasOpeningFaultAt}
 use Rattle.subsetter_sfnt.specs.FontAt.{font_at}
@@ -9,27 +8,27 @@ use Rattle.pdf_codes.specs.Shown.{has_long_text, uses_of}
 use Rattle.pdf_values.specs.Permission.{is_permitted}
 use Rattle.pdf_values.specs.declared.permission.Permission.{Permission}
 use Rattle.pdf_font.specs.Opened.{IsOpened}
-use Rattle.pdf_font.specs.PdfFont.{font_of, has_bitmaps_alone}
-use Rattle.pdf_font.proofs.Refused.{alone_final, first_alone, first_forbidden, first_long, first_none, first_unopened, forbidden, forbidden_final, named, not_memory, of_alone, permission_found, too_long, too_long_final, unopened, unopened_final}
+use Rattle.pdf_font.specs.PdfFont.{font_of, lacks_outlines}
+use Rattle.pdf_font.proofs.Refused.{bare_final, first_bare, first_forbidden, first_long, first_none, first_unopened, forbidden, forbidden_final, named, not_memory, of_bare, permission_found, too_long, too_long_final, unopened, unopened_final}
 use Rattle.pdf_font.proofs.call.pdf_font.Goals as goal
 
-pub returns-then-is_some-clause-err : goal.returns-then-is_some-clause-err
-returns-then-is_some-clause-err c =
+pub returns-then-lacks_outlines-clause-err : goal.returns-then-lacks_outlines-clause-err
+returns-then-lacks_outlines-clause-err c =
     let font : Font = font_of c.args.«data».now c.args.index c.args.options.now in
-    let alone : has_bitmaps_alone font ≡ true = ap is_some (sym c.bitmaps_alone.ensures) ∙ (sym c.is_some.ensures ∙ c.if-is_some.true) in
-    inr (of_alone font c.args.coordinates.now c.args.options.now (uses_of c.args.shown.now) alone)
+    let lacks : lacks_outlines font ≡ true = sym c.lacks_outlines.ensures ∙ c.if-lacks_outlines.true in
+    inr (of_bare font c.args.coordinates.now c.args.options.now (uses_of c.args.shown.now) lacks)
 
-pub returns-then-is_some-clause-no_answer : goal.returns-then-is_some-clause-no_answer
-returns-then-is_some-clause-no_answer c =
+pub returns-then-lacks_outlines-clause-no_answer : goal.returns-then-lacks_outlines-clause-no_answer
+returns-then-lacks_outlines-clause-no_answer c =
     let font : Font = font_of c.args.«data».now c.args.index c.args.options.now in
-    let alone : has_bitmaps_alone font ≡ true = ap is_some (sym c.bitmaps_alone.ensures) ∙ (sym c.is_some.ensures ∙ c.if-is_some.true) in
-    inr (alone_final font c.args.coordinates.now c.args.options.now (uses_of c.args.shown.now) alone)
+    let lacks : lacks_outlines font ≡ true = sym c.lacks_outlines.ensures ∙ c.if-lacks_outlines.true in
+    inr (bare_final font c.args.coordinates.now c.args.options.now (uses_of c.args.shown.now) lacks)
 
-pub returns-then-is_some-clause-first : goal.returns-then-is_some-clause-first
-returns-then-is_some-clause-first c =
+pub returns-then-lacks_outlines-clause-first : goal.returns-then-lacks_outlines-clause-first
+returns-then-lacks_outlines-clause-first c =
     let font : Font = font_of c.args.«data».now c.args.index c.args.options.now in
-    let alone : has_bitmaps_alone font ≡ true = ap is_some (sym c.bitmaps_alone.ensures) ∙ (sym c.is_some.ensures ∙ c.if-is_some.true) in
-    first_alone font c.args.coordinates.now c.args.options.now (uses_of c.args.shown.now) alone
+    let lacks : lacks_outlines font ≡ true = sym c.lacks_outlines.ensures ∙ c.if-lacks_outlines.true in
+    first_bare font c.args.coordinates.now c.args.options.now (uses_of c.args.shown.now) lacks
 
 pub returns-in-Err-clause-err : goal.returns-in-Err-clause-err
 returns-in-Err-clause-err c =
@@ -53,7 +52,7 @@ pub returns-in-Err-clause-first : goal.returns-in-Err-clause-first
 returns-in-Err-clause-first c =
     let font : Font = font_of c.args.«data».now c.args.index c.args.options.now in
     let fault = subst (λ (x : Extras). HasOpeningFaultAt (font_at c.args.«data».now c.args.index x) c.in-Err.error) c.extras.ensures c.in-Err.ensures.err in
-    let other : has_bitmaps_alone font ≡ false = ap is_some (sym c.bitmaps_alone.ensures) ∙ (sym c.is_some.ensures ∙ c.if-is_some.false) in
+    let other : lacks_outlines font ≡ false = sym c.lacks_outlines.ensures ∙ c.if-lacks_outlines.false in
     first_unopened font c.args.coordinates.now c.args.options.now (uses_of c.args.shown.now) other c.in-Err.error fault
 
 pub returns-then-not-is_permitted-clause-err : goal.returns-then-not-is_permitted-clause-err

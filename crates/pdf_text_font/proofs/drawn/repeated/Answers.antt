@@ -2,7 +2,7 @@ use Rattle.std.proofs.Common.{refl, sym, subst, ◌∙◌, List, ℕ, Option, in
 use Rattle.std.proofs.lemmas.Result.{err_from_is_err_and}
 use Rattle.cff_repeats.specs.Laws.{HasFigures}
 use Rattle.pdf_text_font.specs.Drawn.{moved}
-use Rattle.pdf_text_font.proofs.DrawnSteps.{not_repeated}
+use Rattle.pdf_text_font.proofs.DrawnSteps.{not_repeated, widths_read}
 use Rattle.pdf_text_font.proofs.drawn.repeated.Goals as goal
 
 pub returns-then-not-are_still-clause-err : goal.returns-then-not-are_still-clause-err
@@ -18,6 +18,7 @@ returns-clause-ok c = record {
   still = sym c.are_still.ensures ∙ c.if-not-are_still.false;
   again = c.in_ok-again.again.items;
   figures = subst (λ (l : List (Option ℕ)). HasFigures l c.args.cff.now c.in_ok-again.again.items) (c.deref.ensures.value ∙ c.in_ok-figures.ensures.ok) c.in_ok-again.ensures.ok;
-  widths = c.in_ok-program.ensures.ok;
+  exact = c.in_ok-program.ensures.ok;
+  widths = widths_read c.args.cff.now c.deref.result.now c.args.advances.now c.in_ok-again.again.items c.in_ok-program.program.items c.in_ok-again.ensures.exact c.in_ok-program.ensures.ok;
   none = refl;
 }

@@ -5,8 +5,7 @@ use crate::rattle::prelude::String;
 
 use crate::proved::font_reasons::{count_glyphs, Call};
 use crate::proved::subset_font::making::subset::make_of;
-use crate::proved::subset_font::refusals::hint::found::find_hint;
-use crate::proved::subset_font::refusals::second_look::look_after;
+use crate::proved::subset_font::refusals::second_look::all_known;
 use crate::proved::subset_task::making::requested::first_glyphs;
 use crate::proved::subset_task::refusals::failure::Failure;
 use crate::proved::subset_task::refusals::hint::text::Hint;
@@ -106,9 +105,8 @@ fn reason_of(
     let limits = limits_for(font, index);
     let pieces = [RequestedGlyphs::Every];
     let task = task_for(index, limits, &pieces);
-    let hint = find_hint(failure, font, &task);
-    let seen = look_after(alloc, Call::Subset, failure, font, &task, &glyphs)?;
-    text_of(alloc, hint.or(seen))
+    let hint = all_known(alloc, Call::Subset, failure, font, &task, &glyphs)?;
+    text_of(alloc, hint)
 }
 
 /// Whether memory ran out.

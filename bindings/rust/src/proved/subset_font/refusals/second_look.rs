@@ -2,7 +2,7 @@
 //! Why a font is refused, by a second look at the glyphs that are picked: the tables are read, charstrings are run, and what varies is read.
 
 use crate::proved::font_reasons::{explain, no_table, Asked, Call, Reason};
-use crate::proved::subset_font::refusals::hint::found::shown;
+use crate::proved::subset_font::refusals::hint::found::{find_hint, shown};
 use crate::proved::subset_task::refusals::failure::Failure;
 use crate::proved::subset_task::refusals::hint::text::Hint;
 use crate::proved::subset_task::task::Task;
@@ -75,4 +75,17 @@ pub fn look_after(
         Failure::Error(error) => look_again(alloc, call, *error, font, task, glyphs),
         _ => Ok(None),
     }
+}
+
+/// What is known of a failure at once, or else what it shows.
+pub fn all_known(
+    alloc: Global,
+    call: Call,
+    failure: &Failure,
+    font: &[u8],
+    task: &Task<'_>,
+    glyphs: &[u16],
+) -> Result<Option<Hint>, AllocError> {
+    let seen = look_after(alloc, call, failure, font, task, glyphs)?;
+    Ok(find_hint(failure, font, task).or(seen))
 }

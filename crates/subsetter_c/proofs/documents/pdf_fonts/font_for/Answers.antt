@@ -1,29 +1,28 @@
 use Rattle.std.proofs.Common.{◌≡◌, true, false, sym, ap, ◌∙◌}
-use Rattle.std.specs.Prelude.{is_some}
 use Rattle.subsetter_sfnt.specs.Read.{Font}
 use Rattle.pdf_codes.specs.Shown.{uses_of}
-use Rattle.pdf_font.specs.PdfFont.{font_of, has_bitmaps_alone}
+use Rattle.pdf_font.specs.PdfFont.{font_of, lacks_outlines}
 use Rattle.subsetter_pdf_c.specs.Entries.{uses_in}
 use Rattle.subsetter_c.specs.Settings.{settings_of}
-use Rattle.subsetter_c.proofs.DocumentsLaws.PdfFonts.{alone, answered, refused_by, unopened_at, uses_there}
+use Rattle.subsetter_c.proofs.DocumentsLaws.PdfFonts.{answered, bare, refused_by, unopened_at, uses_there}
 use Rattle.subsetter_c.proofs.documents.pdf_fonts.font_for.Goals as goal
 
-pub returns-then-is_some-clause-err : goal.returns-then-is_some-clause-err
-returns-then-is_some-clause-err c =
+pub returns-then-lacks_outlines-clause-err : goal.returns-then-lacks_outlines-clause-err
+returns-then-lacks_outlines-clause-err c =
     let font : Font = font_of c.args.font.now c.args.index c.args.options.now in
-    let is : has_bitmaps_alone font ≡ true = ap is_some (sym c.bitmaps_alone.ensures) ∙ (sym c.is_some.ensures ∙ c.if-is_some.true) in
-    alone font (settings_of c.args.coordinates.now) c.args.options.now (uses_in c.args.glyphs.now c.args.text.now c.args.ends.now) is
+    let is : lacks_outlines font ≡ true = sym c.lacks_outlines.ensures ∙ c.if-lacks_outlines.true in
+    bare font (settings_of c.args.coordinates.now) c.args.options.now (uses_in c.args.glyphs.now c.args.text.now c.args.ends.now) is
 
 pub returns-in-Err-clause-err : goal.returns-in-Err-clause-err
 returns-in-Err-clause-err c =
     let font : Font = font_of c.args.font.now c.args.index c.args.options.now in
-    let other : has_bitmaps_alone font ≡ false = ap is_some (sym c.bitmaps_alone.ensures) ∙ (sym c.is_some.ensures ∙ c.if-is_some.false) in
+    let other : lacks_outlines font ≡ false = sym c.lacks_outlines.ensures ∙ c.if-lacks_outlines.false in
     unopened_at c.args.font.now c.args.index (settings_of c.args.coordinates.now) c.args.options.now (uses_in c.args.glyphs.now c.args.text.now c.args.ends.now) c.extras-extras.result c.extras-extras.ensures other c.in-Err.error c.in-Err.ensures.err c.in-Err.ensures.before_memory
 
 pub returns-in-Err-shown_for-clause-err : goal.returns-in-Err-shown_for-clause-err
 returns-in-Err-shown_for-clause-err c =
     let font : Font = font_of c.args.font.now c.args.index c.args.options.now in
-    let other : has_bitmaps_alone font ≡ false = ap is_some (sym c.bitmaps_alone.ensures) ∙ (sym c.is_some.ensures ∙ c.if-is_some.false) in
+    let other : lacks_outlines font ≡ false = sym c.lacks_outlines.ensures ∙ c.if-lacks_outlines.false in
     unopened_at c.args.font.now c.args.index (settings_of c.args.coordinates.now) c.args.options.now (uses_in c.args.glyphs.now c.args.text.now c.args.ends.now) c.extras-extras.result c.extras-extras.ensures other c.in-Err-shown_for.error c.in-Err-shown_for.ensures.err c.in-Err-shown_for.ensures.before_memory
 
 pub returns-clause-ok : goal.returns-clause-ok

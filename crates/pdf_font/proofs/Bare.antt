@@ -1,21 +1,21 @@
--- A font that has bitmaps and no outlines can't be opened.
+-- A face without outlines can't be opened.
 use Rattle.std.proofs.Common.{◌≡◌, ℕ, Bool, true, false, List, Option, Some, None, refl, sym, ap, subst, ◌∙◌}
-use Rattle.std.specs.Prelude.{codes, is_some, ◌||◌, if◌then◌else◌, IsSome}
+use Rattle.std.specs.Prelude.{codes, is_some, not, ◌||◌, IsSome}
 use Rattle.std.specs.Option.{option_and_then}
 use Rattle.std.specs.Str.{bytes_eq}
-use Rattle.subsetter_base.specs.declared.tag.Tag.{Tag}
 use Rattle.subsetter_base.specs.declared.error.Error.TheVariants.{UnknownKind}
+use Rattle.subsetter_base.proofs.Lists.{and_parts}
 use Rattle.subsetter_base.proofs.Options.{none_of}
 use Rattle.subsetter_sfnt.specs.Extras.{by_hinting, by_names, by_glyph_names, is_hinting_table}
 use Rattle.subsetter_sfnt.specs.Fault.{HasOpeningFault, no_outlines}
-use Rattle.subsetter_sfnt.specs.Read.{Font, header_by_kind, header_offset, kind_at, records, records_at, stored, table, table_in}
+use Rattle.subsetter_sfnt.specs.Read.{Font, header_by_kind, header_offset, kind_at, records, records_at, stored, table}
 use Rattle.subsetter_sfnt.specs.declared.face.FontKind.{FontKind}
 use Rattle.subsetter_sfnt.specs.declared.face.FontKind.TheVariants.{Collection, Single}
 use Rattle.subsetter_variable.specs.DefaultLocation.{IsCff2Font}
 use Rattle.subsetter_variable.specs.Subset.{HasOpeningFaultAt, whole}
 use Rattle.subsetter_variable.proofs.Unopened.{same_stored}
-use Rattle.subsetter_sfnt.specs.Alone.{bitmap_table, has_outlines}
-use Rattle.pdf_font.specs.PdfFont.{has_bitmaps_alone}
+use Rattle.subsetter_sfnt.specs.Alone.{has_outlines}
+use Rattle.pdf_font.specs.PdfFont.{lacks_outlines}
 
 -- ---- tables of outlines are requested always
 
@@ -39,13 +39,13 @@ split false false c h = (refl, (refl, h))
 split false true c h = absurd (let both : true ≡ false = h in cc)
 split true b c h = absurd (let both : true ≡ false = h in cc)
 
-bare : (has : Bool) (found : Option Tag) → is_some (if has then None else found) ≡ true → (has ≡ false) × (is_some found ≡ true)
-bare false found h = (refl, h)
-bare true found h = absurd (let both : false ≡ true = h in cc)
+not_true : (b : Bool) → not b ≡ true → b ≡ false
+not_true false h = refl
+not_true true h = absurd (let both : false ≡ true = h in cc)
 
-filed : (bytes : List ℕ) (directory : Option (List ℕ)) → is_some (bitmap_table (λ tag. option_and_then (λ d. table_in bytes d tag) directory)) ≡ true → IsSome directory
-filed bytes (Some d) h = refl
-filed bytes None h = absurd (let both : false ≡ true = h in cc)
+there : (o : Option (List ℕ)) → is_some o ≡ true → IsSome o
+there (Some d) h = refl
+there None h = absurd (let both : false ≡ true = h in cc)
 
 -- the directory doesn't depend on what is requested
 same_header : (font : Font) → header_offset (whole font) ≡ header_offset font
@@ -60,12 +60,12 @@ same_header font = by (kind_at font.bytes 0)
 same_records : (font : Font) → records (whole font) ≡ records font
 same_records font = ap (option_and_then (λ at. records_at font.bytes at)) (same_header font)
 
-module _ (font : Font) (alone : has_bitmaps_alone font ≡ true) where
-  parts : (has_outlines (stored (whole font)) ≡ false) × (is_some (bitmap_table (stored (whole font))) ≡ true)
-  parts = bare (has_outlines (stored (whole font))) (bitmap_table (stored (whole font))) alone
+module _ (font : Font) (bare : lacks_outlines font ≡ true) where
+  parts : (is_some (records (whole font)) ≡ true) × (not (has_outlines (stored (whole font))) ≡ true)
+  parts = and_parts (is_some (records (whole font))) (not (has_outlines (stored (whole font)))) bare
 
   lacks : (is_some (stored (whole font) (codes "glyf")) ≡ false) × ((is_some (stored (whole font) (codes "CFF ")) ≡ false) × (is_some (stored (whole font) (codes "CFF2")) ≡ false))
-  lacks = split (is_some (stored (whole font) (codes "glyf"))) (is_some (stored (whole font) (codes "CFF "))) (is_some (stored (whole font) (codes "CFF2"))) parts.0
+  lacks = split (is_some (stored (whole font) (codes "glyf"))) (is_some (stored (whole font) (codes "CFF "))) (is_some (stored (whole font) (codes "CFF2"))) (not_true (has_outlines (stored (whole font))) parts.1)
 
   absent : (tag : List ℕ) → is_some (stored (whole font) tag) ≡ false → stored font tag ≡ None
   absent tag none = sym (same_stored font tag) ∙ none_of (stored (whole font) tag) none
@@ -77,8 +77,8 @@ module _ (font : Font) (alone : has_bitmaps_alone font ≡ true) where
   not_cff2 is = let there = is.cff2 in let none = none_of (stored (whole font) (codes "CFF2")) lacks.1.1 in cc
 
   -- it has no outlines
-  pub alone_unopened : HasOpeningFaultAt font UnknownKind
-  alone_unopened = record {
-    fault = no_outlines (subst IsSome (same_records font) (filed font.bytes (records (whole font)) parts.1)) (unasked (codes "glyf") refl refl refl refl lacks.0) (unasked (codes "CFF ") refl refl refl refl lacks.1.0) (unasked (codes "CFF2") refl refl refl refl lacks.1.1);
+  pub bare_unopened : HasOpeningFaultAt font UnknownKind
+  bare_unopened = record {
+    fault = no_outlines (subst IsSome (same_records font) (there (records (whole font)) parts.0)) (unasked (codes "glyf") refl refl refl refl lacks.0) (unasked (codes "CFF ") refl refl refl refl lacks.1.0) (unasked (codes "CFF2") refl refl refl refl lacks.1.1);
     not_cff2 = not_cff2;
   }
