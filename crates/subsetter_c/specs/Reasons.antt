@@ -42,9 +42,12 @@ question call index settings glyphs words e = record {
   depth = requested_depth words;
 }
 
-abbrev pub reason_by : ℕ → (Error → Question) → ℕ → List ℕ → Option Reason
+unfoldable pub reason_of : Question → List ℕ → Option Reason
+reason_of asked font = explained asked font
+
+unfoldable pub reason_by : ℕ → (Error → Question) → ℕ → List ℕ → Option Reason
 reason_by status asked index font =
-    if status == not_permitted then prohibition (record { bytes = font; index = index; extras = all_extras }) else option_and_then (λ e. explained (asked e) font) (error_of status)
+    if status == not_permitted then prohibition (record { bytes = font; index = index; extras = all_extras }) else option_and_then (λ e. reason_of (asked e) font) (error_of status)
 
 -- no text where the font doesn't show it
 abbrev pub text_of : Option Reason → List ℕ

@@ -5,7 +5,7 @@ ghost use Rattle.subsetter_base.specs.declared.error.Error.TheVariants.{OutOfMem
 ghost use Rattle.subsetter_c.specs.Answers.Handed.{IsHandedOver, IsNothingHanded};
 ghost use Rattle.subsetter_c.specs.Answers.Status.{unknown_option};
 ghost use Rattle.subsetter_c.specs.Options.{AreKnown, AreRequested};
-ghost use Rattle.subsetter_c.specs.Reasons.{IsTextAnswered, call_named, error_of, explained_text, question, reason_by, text_of};
+ghost use Rattle.subsetter_c.specs.Reasons.{IsTextAnswered, call_named, error_of, explained_text, question, reason_by, reason_of, text_of};
 ghost use Rattle.subsetter_c.specs.Settings.{settings_of};
 
 use crate::answers::handing::hand_bytes;
@@ -49,8 +49,46 @@ fn error_of(status: u32) -> Option<Error>
     }
 }
 
-/// Why a call is refused with a status, if the font shows it.
+/// Why a call is refused, if the font shows it.
+#[tactic(auto, unfolding(crate::specs::Reasons::reason_of))]
+fn reason_of(alloc: Global, font: &[u8], asked: &Asked<'_>) -> Result<Option<Reason>, Error>
+    ensures ok { IfOk result (λ r. r ≡ reason_of asked.now font.now) }
+    ensures err { IfErr result (λ e. e ≡ OutOfMemory) }
+{
+    explain(alloc, font, asked)
+}
+
+/// Why a call is refused with an error, if the font shows it.
 #[tactic(auto, using(crate::proofs::Questions::answered))]
+fn reason_with(
+    alloc: Global,
+    call: Call,
+    error: Error,
+    font: &[u8],
+    index: u32,
+    settings: &[(Tag, i32)],
+    glyphs: &[u16],
+    words: &[u32],
+    options: &Options,
+) -> Result<Option<Reason>, Error>
+    requires { AreRequested words.now options.now }
+    ensures ok { IfOk result (λ r. r ≡ reason_of (question call index settings.now glyphs.now words.now error) font.now) }
+    ensures err { IfErr result (λ e. e ≡ OutOfMemory) }
+{
+    let asked = Asked {
+        call,
+        error,
+        index,
+        glyphs,
+        coordinates: settings,
+        extras: options.extras,
+        limits: options.limits,
+    };
+    reason_of(alloc, font, &asked)
+}
+
+/// Why a call is refused with a status, if the font shows it.
+#[tactic(auto, unfolding(crate::specs::Reasons::reason_by))]
 fn reason_by(
     alloc: Global,
     call: Call,
@@ -69,19 +107,12 @@ fn reason_by(
     if status == NOT_PERMITTED {
         return Ok(find_prohibition(font, index));
     }
-    let Some(error) = error_of(status) else {
-        return Ok(None);
-    };
-    let asked = Asked {
-        call,
-        error,
-        index,
-        glyphs,
-        coordinates: settings,
-        extras: options.extras,
-        limits: options.limits,
-    };
-    explain(alloc, font, &asked)
+    match error_of(status) {
+        Some(error) => reason_with(
+            alloc, call, error, font, index, settings, glyphs, words, options,
+        ),
+        None => Ok(None),
+    }
 }
 
 /// The text of a reason; an empty one of none.

@@ -3,6 +3,7 @@ use Rattle.std.specs.Prelude.{ℕ, ℤ, Bool, if◌then◌else◌, List, [], Opt
 use Rattle.std.specs.Option.{option_copied, option_map}
 use Rattle.subsetter_base.specs.declared.error.Error.{Error as Refusal}
 use Rattle.subsetter_base.specs.declared.error.Error.TheVariants.{MalformedFont}
+use Rattle.subsetter_base.specs.declared.tag.Tag.{Tag}
 use Rattle.font_reasons.specs.Calls.{Question}
 use Rattle.font_reasons.specs.Explained.{explained}
 use Rattle.font_reasons.specs.File.{or_else}
@@ -23,14 +24,14 @@ use Rattle.subset_task.specs.declared.task.Task.{Task}
 abbrev pub call_of : Bool → Bool → Bool → Call
 call_of pdf at widths = if pdf then PdfFont else if at then (if widths then EmbedAt else SubsetAt) else if widths then Embed else Subset
 
--- what it asks for, of these glyphs
-abbrev pub question : Call → Refusal → Task → List ℕ → Question
-question call e task glyphs = record {
+-- what it asks for, of these glyphs at these coordinates
+abbrev pub question : Call → Refusal → Task → List (Tag × ℤ) → List ℕ → Question
+question call e task settings glyphs = record {
   call = call;
   error = e;
   index = task.index;
   glyphs = glyphs;
-  coordinates = unwrap_or (option_copied task.at) [];
+  coordinates = settings;
   extras = task.options.extras;
   tokens = task.options.limits.tokens;
   depth = task.options.limits.depth;
@@ -41,12 +42,12 @@ abbrev pub uncounted : Refusal → Face → List ℕ → Option Reason
 uncounted MalformedFont font [] = no_table font (record { 0 = codes "maxp" })
 uncounted e font glyphs = None
 
-abbrev pub seen_again : Call → Refusal → Task → List ℕ → List ℕ → Option Hint
-seen_again call e task glyphs bytes = option_map Font (or_else (explained (question call e task glyphs) bytes) (uncounted e (face_of task bytes) glyphs))
+unfoldable pub seen_again : Call → Refusal → Task → List (Tag × ℤ) → List ℕ → List ℕ → Option Hint
+seen_again call e task settings glyphs bytes = option_map Font (or_else (explained (question call e task settings glyphs) bytes) (uncounted e (face_of task bytes) glyphs))
 
 -- after a failure
 abbrev pub seen_after : Call → Failure → Task → List ℕ → List ℕ → Option Hint
-seen_after call (Error e) task glyphs bytes = seen_again call e task glyphs bytes
+seen_after call (Error e) task glyphs bytes = seen_again call e task (unwrap_or (option_copied task.at) []) glyphs bytes
 seen_after call other task glyphs bytes = None
 
 -- what is known at once, or else this

@@ -48,23 +48,25 @@ fn uncounted(error: Error, font: &[u8], task: &Task<'_>, glyphs: &[u16]) -> Opti
     }
 }
 
-/// What the font shows of why a call on these glyphs is refused by an error, within the limits of the task.
+/// What the font shows of why a call on these glyphs at these coordinates is refused by an error, within the limits of the task.
+#[tactic(auto, unfolding(crate::specs::Refusals::SecondLook::seen_again))]
 fn look_again(
     alloc: Global,
     call: Call,
     error: Error,
     font: &[u8],
     task: &Task<'_>,
+    settings: &[(Tag, i32)],
     glyphs: &[u16],
 ) -> Result<Option<Hint>, AllocError>
-    ensures { IfOk result (λ hint. hint ≡ seen_again call error task.now glyphs.now font.now) }
+    ensures { IfOk result (λ hint. hint ≡ seen_again call error task.now settings.now glyphs.now font.now) }
 {
     let asked = Asked {
         call,
         error,
         index: task.index,
         glyphs,
-        coordinates: settings_of(task),
+        coordinates: settings,
         extras: task.options.extras,
         limits: task.options.limits,
     };
@@ -86,7 +88,10 @@ pub fn look_after(
     ensures { IfOk result (λ hint. hint ≡ seen_after call failure.now task.now glyphs.now font.now) }
 {
     match failure {
-        Failure::Error(error) => look_again(alloc, call, *error, font, task, glyphs),
+        Failure::Error(error) => {
+            let settings = settings_of(task);
+            look_again(alloc, call, *error, font, task, settings, glyphs)
+        }
         _ => Ok(None),
     }
 }
