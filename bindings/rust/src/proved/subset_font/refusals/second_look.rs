@@ -38,13 +38,14 @@ fn uncounted(error: Error, font: &[u8], task: &Task<'_>, glyphs: &[u16]) -> Opti
     }
 }
 
-/// What the font shows of why a call on these glyphs is refused by an error, within the limits of the task.
+/// What the font shows of why a call on these glyphs at these coordinates is refused by an error, within the limits of the task.
 fn look_again(
     alloc: Global,
     call: Call,
     error: Error,
     font: &[u8],
     task: &Task<'_>,
+    settings: &[(Tag, i32)],
     glyphs: &[u16],
 ) -> Result<Option<Hint>, AllocError> {
     let asked = Asked {
@@ -52,7 +53,7 @@ fn look_again(
         error,
         index: task.index,
         glyphs,
-        coordinates: settings_of(task),
+        coordinates: settings,
         extras: task.options.extras,
         limits: task.options.limits,
     };
@@ -72,7 +73,10 @@ pub fn look_after(
     glyphs: &[u16],
 ) -> Result<Option<Hint>, AllocError> {
     match failure {
-        Failure::Error(error) => look_again(alloc, call, *error, font, task, glyphs),
+        Failure::Error(error) => {
+            let settings = settings_of(task);
+            look_again(alloc, call, *error, font, task, settings, glyphs)
+        }
         _ => Ok(None),
     }
 }
