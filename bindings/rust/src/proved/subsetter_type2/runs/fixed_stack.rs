@@ -24,8 +24,6 @@ impl<T: Copy, const N: usize> FixedStack<T, N> {
     }
 
     /// The items, the last one pushed last.
-    #[cfg(feature = "variable-fonts")]
-    #[cfg(feature = "variable-fonts")]
     pub fn as_slice(&self) -> &[T] {
         &self.items[..self.len]
     }
