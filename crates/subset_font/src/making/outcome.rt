@@ -234,7 +234,7 @@ fn with_more<'a>(
 }
 
 /// The task of a plan at coordinates.
-fn task_at<'a>(task: &Task<'a>, at: &'a [(Tag, i32)]) -> Task<'a>
+pub fn task_at<'a>(task: &Task<'a>, at: &'a [(Tag, i32)]) -> Task<'a>
     ensures { result ≡ record task.now { at = Some at.entry } }
 {
     Task {

@@ -203,7 +203,7 @@ fn with_more<'a>(
 }
 
 /// The task of a plan at coordinates.
-fn task_at<'a>(task: &Task<'a>, at: &'a [(Tag, i32)]) -> Task<'a> {
+pub fn task_at<'a>(task: &Task<'a>, at: &'a [(Tag, i32)]) -> Task<'a> {
     Task {
         requested: task.requested,
         index: task.index,

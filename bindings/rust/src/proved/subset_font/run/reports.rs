@@ -8,7 +8,7 @@ use crate::proved::subset_args::{
     codes_descend, descends, find_wrong, FileKind, Glyphs, Job, Shown, Topic, CODES_EXPECTED,
     FEW_EXPECTED, ORDER_EXPECTED, PARTS_EXPECTED,
 };
-use crate::proved::subset_font::making::outcome::{other_face, takes_default};
+use crate::proved::subset_font::making::outcome::{other_face, takes_default, task_at};
 use crate::proved::subset_font::refusals::hint::found::{find_axes_hint, find_hint, no_axes};
 use crate::proved::subset_font::refusals::limit_hint::find_limit_hint;
 use crate::proved::subset_font::refusals::second_look::{call_of, look_after};
@@ -271,8 +271,8 @@ fn at_given<'a>(font: &[u8], plan: &Plan<'a>) -> Option<&'a [(Tag, i32)]> {
     }
 }
 
-/// The task of a plan as a hint sees it, at these coordinates: with the widths, where they are printed, or a PDF has them.
-fn task_for_hint<'a>(plan: &Plan<'a>, at: Option<&'a [(Tag, i32)]>) -> Task<'a> {
+/// The task of a plan as a hint sees it: with the widths, where they are printed, or a PDF has them.
+fn task_for_hint<'a>(font: &[u8], plan: &Plan<'a>) -> Task<'a> {
     let task = plan.task;
     Task {
         requested: task.requested,
@@ -280,42 +280,54 @@ fn task_for_hint<'a>(plan: &Plan<'a>, at: Option<&'a [(Tag, i32)]>) -> Task<'a> 
         options: task.options,
         widths: task.widths || plan.pdf.is_some(),
         form: task.form,
-        at,
+        at: at_given(font, plan),
     }
 }
 
-/// What a second look at the glyphs of a plan shows of a font that is refused, at these coordinates; nothing where memory runs out.
-fn look_at<'a>(
+/// What a second look at the glyphs of a task shows of a font that is refused; nothing where memory runs out.
+fn look_with(
     alloc: Global,
     failure: &Failure,
     font: &[u8],
-    plan: &Plan<'a>,
-    at: Option<&'a [(Tag, i32)]>,
+    pdf: bool,
+    task: &Task<'_>,
 ) -> Option<Hint> {
-    let task = task_for_hint(plan, at);
-    let glyphs = match picked_in(alloc, font, &task) {
+    let glyphs = match picked_in(alloc, font, task) {
         Ok(picked) => picked.glyphs,
         Err(_) => Vec::new(alloc),
     };
-    let call = call_of(plan.pdf.is_some(), task.at.is_some(), task.widths);
-    look_after(alloc, call, failure, font, &task, &glyphs).unwrap_or(None)
+    let call = call_of(pdf, task.at.is_some(), task.widths);
+    look_after(alloc, call, failure, font, task, &glyphs).unwrap_or(None)
+}
+
+/// What it shows at coordinates.
+fn look_at(
+    alloc: Global,
+    failure: &Failure,
+    font: &[u8],
+    pdf: bool,
+    task: &Task<'_>,
+    at: &[(Tag, i32)],
+) -> Option<Hint> {
+    look_with(alloc, failure, font, pdf, &task_at(task, at))
 }
 
 /// What a second look shows, at the coordinates of the named instance if one is requested; that these can't be read, if so.
 fn second_look(alloc: Global, failure: &Failure, font: &[u8], plan: &Plan<'_>) -> Option<Hint> {
-    let index = plan.task.index;
+    let task = task_for_hint(font, plan);
+    let pdf = plan.pdf.is_some();
     match plan.instance {
-        Some(name) => match face_settings(alloc, font, index, name) {
-            Ok(at) => look_at(alloc, failure, font, plan, Some(&at)),
-            Err(_) => find_axes_hint(failure, font, index),
+        Some(name) => match face_settings(alloc, font, task.index, name) {
+            Ok(at) => look_at(alloc, failure, font, pdf, &task, &at),
+            Err(_) => find_axes_hint(failure, font, task.index),
         },
-        None => look_at(alloc, failure, font, plan, at_given(font, plan)),
+        None => look_with(alloc, failure, font, pdf, &task),
     }
 }
 
 /// What more is known of a font that is refused: at once, by a second look, or by the limits, which go first where charstrings are why.
 fn hint_for(alloc: Global, failure: &Failure, font: &[u8], plan: &Plan<'_>) -> Option<Hint> {
-    let hint = find_hint(failure, font, &task_for_hint(plan, at_given(font, plan)));
+    let hint = find_hint(failure, font, &task_for_hint(font, plan));
     if hint.is_some() {
         return hint;
     }
