@@ -100,7 +100,7 @@ fn is_forbidden(call: Call) -> bool {
 /// don't show it, or memory ran out.
 ///
 /// `data`, `index`, `variation_coordinates`, `glyphs` and `options` are those of the call; calls without coordinates don't look at
-/// them, and of the options of [`pdf`](crate::pdf) the limits alone count. A charstring is run within the limits, once at most, and
+/// them, and of the options of `pdf` the limits alone count. A charstring is run within the limits, once at most, and
 /// none after the first that can't be.
 ///
 /// ```
