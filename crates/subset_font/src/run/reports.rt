@@ -300,7 +300,7 @@ fn look_at(
 }
 
 /// What a second look shows, at the coordinates of the named instance if one is requested; that these can't be read, if so.
-fn second_look(alloc: Global, failure: &Failure, font: &[u8], plan: &Plan<'_>) -> Option<Hint> {
+fn look_twice(alloc: Global, failure: &Failure, font: &[u8], plan: &Plan<'_>) -> Option<Hint> {
     let task = task_for_hint(font, plan);
     let pdf = plan.pdf.is_some();
     match plan.instance {
@@ -309,6 +309,15 @@ fn second_look(alloc: Global, failure: &Failure, font: &[u8], plan: &Plan<'_>) -
             Err(_) => find_axes_hint(failure, font, task.index),
         },
         None => look_with(alloc, failure, font, pdf, &task),
+    }
+}
+
+/// What a second look shows, where the font is why a run failed.
+fn second_look(alloc: Global, failure: &Failure, font: &[u8], plan: &Plan<'_>) -> Option<Hint> {
+    match failure {
+        Failure::Error(Error::OutOfMemory) => None,
+        Failure::Error(_) => look_twice(alloc, failure, font, plan),
+        _ => None,
     }
 }
 
