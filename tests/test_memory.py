@@ -64,6 +64,7 @@ ALLOWED = {
     ("subset_font", "parts_of"): (1, "passes on that of `make_of`"),
     ("subset_font", "show_face"): (3, "`tables_of`, `pictures_of` and `try_all` have no other error"),
     ("subset_font", "look_again"): (1, "`explain` has no other error"),
+    ("subset_font", "second_look"): (1, "passes it by"),
     ("subset_font", "known_kinds"): (2, "that of `kinds_of`, by its name"),
     ("subset_font", "is_blank"): (2, "that of `unseen_glyphs`, by its name"),
     ("subset_font", "unless_blank"): (1, "`is_blank` has no other error"),
