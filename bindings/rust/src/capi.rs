@@ -21,7 +21,7 @@ use core::fmt::Write;
 pub struct Choices(proved::Options);
 
 impl Choices {
-    /// At most so many tokens (also none at all) and such a depth; all is kept, and the font has no bound. None where the
+    /// At most `tokens` tokens (also none at all) and this depth; all is kept, and the font has no bound. None where the
     /// depth is 0.
     pub fn new(tokens: u32, depth: u8) -> Option<Self> {
         let limits = proved::Limits::new(tokens, depth)?;

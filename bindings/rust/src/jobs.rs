@@ -57,6 +57,9 @@ pub fn main(rt: HostRuntime) -> End {
     let words = read_arguments(&rt);
     match words.as_ref().map(|words| jobs_in(words)) {
         Ok(Some((file, number))) => End::Status(run_jobs(&rt, file, number)),
+        Ok(None) if matches!(&words, Ok(given) if is_apart(given)) => {
+            End::Status(refuse_apart(&rt))
+        }
         _ => End::Run(run_by(&rt, words)),
     }
 }
@@ -73,6 +76,15 @@ fn jobs_in(words: &[String]) -> Option<(&str, &str)> {
     }
 }
 
+/// Whether `--jobs` is an argument, where the arguments aren't `--batch FILE` and `--jobs N`.
+fn is_apart(words: &[String]) -> bool {
+    match words {
+        [jobs, ..] if jobs.as_str() == JOBS => true,
+        [batch, _, jobs, ..] => batch.as_str() == BATCH && jobs.as_str() == JOBS,
+        _ => false,
+    }
+}
+
 /// How many threads a number means.
 fn count_of(number: &str) -> Option<usize> {
     if !number.bytes().all(|byte| byte.is_ascii_digit()) {
@@ -82,7 +94,16 @@ fn count_of(number: &str) -> Option<usize> {
     (1..=MOST).contains(&count).then_some(count)
 }
 
-/// Reports a wrong N, and answers the status.
+/// Reports `--jobs` without `--batch FILE`, or beside more, and returns the status.
+fn refuse_apart(rt: &HostRuntime) -> u8 {
+    let failure = &Failure::Usage;
+    let _ = eprintln!(rt; "{}", Report { failure, file: None });
+    let _ = eprintln!(rt; "{} goes with {} FILE alone", JOBS, BATCH);
+    let _ = eprintln!(rt; "expected: {} FILE {} N", BATCH, JOBS);
+    failure.status()
+}
+
+/// Reports a wrong N, and returns the status.
 fn refuse(rt: &HostRuntime, number: &str) -> u8 {
     let failure = &Failure::Usage;
     let _ = eprintln!(rt; "{}", Report { failure, file: None });
@@ -91,7 +112,7 @@ fn refuse(rt: &HostRuntime, number: &str) -> u8 {
     failure.status()
 }
 
-/// Does what the lines of FILE request in N threads, and answers the status.
+/// Does what the lines of FILE request in N threads, and returns the status.
 fn run_jobs(rt: &HostRuntime, file: &str, number: &str) -> u8 {
     let count = match count_of(number) {
         Some(count) => count,
@@ -103,13 +124,13 @@ fn run_jobs(rt: &HostRuntime, file: &str, number: &str) -> u8 {
     }
 }
 
-/// The requests of FILE, read in so many threads, or the status where it can't be used.
+/// The requests of FILE, read in `count` threads, or the status where it can't be used.
 fn read_requests(rt: &HostRuntime, file: &str, count: usize) -> Result<Batch, u8> {
     let text = read_lines(rt, file)?;
     batch_or_status(rt, file, lines::requests_in(rt.alloc(), &text, count))
 }
 
-/// Does the requests of a batch, and answers the status.
+/// Does the requests of a batch, and returns the status.
 fn run_requests(rt: &HostRuntime, batch: Batch, count: usize) -> u8 {
     let is_shown = is_shown(rt);
     let lines = match BufWriter::new(rt.alloc(), io::writer(rt)) {
@@ -152,7 +173,7 @@ fn answer_all<W: Write>(
     Ok(())
 }
 
-/// Does the requests of these indexes, which are of one source, so many at a time, and writes the answers as they come. Where
+/// Does the requests of these indexes, which are of one source, `count` at a time, and writes the answers as they come. Where
 /// an answer can't be written no request is begun after those that are under way. Where the system has no thread left, those
 /// that there are do all.
 fn answer_source<W: Write>(

@@ -55,7 +55,7 @@ use crate::rattle::alloc::Global;
 use crate::{library, Error, Tag};
 use alloc::vec::Vec;
 
-/// A list with room for so many.
+/// A list with room for `count` items.
 pub(crate) fn with_room<T>(count: usize) -> Result<Vec<T>, Error> {
     let mut list = Vec::new();
     list.try_reserve_exact(count)
@@ -216,7 +216,7 @@ pub fn codes_of(shown: &[Shown<'_>], codes: Codes) -> Result<Vec<u16>, Error> {
 /// - [`FontError::NotPermitted`]: `fsType` of the table `OS/2` forbids embedding, subsets or outlines, and
 ///   [`Rights::Held`] isn't chosen.
 /// - [`FontError::TextTooLong`]: a text has more than 256 UTF-16 units (512 bytes: 9.10.3).
-/// - [`FontError::Subset`]: what [`embed_with_variations`](crate::embed_with_variations) answers; [`Error::MalformedFont`]
+/// - [`FontError::Subset`]: an error of [`embed_with_variations`](crate::embed_with_variations); [`Error::MalformedFont`]
 ///   where a font with outlines in `glyf` has no `maxp` (9.9); [`Error::OverflowError`] as in [`codes_of`].
 ///
 /// No value of the font descriptor is a reason: where a table is missing or cut, another source of the value is taken.
