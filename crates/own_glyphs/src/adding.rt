@@ -236,7 +236,7 @@ fn made(
 /// A font with own glyphs after those that it has, whose numbers, outlines and metrics stay: the i-th own one, from 0 on, has the
 /// number n + i, where n is numGlyphs.
 ///
-/// `font` is a TrueType subset, as `subset` returns for a font with `glyf`, and has `hmtx` and `maxp`. Tables that a subset
+/// `font` is a TrueType subset, as `subset` returns it for a font with `glyf`, and has `hmtx` and `maxp`. Tables that a subset
 /// doesn't have aren't kept.
 ///
 /// # Errors

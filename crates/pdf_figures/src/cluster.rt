@@ -55,7 +55,7 @@ fn after<'a, 'b>(items: &'b [Item<'a>], count: usize) -> &'b [Item<'a>]
     &items[count..]
 }
 
-/// The figure of a glyph: itself, or far off its advance an own glyph, unless it is taken as it is.
+/// The figure of a glyph: itself, or an own glyph where it is far off its advance and not taken as it is.
 fn figure_of<'a>(
     alloc: Global,
     choice: &Choice<'_>,

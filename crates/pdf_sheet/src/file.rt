@@ -51,7 +51,7 @@ pub fn body_of(alloc: Global, values: &[Vec<u8>]) -> Result<Body, Error>
     Ok(Body { text, offsets })
 }
 
-/// Puts offsets after others, each with the `start` bytes before them added.
+/// Puts offsets after others, each increased by `start`, the number of bytes before them.
 fn push_offsets(offsets: &mut Vec<usize>, start: usize, more: &[usize]) -> Result<(), Error>
     requires { All (λ o. start + o < 2 ^ 64) more.now }
     ensures ok { OnOk result (offsets.new.items ≡ offsets.old.items ++ map (λ o. start + o) more.now) }

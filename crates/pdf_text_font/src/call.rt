@@ -126,10 +126,10 @@ fn with_own(
 /// its CIDs.
 ///
 /// `data`, `index` and `coordinates` are as for `pdf_font`; the pairs are those of the runs. Their figures are the `count`
-/// glyphs of the source, and after these own glyphs, whose parts are glyphs of the source: the subset has
-/// them too, and after its glyphs the own ones. An own glyph that there isn't is a blank. In vertical writing an own glyph has no
-/// column. With outlines of CFF an own glyph is its part's charstring again, with its advance as the width, where that can be said.
-/// Of the options `codes` has no effect, nor has `program`: outlines of CFF are the bare table.
+/// glyphs of the source, and after these own glyphs, whose parts are glyphs of the source: the subset has them too, and after its
+/// glyphs the own ones. An own glyph that doesn't exist is a blank. In vertical writing an own glyph has no column. With outlines
+/// of CFF an own glyph is its part's charstring again, with its advance as the width, where that can be encoded. The options
+/// `codes` and `program` have no effect: outlines of CFF are the bare table.
 ///
 /// # Errors
 ///

@@ -84,9 +84,9 @@ fn tuple_of(alloc: Global, points: u32, tuple: &FirstTuple<'_>) -> Result<Answer
     }
 }
 
-/// The first tuple of a glyph with `points` points, in a table of one axis: whether point numbers are shared (1, else 0), how many
-/// tuples there are, whether it has point numbers of its own, and how many tuples are after it; how far it counts at -1, 4096,
-/// 16384 and 16385; its point numbers, none for all; its deltas.
+/// The first tuple of a glyph with `points` points, in a table of one axis: whether point numbers are shared (1, else 0), how
+/// many tuples there are, whether it has point numbers of its own, and how many tuples are after it; how far it counts at -1,
+/// 4096, 16384 and 16385; its point numbers, none for all; its deltas.
 pub fn tuple(alloc: Global, gvar: &[u8], glyph: &str, points: &str) -> Result<Answer, Failure> {
     let Some(table) = gvar_table(gvar) else {
         return Ok(Answer::Nothing);

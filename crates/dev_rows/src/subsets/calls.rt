@@ -122,8 +122,8 @@ fn difference_in(row: &Row<'_>, call: &'static str, answered: &Answer) -> Option
     Some(Miss { call, difference })
 }
 
-/// Passes a row to the call with options and to that of its kind, and returns the first whose answer isn't what the row
-/// says.
+/// Passes a row to the call with options and to that of its kind, and returns the first whose answer isn't what the
+/// row says.
 pub fn miss_of(alloc: Global, font: &[u8], row: &Row<'_>, options: &Options) -> Option<Miss> {
     let (call, answered) = if row.kind.varies() {
         by_coordinates(alloc, font, row, options)

@@ -127,7 +127,7 @@ fn step<'a>(
     Ok(more)
 }
 
-/// The parts of an array for widths from CID 0 on. After its first a list has at most `most`.
+/// The parts of an array for widths from CID 0 on. After its first width a list has at most `most` more.
 #[tactic(auto, using(crate::proofs::MetricsLaws::WidthLaws::Steps::headed, crate::proofs::MetricsLaws::WidthLaws::Steps::all_past))]
 pub fn parts_of(
     alloc: Global,
