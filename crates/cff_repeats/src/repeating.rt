@@ -16,7 +16,7 @@ use subsetter_cff::read::source::Table;
 use subsetter_cff::write::laying::parts::new_table_of;
 use subsetter_cff::write::laying::writing::write_table;
 
-/// Whether a table may have so many glyphs.
+/// Whether a table may have `count` glyphs.
 fn is_count(count: usize) -> bool
     ensures value { result ≡ is_count count }
     ensures few { result ≡ true → count ≤ 65535 }

@@ -29,7 +29,7 @@ asked_known glyphs mapper k d m lt =
     let known_there : known glyphs q ≡ true = Contains-index glyphs q (k, lt, get_or_default glyphs k q d lt) in
     ap (λ (l : List ℕ). known l q) m ∙ known-all glyphs q ∙ ap (λ b. eqb 0 q || b) known_there ∙ or-true (eqb 0 q)
 
--- a subset in whose source no fault stands, the size limits being judged for its order of glyphs
+-- a subset whose source has no fault, with the size limits judged for its order of glyphs
 abbrev pub IsFaultless : ℕ → ℕ → Font → List ℕ → List ℕ → Type 0
 IsFaultless tokens depth font glyphs out = (s : IsSubset tokens depth font glyphs out) × ((e : Error) → ¬ (HasFault tokens depth font glyphs s.keeps.order e))
 

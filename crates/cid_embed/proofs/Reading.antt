@@ -60,7 +60,7 @@ advance_of hmtx pairs g m h = elim (cases_lt g pairs) [
 
 -- ---- widths, where each metric is there
 
--- the metric of a glyph stands in a source, and in a table under a number
+-- a glyph's metric is in a source, and in a table under a number
 pub record HasMetric (font : Font) (m : Measures) (g i : ℕ) : Type 0 where
   pub metric : LongHorMetric
   pub source : metric_of (table font) g ≡ Some metric
@@ -129,7 +129,7 @@ metric_read : (find : List ℕ → Option (List ℕ)) (hhea hmtx : List ℕ) (co
 unfolding metric_of
 metric_read find hhea hmtx count g a b c = rw (a, b, c) refl
 
--- what a reading answers: the widths of the glyphs where nothing stands against them, else what stands
+-- what a reading gives: the widths of the glyphs where the font has no fault in them, else such a fault
 abbrev pub IsReading : Font → List ℕ → Result (List ℕ) Error → Type 0
 IsReading font glyphs (Ok widths) = (map Some widths ≡ map (width font) glyphs) × ((e : Error) → HasWidthFault font e → ⊥)
 IsReading font glyphs (Err e) = HasWidthFault font e

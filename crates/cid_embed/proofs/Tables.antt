@@ -14,7 +14,7 @@ use Rattle.subsetter_sfnt.specs.Laying.Rows.{Row, opt, present, tags, rows, call
 use Rattle.subsetter_sfnt.specs.Laying.Written.{kind_word}
 use Rattle.cid_embed.specs.Afresh.{directory_bytes, table_of}
 
--- ---- a font's header stands at the start
+-- ---- a font's header is at the start
 
 starts : (kind : FontFlavor) (file : List ℕ) → number file 0 4 ≡ Some (kind_word kind) → header_offset (as_font file) ≡ Some 0
 unfolding header_offset

@@ -45,7 +45,7 @@ fn cids(alloc: Global, mapper: &GlyphRemapper, glyphs: &[u16]) -> Result<Vec<u16
 /// # Errors
 ///
 /// - `OverflowError`: all glyphs above 0 are given, which leaves no number for glyph 0.
-/// - `OutOfMemory`: a request for memory was refused. For a font that can't be opened it is what `check_opening` answers.
+/// - `OutOfMemory`: a request for memory was refused. A font that can't be opened gives the error of `check_opening`.
 pub fn mapper_for(
     alloc: Global,
     data: &[u8],
@@ -56,7 +56,7 @@ pub fn mapper_for(
     ensures ok { IfOk result (λ mapper. mapper ≡ numbering glyphs.now) }
     ensures room { OnOk result (HasAllAboveZero glyphs.now → ⊥) }
     ensures err { IfErr result (λ why. (why ≡ OutOfMemory) ⊎ HasMapperFault (font_at «data».now index extras) glyphs.now why) }
-    // Where a fault stands that is found before memory is taken, the answer isn't out of memory.
+    // Where a fault is found before memory is taken, the error isn't `OutOfMemory`.
     ensures before_memory { (e : SpecError) → HasOpeningFault (font_at «data».now index extras) e → result ≢ Err OutOfMemory }
 {
     match GlyphRemapper::new_from_glyphs(alloc, glyphs) {

@@ -1,9 +1,9 @@
 //! What a PDF writer needs of a font: its subset, the CIDs of the requested glyphs, and the width of each CID.
 //!
 //! [`embed`] makes all three; `write_widths` writes the widths as a PDF has them; [`shrink`] makes a subset of what
-//! `embed` answered.
+//! `embed` returned.
 //!
-//! [`shrink_font`] answers what `subset` does, and its contract speaks of each font of which the given one is a subset: the answer
+//! [`shrink_font`] returns what `subset` does, and its contract covers each font that the given one is a subset of: the result
 //! keeps what a subset of that font keeps. [`laws`] has the laws of subsets of subsets by themselves.
 //!
 //! ```text

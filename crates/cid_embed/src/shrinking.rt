@@ -16,10 +16,10 @@ use crate::embedding::{Embedded, embed};
 use std::alloc::Global;
 use subsetter::{Error, GlyphRemapper, subset};
 
-/// The subset of a font that may itself be a subset, with the mapper's glyphs: what `subset` answers for its one font.
+/// The subset of a font that may itself be a subset, with the mapper's glyphs: what `subset` returns for its one font.
 ///
 /// Where the given font is a subset of some font within the default limits, the mapper names the glyphs by their
-/// numbers in the given font, and what is answered is that subset of the first font too. Where these are all glyphs in
+/// numbers in the given font, and the result is that subset of the first font too. Where these are all glyphs in
 /// order, a TrueType or CID-keyed font is given back byte for byte, and it is refused for want of memory alone. A
 /// subset is TrueType or CID-keyed, whatever its source was.
 ///
@@ -27,7 +27,7 @@ use subsetter::{Error, GlyphRemapper, subset};
 ///
 /// Those of `subset`. A glyph that the given subset doesn't have is `MalformedFont`.
 pub fn shrink_font(alloc: Global, font: &[u8], mapper: &GlyphRemapper) -> Result<Vec<u8>, Error>
-    // It answers as `subset` does.
+    // It returns what `subset` does.
     ensures promise { IsPromised (λ v. v.items) None token_limit depth_limit (as_font font.now) mapper.now result }
     // The new font is a subset of each font of which the given one is a subset.
     ensures ok { IfOk result (λ out. IsShrunk font.now mapper.now out.items) }
@@ -60,18 +60,18 @@ fn as_bytes(font: &[u8]) -> &[u8]
     font
 }
 
-/// What a PDF writer needs of an embedded font for some of its CIDs: what `embed` answers for its font.
+/// What a PDF writer needs of an embedded font for some of its CIDs: what `embed` returns for its font.
 ///
-/// `cids` are glyph numbers of the embedded font, and the new CIDs those of the answer. Where the embedded font is a
-/// subset of some font within the default limits, as one that `embed` answered is, the answer's is a subset of that
-/// font too, for the glyphs that the CIDs stand for.
+/// `cids` are glyph numbers of the embedded font, and the new CIDs those of the new font. Where the embedded font is a
+/// subset of some font within the default limits, as one from `embed` is, the new one is a subset of that font too, with
+/// the glyphs of the CIDs.
 ///
 /// # Errors
 ///
 /// Those of `embed`. A CID that the embedded font doesn't have is `MalformedFont`. With all CIDs in order a TrueType or
 /// CID-keyed font is refused for want of memory or of widths alone.
 pub fn shrink(alloc: Global, e: &Embedded, cids: &[u16]) -> Result<Embedded, Error>
-    // It answers as `embed` does.
+    // It returns what `embed` does.
     ensures promise { IsEmbedPromised None token_limit depth_limit (as_font e.now.font.items) cids.now result }
     // The new font is a subset of each font of which the given one is a subset.
     ensures shrunk { IfOk result (λ s. IsShrunk e.now.font.items (numbering cids.now) s.font.items) }

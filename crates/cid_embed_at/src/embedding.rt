@@ -24,7 +24,7 @@ use subsetter_variable::{is_cff2_font, static_font};
 /// # Errors
 ///
 /// - `OverflowError`: all glyphs above 0 are given, which leaves no number for glyph 0.
-/// - `OutOfMemory`: a request for memory was refused. For a font that can't be opened it is what `check_opening` answers, unless its
+/// - `OutOfMemory`: a request for memory was refused. A font that can't be opened gives the error of `check_opening`, unless its
 ///   outlines are those of `CFF2`.
 pub fn mapper_at(
     alloc: Global,
@@ -35,7 +35,7 @@ pub fn mapper_at(
 ) -> Result<GlyphRemapper, Error>
     ensures ok { IfOk result (λ mapper. mapper ≡ numbering glyphs.now) }
     ensures err { IfErr result (λ why. (why ≡ OutOfMemory) ⊎ (((why ≡ OverflowError) × HasAllAboveZero glyphs.now) ⊎ HasOpeningFaultAt (font_at «data».now index extras) why)) }
-    // Where a fault stands that is found before memory is taken, the answer isn't out of memory.
+    // Where a fault is found before memory is taken, the error isn't `OutOfMemory`.
     ensures before_memory { (e : SpecError) → HasOpeningFaultAt (font_at «data».now index extras) e → result ≢ Err OutOfMemory }
 {
     if is_cff2_font(data, index) {

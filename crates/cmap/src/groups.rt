@@ -58,7 +58,7 @@ pub fn glyph_by_groups(table: &[u8], character: u32) -> Option<u16>
     find_glyph(table, count, character)
 }
 
-/// The glyph of a character, by at most so many groups.
+/// The glyph of a character, by the first `count` groups.
 #[tactic(auto, using(crate::proofs::Steps::groups_none, crate::proofs::Steps::groups_here, crate::proofs::Steps::groups_on, crate::proofs::Steps::groups_end))]
 fn find_glyph(table: &[u8], count: u32, character: u32) -> Option<u16>
     ensures { result ≡ by_groups table.now count 16 character }

@@ -20,7 +20,7 @@ fn shifted(glyph: u16, delta: u16) -> u16
     glyph.wrapping_add(delta)
 }
 
-/// The glyph of a number in the list of glyphs, where 0 stands for none.
+/// The glyph of a number in the list of glyphs, where 0 means none.
 fn listed(glyph: u16, delta: u16) -> Option<u16>
     ensures { result ≡ listed glyph delta }
 {
@@ -30,7 +30,7 @@ fn listed(glyph: u16, delta: u16) -> Option<u16>
     Some(shifted(glyph, delta))
 }
 
-/// Where the number stands that a segment's offset leads to, from the offset's own place on.
+/// Where the number is that a segment's offset leads to, counted from the offset's own place.
 fn glyph_id_offset(place: usize, offset: u16, distance: u16) -> usize
     requires { place < 2 ^ 32 }
     ensures { result ≡ place + offset + 2 * distance }

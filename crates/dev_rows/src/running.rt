@@ -39,7 +39,7 @@ fn run_files<R: Env + Files + Print + AllocGlobal>(rt: &R) -> Result<bool, Failu
     }
 }
 
-/// Runs the program, and answers its status: 0 where all rows are as expected and no line is wrong, 2 where the arguments are
+/// Runs the program, and returns its status: 0 where all rows are as expected and no line is wrong, 2 where the arguments are
 /// wrong, else 1.
 pub fn run<R: Env + Files + Print + Eprint + AllocGlobal>(rt: &R) -> u8 {
     match run_files(rt) {

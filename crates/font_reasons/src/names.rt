@@ -42,7 +42,7 @@ fn lost_at(name: &[u8], storage: &[u8], at: usize) -> Option<Reason>
     lost_string(storage, record)
 }
 
-/// The first of so many names of which this is so.
+/// The first kept name, in `count` records, whose string isn't inside the storage.
 #[tactic(auto, using(crate::proofs::NameSteps::lost_here, crate::proofs::NameSteps::lost_on, crate::proofs::NameSteps::lost_end))]
 fn first_lost(name: &[u8], storage: &[u8], count: u16) -> Option<Reason>
     ensures { result ≡ lost_from name.now storage.now count 6 }

@@ -68,7 +68,7 @@ fn is_malformed(delta: Result<i64, Error>) -> bool
     }
 }
 
-/// The store of `HVAR`, if its regions have so many axes.
+/// The store of `HVAR`, if its regions have `axes` axes.
 #[tactic(auto, unfolding(subsetter_variation::specs::Items::Advances::store_of))]
 fn store_of(hvar: &[u8], axes: usize) -> Option<Store<'_>>
     ensures { result ≡ store_of hvar.now axes }
@@ -228,7 +228,7 @@ fn point_count(alloc: Global, bytes: &[u8]) -> Result<Option<usize>, Error>
     count_points(alloc, bytes)
 }
 
-/// Whether the variation data of a glyph of so many points can't be read, within so many steps.
+/// Whether the variation data of a glyph with `count` points is found unreadable within `steps` steps.
 fn is_unvaried(
     alloc: Global,
     gvar: &Gvar<'_>,
@@ -259,7 +259,7 @@ fn is_unvaried(
     }
 }
 
-/// Whether the variation data of a glyph of so many points can't be read, where there is `gvar`.
+/// Whether the variation data of a glyph with `count` points can't be read, where there is `gvar`.
 fn unvaried_points(
     alloc: Global,
     gvar: &Option<Gvar<'_>>,
@@ -344,7 +344,7 @@ fn first_unvaried(
     Ok(None)
 }
 
-/// A table `gvar`, if it has so many axes.
+/// A `gvar` table, if it has `axes` axes.
 fn gvar_of(gvar: Gvar<'_>, axes: usize) -> Option<Gvar<'_>>
     ensures value { result ≡ gvar_of axes gvar.entry }
     ensures axes { IfSome result (λ t. axes ≡ t.axis_count) }
@@ -356,7 +356,7 @@ fn gvar_of(gvar: Gvar<'_>, axes: usize) -> Option<Gvar<'_>>
     }
 }
 
-/// The `gvar` of a face, if it has so many axes.
+/// The `gvar` of a face, if it has `axes` axes.
 fn face_gvar(font: &[u8], index: u32, axes: usize) -> Option<Gvar<'_>>
     ensures value { result ≡ face_gvar (record { bytes = font.now; index = index; extras = all_extras }) axes }
     ensures axes { IfSome result (λ t. axes ≡ t.axis_count) }

@@ -116,7 +116,7 @@ fn image_in(subtable: &[u8], place: u16, glyph: u16) -> Option<u16>
     Some(image)
 }
 
-/// The format of a glyph's image by a list of so many index subtables.
+/// The format of a glyph's image by a list of `count` index subtables.
 #[tactic(auto, unfolding(crate::specs::Bitmaps::image_by))]
 fn image_by(list: &[u8], count: u32, glyph: u16) -> Option<u16>
     ensures { result ≡ image_by list.now count glyph }

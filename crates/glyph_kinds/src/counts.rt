@@ -3,7 +3,7 @@
 ghost use Rattle.std.specs.Prelude.{◌≡◌, ◌≤◌, ◌<◌, length};
 ghost use Rattle.glyph_kinds.specs.Counts.{count_of, has_kind, kind_counts};
 
-/// Whether a glyph has a kind, by what `kinds_of` answers.
+/// Whether a glyph has a kind, by what `kinds_of` returns.
 fn has_kind(kind: u8, kinds: u32) -> bool
     requires { kind < 32 }
     ensures { result ≡ has_kind kind kinds }
@@ -26,7 +26,7 @@ fn count_of(all: &[u32], kind: u8) -> usize
     count
 }
 
-/// Each kind by its bit, with how many glyphs have it by what `kinds_of` answers.
+/// Each kind by its bit, with how many glyphs have it by what `kinds_of` returns.
 pub fn kind_counts(all: &[u32]) -> [(u8, usize); 17]
     ensures { result ≡ kind_counts all.now }
 {

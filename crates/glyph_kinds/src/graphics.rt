@@ -29,7 +29,7 @@ pub(crate) const MASK: u32 = 0x6D61736B;
 /// `dupe`: the picture of another glyph, whose number follows.
 pub(crate) const DUPE: u32 = 0x64757065;
 
-/// The type of a glyph's graphic in a strike, of so many glyphs.
+/// The type of a glyph's graphic in a strike of `glyphs` glyphs.
 #[tactic(auto, unfolding(crate::specs::Graphics::graphic_type))]
 fn graphic_type(sbix: &[u8], glyphs: u16, strike: u32, glyph: u16) -> Option<u32>
     requires { strike < 1024 }
@@ -76,7 +76,7 @@ fn has_type(wanted: Option<u32>, graphic: Option<u32>) -> bool
     }
 }
 
-/// Whether a glyph, of so many, has a graphic of such a type in one of the first strikes.
+/// Whether a glyph, of `glyphs` glyphs, has a graphic of such a type in one of the first `count` strikes.
 #[tactic(auto, using(crate::proofs::StrikeSteps::any_here, crate::proofs::StrikeSteps::any_on, crate::proofs::StrikeSteps::any_end))]
 fn graphic_in_strikes(sbix: &[u8], count: u32, glyphs: u16, wanted: Option<u32>, glyph: u16) -> bool
     requires { count ≤ 1024 }
@@ -90,7 +90,7 @@ fn graphic_in_strikes(sbix: &[u8], count: u32, glyphs: u16, wanted: Option<u32>,
     false
 }
 
-/// Whether a glyph, of so many, has a graphic of a type; where none is wanted, of one without a kind of its own.
+/// Whether a glyph, of `glyphs` glyphs, has a graphic of a type; where none is wanted, of one without a kind of its own.
 pub(crate) fn has_graphic(
     table: Option<&[u8]>,
     glyphs: u16,

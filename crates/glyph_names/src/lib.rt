@@ -1,6 +1,6 @@
 //! The names of a font's glyphs, by its tables `post` and `CFF `.
 //!
-//! [`glyph_names`] answers a name for each glyph, an empty one where the tables have none.
+//! [`glyph_names`] returns a name for each glyph, an empty one where the tables have none.
 //!
 //! ```text
 //! let names = glyph_names(alloc, post, &[], &[36, 68])?;         // "A", "a"

@@ -23,7 +23,7 @@ use subsetter_sfnt::parse::parse;
 use subsetter_type2::limits::Limits;
 use text_metrics::text_metrics;
 
-/// The numbers of so many glyphs.
+/// The numbers of the first `count` glyphs.
 #[tactic(auto, using(text_metrics::proofs::Each::each_more, text_metrics::proofs::Each::each_done))]
 fn numbers(alloc: Global, count: u16) -> Result<Vec<u16>, Error>
     ensures ok { IfOk result (λ v. v.items ≡ each_from (λ g. g) 0 count) }

@@ -94,7 +94,7 @@ fn has_small_outline(reach: u16, tables: Outlines<'_>, glyph: u16) -> bool
     }
 }
 
-/// Whether the first glyphs have such outlines, so many.
+/// Whether each of the first `count` glyphs has such an outline.
 #[tactic(auto, using(text_metrics::proofs::Each::each_more, text_metrics::proofs::Each::each_done))]
 fn small_outlines(
     alloc: Global,
@@ -150,7 +150,7 @@ fn reach_of(moves: bool) -> u16
     if moves { 8192 } else { 16384 }
 }
 
-/// So many times yes.
+/// `true`, `count` times.
 fn each_one(alloc: Global, count: u16) -> Result<Vec<bool>, Error>
     ensures ok { IfOk result (λ v. v.items ≡ replicate count true) }
     ensures err { IfErr result (λ e. e ≡ OutOfMemory) }
@@ -158,7 +158,7 @@ fn each_one(alloc: Global, count: u16) -> Result<Vec<bool>, Error>
     Ok(vec![in alloc; true; usize::from(count)]?)
 }
 
-/// Whether the first glyphs of a font can be parts, so many; the list is empty where there may be other pictures, and
+/// Whether each of the first `count` glyphs of a font can be a part; the list is empty where there may be other pictures, and
 /// without outlines in `glyf` or `CFF `.
 pub fn parts_in(
     alloc: Global,

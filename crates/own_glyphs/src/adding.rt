@@ -37,7 +37,7 @@ use subsetter_sfnt::laying::construct::finish;
 use subsetter_sfnt::laying::tables::{FontTables, in_order};
 use subsetter_sfnt::parse::parse;
 
-/// How many glyphs there are with so many more. `OverflowError` where these are more than 65,535. No memory is taken.
+/// How many glyphs there are with `more` added to `count`. `OverflowError` where that is more than 65,535. No memory is taken.
 fn count_with(count: u16, more: usize) -> Result<u16, Error>
     ensures ok { IfOk result (λ n. n ≡ count + more) }
     ensures few { IfOk result (λ n. count + more ≤ 65535) }
@@ -125,7 +125,7 @@ struct NewTables {
     maxp: Vec<u8>,
 }
 
-/// Makes the tables of so many glyphs.
+/// Makes the tables of a font with `count` glyphs.
 fn new_tables(
     alloc: Global,
     source: &Source<'_>,
@@ -183,7 +183,7 @@ fn font_tables<'a>(
     }
 }
 
-/// The file of so many glyphs. `OverflowError` where a table's offset or length is 2^32 or more.
+/// The file of a font with `count` glyphs. `OverflowError` where a table's offset or length is 2^32 or more.
 fn laid(
     alloc: Global,
     face: &Face<'_>,
@@ -236,8 +236,8 @@ fn made(
 /// A font with own glyphs after those that it has, whose numbers, outlines and metrics stay: the i-th own one, from 0 on, has the
 /// number n + i, where n is numGlyphs.
 ///
-/// `font` is a TrueType subset, as `subset` answers one for a font with `glyf`, with `hmtx` and `maxp`. Of a table that a subset
-/// doesn't have nothing is kept.
+/// `font` is a TrueType subset, as `subset` returns it for a font with `glyf`, and has `hmtx` and `maxp`. Tables that a subset
+/// doesn't have aren't kept.
 ///
 /// # Errors
 ///

@@ -1,6 +1,6 @@
 //! Glyphs of the caller's own.
 
-/// A glyph of the font, moved by so many font design units.
+/// A glyph of the font, moved by `x` and `y` font design units.
 #[derive(Clone, Copy)]
 pub struct Part {
     pub glyph: u16,

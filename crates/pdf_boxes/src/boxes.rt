@@ -41,7 +41,7 @@ fn glyph_box(char_strings: &Index<'_>, glyph: u16) -> Result<Option<GlyphBox>, E
     }
 }
 
-/// The least box around those of the first glyphs, so many from glyph 0 on.
+/// The least box around those of the first `count` glyphs.
 #[tactic(auto, using(crate::proofs::Glyphs::kept_begun, crate::proofs::Glyphs::kept_more, crate::proofs::Glyphs::kept_done))]
 fn box_around(char_strings: &Index<'_>, count: u16) -> Result<Option<GlyphBox>, Error>
     ensures value { Gives (λ b. b) result (Ok (boxes_from (items char_strings.now) 0 count)) }
@@ -56,7 +56,7 @@ fn box_around(char_strings: &Index<'_>, count: u16) -> Result<Option<GlyphBox>, 
     Ok(kept)
 }
 
-/// The least box around the first glyphs of a `CFF ` table, so many from glyph 0 on; none of a table that can't be opened.
+/// The least box around the first `count` glyphs of a `CFF ` table; none for a table that can't be opened.
 ///
 /// Each charstring has a width in front and endchar at its end, and calls no subroutines: one that was made of `CFF2` is so.
 ///

@@ -27,7 +27,7 @@ fn in_thousandths(width: &Number) -> Option<u32>
     width.times_thousand()?.as_u32()
 }
 
-/// So many thousandths of a unit in thousandths of the em, to the nearest, halves up.
+/// `n` thousandths of a unit in thousandths of the em, to the nearest, halves up.
 fn of_em(units: u16, n: u32) -> u32
     requires { 0 < units }
     ensures value { result ≡ of_em units n }

@@ -1,4 +1,4 @@
--- The texts of glyphs in use, of which each stands before those after it.
+-- The texts of glyphs in use, one after the other.
 use Rattle.std.proofs.Common.{◌≡◌, ℕ, ◌≤◌, List, ◌++◌, length, take, drop, length-append, arith}
 use Rattle.std.proofs.Math.Seq.{take-append_seam, drop-append_seam}
 

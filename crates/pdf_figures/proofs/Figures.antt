@@ -76,7 +76,7 @@ shown_plain inked x y [] = refl
 shown_plain inked x y (i ∷ is) =
     ap (λ (l : List Drawn). cond (is_bare_item inked i) [] (record { glyph = i.glyph; x = x +ℤ i.x_offset; y = y +ℤ i.y_offset } ∷ []) ++ l) (shown_plain inked (x +ℤ i.x_advance) (y +ℤ i.y_advance) is)
 
--- ---- items that may stand aside
+-- ---- items that may be set aside
 
 x_aside : (b : Bool) (i : Item) → x_of (cond b (set_aside i) (plain i)) ≡ i.x_advance
 x_aside true i = refl

@@ -14,7 +14,7 @@ use Rattle.pdf_figures.specs.declared.ink.Placed.{Placed}
 use Rattle.pdf_figures.specs.Figures.{are_parts, is_part}
 use Rattle.pdf_figures.specs.View.{drawn_of}
 
--- so many glyphs are laid: the parts so far and those of the others are all, of which there is room for so many
+-- the first k glyphs are laid: the parts so far and those of the others are all parts, and there is room for those so far
 pub record IsLaid (c : Choice) (is : List Item) (k : ℕ) (ps : List Placed) (x y : ℤ) : Type 0 where
   pub parts : map drawn_of ps ++ wanted c.inked.now x y (drop k is) ≡ wanted c.inked.now (pos 0) (pos 0) is
   pub are : are_parts c (c.most_parts - length ps) (wanted c.inked.now x y (drop k is)) ≡ are_parts c c.most_parts (wanted c.inked.now (pos 0) (pos 0) is)

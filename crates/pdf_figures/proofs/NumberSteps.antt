@@ -78,7 +78,7 @@ known_last n (j ∷ js) i h l =
     let rest : are_known n (js ++ i ∷ []) ≡ true = known_last n js i t.1 l in
     grind (arith, common_steps, t.0, rest)
 
--- so many figures have items
+-- the first k figures have items
 pub record AreNumbered (count : ℕ) (fs : List Figure) (k : ℕ) (first os : List OwnInk) (js : List Item) : Type 0 where
   pub same : map (figured_by count (inks_of os)) js ++ figures_seen (drop k fs) ≡ figures_seen fs
   pub known : are_known (count + length os) js ≡ true

@@ -1,4 +1,4 @@
-//! What stands for the glyphs of a run, cluster by cluster.
+//! The figures of a run, cluster by cluster.
 
 ghost use Rattle.std.specs.Prelude.{◌≡◌, ◌≤◌, ◌<◌, ◌+◌, ◌-◌, ◌++◌, ◌∷◌, [], true, false, length, map, take, drop, flat_map, unsigned_abs, pos, if◌then◌else◌, IfOk, IfErr, OnOk};
 ghost use Rattle.subsetter_base.specs.declared.error.Error.TheVariants.{OutOfMemory};
@@ -27,7 +27,7 @@ fn is_across(direction: Direction) -> bool
     }
 }
 
-/// The characters of the first of so many figures in reading order.
+/// The characters of the first of `count` figures in reading order.
 fn first_share(text: &[char], count: usize) -> &[char]
     ensures { result.now ≡ take (first_count count text.now) text.now }
 {
@@ -39,7 +39,7 @@ fn first_share(text: &[char], count: usize) -> &[char]
     }
 }
 
-/// The first glyphs, so many.
+/// The first `count` glyphs.
 fn front<'a, 'b>(items: &'b [Item<'a>], count: usize) -> &'b [Item<'a>]
     requires { count ≤ length items.now }
     ensures { result.now ≡ take count items.now }
@@ -47,7 +47,7 @@ fn front<'a, 'b>(items: &'b [Item<'a>], count: usize) -> &'b [Item<'a>]
     &items[..count]
 }
 
-/// The glyphs after so many.
+/// The glyphs after the first `count`.
 fn after<'a, 'b>(items: &'b [Item<'a>], count: usize) -> &'b [Item<'a>]
     requires { count ≤ length items.now }
     ensures { result.now ≡ drop count items.now }
@@ -55,7 +55,7 @@ fn after<'a, 'b>(items: &'b [Item<'a>], count: usize) -> &'b [Item<'a>]
     &items[count..]
 }
 
-/// What stands for a glyph: itself, or beside it an own glyph.
+/// The figure of a glyph: itself, or an own glyph where it is far off its advance and not taken as it is.
 fn figure_of<'a>(
     alloc: Global,
     choice: &Choice<'_>,
@@ -71,7 +71,7 @@ fn figure_of<'a>(
     beside(alloc, choice, item)
 }
 
-/// Puts what stands for glyphs after others.
+/// Adds the figures of glyphs.
 fn push_each<'a>(
     alloc: Global,
     figures: &mut Vec<Figure<'a>>,
@@ -88,7 +88,7 @@ fn push_each<'a>(
     Ok(())
 }
 
-/// Puts what stands for a glyph with these characters after others, cut.
+/// Adds the figure of a glyph with these characters, cut.
 fn push_alone<'a>(
     alloc: Global,
     figures: &mut Vec<Figure<'a>>,
@@ -105,7 +105,7 @@ fn push_alone<'a>(
     push_cut_one(alloc, figures, direction, choice, figure, share)
 }
 
-/// Puts what stands for the glyphs of a cluster after others, of which the first in reading order is cut.
+/// Adds the figures of a cluster's glyphs, the first in reading order cut.
 #[tactic(auto, using(crate::proofs::Placing::alone_put))]
 fn push_divided<'a>(
     alloc: Global,
@@ -166,7 +166,7 @@ fn in_one<'a>(own: OwnInk, items: &[Item<'a>]) -> Figure<'a>
     }
 }
 
-/// Puts what stands for a cluster that wants one own glyph after others.
+/// Adds the figures of a cluster that wants one own glyph.
 fn push_in_one<'a>(
     alloc: Global,
     figures: &mut Vec<Figure<'a>>,
@@ -188,7 +188,7 @@ fn push_in_one<'a>(
     }
 }
 
-/// Puts what stands for a cluster after others.
+/// Adds the figures of a cluster.
 fn push_cluster<'a>(
     alloc: Global,
     figures: &mut Vec<Figure<'a>>,
@@ -208,7 +208,7 @@ fn push_cluster<'a>(
     push_divided(alloc, figures, direction, choice, items, false)
 }
 
-/// What stands for the glyphs of a run, in visual order.
+/// The figures of a run, in visual order.
 ///
 /// # Errors
 ///

@@ -1,4 +1,4 @@
-//! What stands for the glyphs of a run.
+//! What is drawn for the glyphs of a run.
 
 /// A glyph of the font, and where it is from the origin of an own glyph, in units of the font.
 #[derive(Clone, Copy, PartialEq, Eq, Hash, Debug)]
@@ -23,7 +23,7 @@ pub enum FigureInk {
     Own(OwnInk),
 }
 
-/// What stands for a glyph or a cluster in a run.
+/// What is drawn for a glyph or a cluster in a run, or for a part of it.
 #[derive(Drop)]
 pub struct Figure<'a> {
     pub ink: FigureInk,

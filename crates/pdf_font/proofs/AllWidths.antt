@@ -60,7 +60,7 @@ advance_of hmtx pairs g m h = elim (cases_lt g pairs) [
 
 -- ---- widths, where each metric is there
 
--- the metric of a glyph stands in a source, and in a table under a number
+-- a glyph's metric is in a source, and in a table under a number
 pub record HasMetric (font : Font) (m : Measures) (g i : ℕ) : Type 0 where
   pub metric : LongHorMetric
   pub source : metric_of (table font) g ≡ Some metric

@@ -176,7 +176,7 @@ module _ (font : Font) (settings : List (Tag × ℤ)) (options : FontOptions) (u
 pub widths_agree : WidthsAgree
 widths_agree font settings options us f p not = agree font settings options us f p not
 
--- ---- two answers
+-- ---- two results
 
 module _ (font : Font) (settings : List (Tag × ℤ)) (options : FontOptions) (us : List Used) (f g : PdfFont) (p : IsPdfFont font settings options us f) (q : IsPdfFont font settings options us g) where
   abbrev ours : List ℕ

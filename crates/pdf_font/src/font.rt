@@ -135,7 +135,7 @@ fn name_room(kind: ProgramKind, cmap: &[u8]) -> usize
     }
 }
 
-/// The first so many bytes, or all where there are fewer.
+/// The first `size` bytes, or all where there are fewer.
 fn front_of(bytes: &[u8], size: usize) -> &[u8]
     ensures { result.now ≡ take size bytes.now }
 {
@@ -145,7 +145,7 @@ fn front_of(bytes: &[u8], size: usize) -> &[u8]
     &bytes[..size]
 }
 
-/// The front of a name, and six letters that it determines, in so many bytes.
+/// The front of a name, and six letters that it determines, in `room` bytes.
 #[tactic(auto, using(pdf_text::proofs::Pieces::four_after_nothing))]
 fn cut_name(alloc: Global, room: usize, name: &[u8]) -> Result<Vec<u8>, Error>
     ensures ok { IfOk result (λ t. t.items ≡ cut_name room name.now) }

@@ -109,7 +109,7 @@ pub fn joined(first: Option<GlyphBox>, second: Option<GlyphBox>) -> Option<Glyph
     Some(around(a, b))
 }
 
-/// The least box around those of the first glyphs, so many from glyph 0 on; none where no glyph has one.
+/// The least box around those of the first `count` glyphs; none where no glyph has one.
 #[tactic(auto, using(crate::proofs::BoxSteps::box_begun, crate::proofs::BoxSteps::box_more, crate::proofs::BoxSteps::box_done))]
 pub fn box_around(tables: OutlineTables<'_>, count: u16) -> Option<GlyphBox>
     ensures { result ≡ boxes_from (outlines_view tables.entry) 0 count }

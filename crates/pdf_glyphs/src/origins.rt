@@ -56,7 +56,7 @@ fn origin_at(vorg: Option<&[u8]>, index: u16) -> Option<GlyphOrigin>
     Some(GlyphOrigin { glyph, y })
 }
 
-/// No origin for so many glyphs.
+/// No origin for any of `count` glyphs.
 fn no_origins(alloc: Global, count: u16) -> Result<Vec<Option<i16>>, Error>
     ensures ok { IfOk result (λ origins. origins.items ≡ replicate count None) }
     ensures err { IfErr result (λ e. e ≡ OutOfMemory) }

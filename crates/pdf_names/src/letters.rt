@@ -90,7 +90,7 @@ fn or_font(text: Vec<u8>) -> Result<Vec<u8>, Error>
     Ok(text)
 }
 
-/// The name of a font's family, or what stands for it.
+/// The name of a font's family, else its PostScript name, else `Font`.
 #[tactic(auto, unfolding(crate::specs::Letters::prefix), using(pdf_values::proofs::Strings::or_kept, pdf_values::proofs::Strings::or_passed))]
 pub fn prefix(alloc: Global, name: Option<&[u8]>, cff: Option<&[u8]>) -> Result<Vec<u8>, Error>
     ensures ok { IfOk result (λ text. text.items ≡ prefix (option_copied name.entry) (option_copied cff.entry)) }

@@ -63,7 +63,7 @@ fn write_thousandths(text: &mut Vec<u8>, n: u32) -> Result<(), Error>
     write_three_digits(text, n)
 }
 
-/// Writes what is after the whole of so many millionths.
+/// Writes the point and the decimals of `n` millionths, if there are any.
 fn write_fraction(text: &mut Vec<u8>, n: u32) -> Result<(), Error>
     ensures ok { OnOk result (text.new.items ≡ text.old.items ++ fraction n) }
     ensures err { IfErr result (λ e. e ≡ OutOfMemory) }
@@ -77,7 +77,7 @@ fn write_fraction(text: &mut Vec<u8>, n: u32) -> Result<(), Error>
     }
 }
 
-/// Writes so many millionths, with the sign of a number.
+/// Writes `n` millionths, with the sign of `z`.
 #[tactic(auto, using(pdf_text::proofs::Pieces::three_signed))]
 fn write_millionths(text: &mut Vec<u8>, z: i32, n: u64) -> Result<(), Error>
     ensures ok { OnOk result (text.new.items ≡ text.old.items ++ millionths z n) }
@@ -96,7 +96,7 @@ fn product(a: u32, b: u32) -> u64
     u64::from(a) * u64::from(b)
 }
 
-/// Writes a text rise of so many thousandths of the em, at a size of so many thousandths.
+/// Writes a text rise of `z` thousandths of the em, at a size of `size` thousandths.
 #[tactic(auto, using(pdf_text::proofs::Pieces::two_signed))]
 pub fn write_rise(text: &mut Vec<u8>, size: u32, z: i32) -> Result<(), Error>
     ensures ok { OnOk result (text.new.items ≡ text.old.items ++ rise_text size z) }

@@ -23,7 +23,7 @@ fn unit_count(character: char) -> usize
     if u32::from(character) < 65536 { 1 } else { 2 }
 }
 
-/// So many units and those of a text, if an ActualText has room for them.
+/// `count` units and those of a text, if an ActualText has room for them.
 #[tactic(auto, using(crate::proofs::RunSteps::count_more))]
 fn units_with(count: usize, text: &[char]) -> Option<usize>
     requires { count ≤ 16382 }

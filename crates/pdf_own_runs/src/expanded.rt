@@ -48,7 +48,7 @@ fn has_parts(own: &OwnInk) -> bool
     !own.parts.is_empty()
 }
 
-/// Of the first glyphs, so many, whether they have ink, as far as that is known.
+/// Whether each of the first `count` glyphs has ink, as far as that is known.
 fn first_inked(alloc: Global, count: u16, inked: &[bool]) -> Result<Vec<bool>, RunError>
     ensures ok { IfOk result (λ v. v.items ≡ first_inked count inked.now) }
     ensures err { IfErr result (λ e. e ≡ OutOfMemory) }

@@ -10,7 +10,7 @@ use crate::items::{Item, begins};
 use std::alloc::Global;
 use subsetter_base::Error;
 
-/// The first glyphs, so many.
+/// The first `count` glyphs.
 fn front<'a, 'b>(items: &'b [Item<'a>], count: usize) -> &'b [Item<'a>]
     requires { count ≤ length items.now }
     ensures { result.now ≡ take count items.now }
@@ -18,7 +18,7 @@ fn front<'a, 'b>(items: &'b [Item<'a>], count: usize) -> &'b [Item<'a>]
     &items[..count]
 }
 
-/// The glyphs after so many.
+/// The glyphs after the first `count`.
 fn following<'a, 'b>(items: &'b [Item<'a>], count: usize) -> &'b [Item<'a>]
     requires { count ≤ length items.now }
     ensures { result.now ≡ drop count items.now }

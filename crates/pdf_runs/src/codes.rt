@@ -102,7 +102,7 @@ fn add_new(
     Ok(())
 }
 
-/// Whether there is room for so many pairs more.
+/// Whether there is room for `count` more pairs.
 fn has_room(pairs: &Remapper<u16, Pair>, count: usize) -> bool
     ensures { IsTrue result ↔ (length pairs.now + count ≤ 65535) }
 {

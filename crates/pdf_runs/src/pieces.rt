@@ -1,4 +1,4 @@
-//! What stands for the glyphs of a run: figures that each say at most one character.
+//! The pieces of a run: figures that each say at most one character.
 
 ghost use Rattle.std.specs.Prelude.{◌≡◌, ◌<◌, ◌≤◌, ◌-◌, ◌+◌, ◌++◌, ◌∷◌, [], true, not, get_or, length, map, take, drop, slice_get, IfErr, IfOk, OnOk, Some};
 ghost use Rattle.subsetter_base.specs.declared.error.Error.TheVariants.{OutOfMemory};
@@ -219,7 +219,7 @@ fn push_cluster(
     Ok(())
 }
 
-/// What stands for the glyphs of clusters, in visual order. `inked` says of each glyph of the font whether it has ink.
+/// The pieces of clusters, in visual order. `inked` says of each glyph of the font whether it has ink.
 ///
 /// # Errors
 ///
@@ -241,7 +241,7 @@ pub fn pieces_of_clusters(
     Ok(pieces)
 }
 
-/// What stands for the glyphs of a run, in visual order. `inked` says of each glyph of the font whether it has ink.
+/// The pieces of a run, in visual order. `inked` says of each glyph of the font whether it has ink.
 ///
 /// # Errors
 ///

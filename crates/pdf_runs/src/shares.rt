@@ -6,7 +6,7 @@ ghost use Rattle.pdf_runs.specs.Shares.{first_count, shares};
 
 use crate::items::Direction;
 
-/// The place in reading order of what is at a place of so many from left to right, or from top to bottom.
+/// The place in reading order of what is at a place from left to right or from top to bottom, of `count`.
 pub fn in_reading(direction: Direction, count: usize, place: usize) -> usize
     requires { place < count }
     ensures value { result ≡ in_reading direction count place }
@@ -18,7 +18,7 @@ pub fn in_reading(direction: Direction, count: usize, place: usize) -> usize
     }
 }
 
-/// How many characters the first of so many glyphs has, of those that there are.
+/// How many of the characters the first of `count` glyphs has.
 fn first_count(text: &[char], count: usize) -> usize
     requires { 0 < count }
     ensures value { result ≡ min (first_count count text.now) (length text.now) }
@@ -27,7 +27,7 @@ fn first_count(text: &[char], count: usize) -> usize
     (1 + text.len().saturating_sub(count)).min(text.len())
 }
 
-/// The characters after so many.
+/// The characters after the first `count`.
 fn following(text: &[char], count: usize) -> &[char]
     requires { count ≤ length text.now }
     ensures { result.now ≡ drop count text.now }
@@ -46,7 +46,7 @@ fn one_at(text: &[char], place: usize) -> &[char]
     }
 }
 
-/// The characters of the glyph at a place in reading order, of so many.
+/// The characters of the glyph at a place in reading order, of `count` glyphs.
 #[tactic(auto, using(crate::proofs::ShareLaws::share_first))]
 fn share(text: &[char], count: usize, place: usize) -> &[char]
     requires { place < count }
@@ -59,7 +59,7 @@ fn share(text: &[char], count: usize, place: usize) -> &[char]
     one_at(following(text, first), place - 1)
 }
 
-/// The characters of the glyph at a place from left to right or from top to bottom, of so many.
+/// The characters of the glyph at a place from left to right or from top to bottom, of `count` glyphs.
 pub fn share_at(direction: Direction, text: &[char], count: usize, place: usize) -> &[char]
     requires { place < count }
     ensures { result.now ≡ get_or (visual direction (shares count text.now)) place [] }

@@ -23,7 +23,7 @@ fn is_blank(cluster: &[Item<'_>]) -> bool
     true
 }
 
-/// The first clusters, so many.
+/// The first `count` clusters.
 fn front<'a, 'b>(clusters: &'b [&'a [Item<'a>]], count: usize) -> &'b [&'a [Item<'a>]]
     requires { count ≤ length clusters.now }
     ensures { result.now ≡ take count clusters.now }
@@ -31,7 +31,7 @@ fn front<'a, 'b>(clusters: &'b [&'a [Item<'a>]], count: usize) -> &'b [&'a [Item
     &clusters[..count]
 }
 
-/// The clusters after so many.
+/// The clusters after the first `count`.
 fn following<'a, 'b>(clusters: &'b [&'a [Item<'a>]], count: usize) -> &'b [&'a [Item<'a>]]
     requires { count ≤ length clusters.now }
     ensures { result.now ≡ drop count clusters.now }

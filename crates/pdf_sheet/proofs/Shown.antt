@@ -20,7 +20,7 @@ use Rattle.pdf_sheet.specs.Units.{units_of}
 use Rattle.pdf_sheet.specs.Pages.{pages_by, page_count, pages_of}
 use Rattle.pdf_sheet.specs.Read.{Showing, shown_from, shown_in, showing, IsShowable, AreShown}
 
--- a token after which no ActualText stands
+-- a token that no ActualText follows
 abbrev pub IsPlain : List ℕ → Type 0
 IsPlain t = bytes_eq t (codes "/ActualText") ≡ false
 

@@ -51,7 +51,7 @@ pub fn body_of(alloc: Global, values: &[Vec<u8>]) -> Result<Body, Error>
     Ok(Body { text, offsets })
 }
 
-/// Puts offsets after others, which so many bytes stand before.
+/// Puts offsets after others, each increased by `start`, the number of bytes before them.
 fn push_offsets(offsets: &mut Vec<usize>, start: usize, more: &[usize]) -> Result<(), Error>
     requires { All (λ o. start + o < 2 ^ 64) more.now }
     ensures ok { OnOk result (offsets.new.items ≡ offsets.old.items ++ map (λ o. start + o) more.now) }
@@ -133,7 +133,7 @@ fn write_rows(text: &mut Vec<u8>, offsets: &[usize]) -> Result<(), Error>
     Ok(())
 }
 
-/// Writes what stands before the entries of objects in use.
+/// Writes what comes before the entries of objects in use.
 #[tactic(auto, using(pdf_text::proofs::Written::three_written))]
 fn write_table_front(text: &mut Vec<u8>, size: usize) -> Result<(), Error>
     ensures ok { OnOk result (text.new.items ≡ text.old.items ++ table_front size) }
@@ -171,7 +171,7 @@ pub fn write_table(text: &mut Vec<u8>, offsets: &[usize]) -> Result<(), Error>
     Ok(())
 }
 
-/// Whether ten digits are enough for the offsets in so many bytes.
+/// Whether ten digits are enough for the offsets in `size` bytes.
 pub fn checked(size: u64) -> Result<(), Error>
     ensures ok { OnOk result (size < 10000000000) }
     ensures err { IfErr result (λ e. (e ≡ OverflowError) × (10000000000 ≤ size)) }

@@ -23,7 +23,7 @@ pub struct SheetLine<'a> {
     pub advance: u32,
 }
 
-/// The root of so many pages, which each have their size.
+/// The root of `count` pages, which each have their size.
 #[tactic(auto, using(pdf_text::proofs::Pieces::two_after_nothing))]
 fn lines_root(alloc: Global, count: usize) -> Result<Vec<u8>, Error>
     requires { count < 2 ^ 60 }

@@ -20,7 +20,7 @@ use pdf_text::{FontValues, most_objects, write_objects};
 use std::alloc::Global;
 use subsetter_base::Error;
 
-/// The number of the font's first object after so many pages, which has so many at most.
+/// The number of the font's first object after `count` pages, where the font has at most `most` objects.
 fn font_number(count: usize, most: u32) -> Result<u32, Error>
     requires { most ≤ 8 }
     ensures ok { IfOk result (λ first. first ≡ font_number count) }

@@ -30,7 +30,7 @@ pub fn cff_values_by<'a>(alloc: Global, face: &Face<'a>) -> Result<CffValues<'a>
     }
 }
 
-/// The least box around the first glyphs of a `CFF `, so many from glyph 0 on.
+/// The least box around the first `count` glyphs of a `CFF `.
 pub fn cff_box(alloc: Global, cff: Option<&[u8]>, count: u16) -> Result<Option<GlyphBox>, Error>
     ensures value { Gives (λ kept. kept) result (Ok (cff_box (option_copied cff.entry) count)) }
     ensures err { IfErr result (λ e. e ≡ OutOfMemory) }

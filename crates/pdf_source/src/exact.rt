@@ -21,7 +21,7 @@ pub struct ExactWidths {
     pub widths: Vec<u16>,
 }
 
-/// The advances of so many glyphs, from glyph 0 on. An advance that isn't there is `MalformedFont`.
+/// The advances of the first `count` glyphs. An advance that isn't there is `MalformedFont`.
 fn all_advances(alloc: Global, metrics: &Metrics<'_>, count: u16) -> Result<Vec<u16>, Error>
     ensures { Gives (λ v. v.items) result (advances_from (measures_seen metrics.now) 0 count) }
 {
@@ -33,7 +33,7 @@ fn all_advances(alloc: Global, metrics: &Metrics<'_>, count: u16) -> Result<Vec<
     Ok(advances)
 }
 
-/// The exact widths of so many glyphs of a font, from glyph 0 on. What is missing is `MalformedFont`.
+/// The exact widths of the first `count` glyphs of a font. What is missing is `MalformedFont`.
 #[tactic(auto, unfolding(crate::specs::Exact::exact_of))]
 pub fn exact_of(alloc: Global, face: &Face<'_>, count: u16) -> Result<ExactWidths, Error>
     ensures { Gives exact_seen result (exact_of (table_in face.now.«data».now face.now.records.now) count) }

@@ -39,7 +39,7 @@ pub(crate) fn metrics_of<'a>(face: &Face<'a>) -> Result<Metrics<'a>, Error>
     })
 }
 
-/// The widths of so many glyphs of a font, from glyph 0 on. What is missing is `MalformedFont`.
+/// The widths of the first `count` glyphs of a font. What is missing is `MalformedFont`.
 #[tactic(auto, unfolding(cid_embed::specs::Afresh::widths_of))]
 pub fn widths_of(alloc: Global, face: &Face<'_>, count: u16) -> Result<Vec<u32>, Error>
     ensures { Gives (λ v. v.items) result (widths_of (table_in face.now.«data».now face.now.records.now) count) }

@@ -77,7 +77,7 @@ pub fn write_sign(text: &mut Vec<u8>, z: i32) -> Result<(), Error>
     Ok(())
 }
 
-/// Writes so many thousandths in decimal.
+/// Writes `z` thousandths in decimal.
 #[tactic(auto, using(crate::proofs::Written::three_written))]
 pub fn write_thousandths(text: &mut Vec<u8>, z: i32) -> Result<(), Error>
     ensures ok { OnOk result (text.new.items ≡ text.old.items ++ thousandths z) }

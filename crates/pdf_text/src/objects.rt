@@ -257,7 +257,7 @@ fn write_all(
     Ok(FontObjects { text, offsets })
 }
 
-/// Whether the numbers of so many objects fit 32 bits.
+/// Whether the numbers of `most` objects from `first` on fit 32 bits.
 fn checked(first: u32, most: u32) -> Result<(), Error>
     ensures ok { OnOk result (first + most < 2 ^ 32) }
     ensures err { IfErr result (λ e. (e ≡ OverflowError) × (2 ^ 32 ≤ first + most)) }

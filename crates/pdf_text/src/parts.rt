@@ -55,7 +55,7 @@ fn are_distinct(numbers: &[u32]) -> bool
     true
 }
 
-/// Whether numbers are right for so many objects.
+/// Whether numbers are right for `count` objects.
 fn are_numbers(count: usize, numbers: &[u32]) -> bool
     ensures { result ≡ are_numbers count numbers.now }
 {

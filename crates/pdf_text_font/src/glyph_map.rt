@@ -8,7 +8,7 @@ use crate::pairs::Drawing;
 use std::alloc::Global;
 use subsetter_base::Error;
 
-/// The number of the glyph that draws a code: so many own glyphs are after the others, from this number on, and after them the
+/// The number of the glyph that draws a code: `owns` own glyphs come after the others, from `first` on, and after them the
 /// blank.
 fn glyph_number(first: u16, owns: u16, drawing: Drawing) -> u16
     requires { first + owns ≤ 65535 }

@@ -46,7 +46,7 @@ pub fn parts_by(alloc: Global, parts: &[Placed], numbers: &[u16]) -> Result<Vec<
     Ok(numbered)
 }
 
-/// The first parts, so many.
+/// The first `count` parts.
 fn first(parts: &[Part], count: usize) -> &[Part]
     ensures { result.now ≡ take count parts.now }
 {
@@ -57,7 +57,7 @@ fn first(parts: &[Part], count: usize) -> &[Part]
     }
 }
 
-/// The parts after so many.
+/// The parts after the first `count`.
 fn after(parts: &[Part], count: usize) -> &[Part]
     ensures { result.now ≡ drop count parts.now }
 {

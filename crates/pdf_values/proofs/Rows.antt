@@ -179,7 +179,7 @@ pub typographic_heights : heights_of None regular_hhea (Some (hex (codes "000405
 unfolding thousandths nearest varied source_line first_moved other_line line_of height heights_by
 typographic_heights = refl
 
--- the box of the kept glyphs is chosen, and stands for one without a width
+-- the box of the kept glyphs is chosen, and replaces one without a width
 pub kept_bounds : bounds_of Kept regular_head (Some (record { x_min = negsuc 0; y_min = pos 0; x_max = pos 1; y_max = pos 2048 })) 2048 ≡ record { x_min = negsuc 0; y_min = pos 0; x_max = pos 1; y_max = pos 1000 }
 unfolding lowered raised
 kept_bounds = refl

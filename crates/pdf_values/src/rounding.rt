@@ -13,7 +13,7 @@ fn thousandfold(v: i32) -> i64
     1000 * i64::from(v)
 }
 
-/// A length of so many units to the em, to the nearest thousandth, halves up.
+/// A length in thousandths of the em, at `units` units per em, to the nearest, halves up.
 #[tactic(auto, unfolding(crate::specs::Rounding::thousandths))]
 pub fn thousandths(v: i32, units: u32) -> i32
     requires above { 0 < units }
@@ -24,7 +24,7 @@ pub fn thousandths(v: i32, units: u32) -> i32
     nearest(thousandfold(v), u64::from(units)) as i32
 }
 
-/// A length of so many units to the em, in thousandths, rounded down.
+/// A length in thousandths of the em, at `units` units per em, rounded down.
 #[tactic(auto, unfolding(crate::specs::Rounding::lowered))]
 pub fn lowered(v: i32, units: u32) -> i32
     requires above { 0 < units }
@@ -36,7 +36,7 @@ pub fn lowered(v: i32, units: u32) -> i32
     thousandfold(v).div_euclid(i64::from(units)) as i32
 }
 
-/// A length of so many units to the em, in thousandths, rounded up.
+/// A length in thousandths of the em, at `units` units per em, rounded up.
 #[tactic(auto, unfolding(crate::specs::Rounding::raised))]
 pub fn raised(v: i32, units: u32) -> i32
     requires above { 0 < units }

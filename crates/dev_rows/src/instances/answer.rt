@@ -1,11 +1,11 @@
-//! What a call answers, as it is printed.
+//! What a call returns, as it is printed.
 
 use crate::failure::Failure;
 use std::alloc::Global;
 use std::fmt;
 use subsetter_base::Error;
 
-/// What a call answers.
+/// What a call returns.
 #[derive(Drop)]
 pub enum Answer {
     /// Lists of numbers.

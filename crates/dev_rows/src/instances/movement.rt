@@ -66,7 +66,7 @@ fn counts_of(alloc: Global, tuple: &FirstTuple<'_>) -> Result<Vec<i64>, Failure>
     Ok(Vec::from_array(alloc, counts)?)
 }
 
-/// What a tuple of a glyph of so many points holds.
+/// What a tuple of a glyph with `points` points holds.
 fn tuple_of(alloc: Global, points: u32, tuple: &FirstTuple<'_>) -> Result<Answer, Failure>
     requires { length tuple.now.header.region ≡ 1 }
 {
@@ -84,9 +84,9 @@ fn tuple_of(alloc: Global, points: u32, tuple: &FirstTuple<'_>) -> Result<Answer
     }
 }
 
-/// The first tuple of a glyph of so many points, of a table of one axis: whether point numbers are shared (1, else 0), how many
-/// tuples there are, whether it has point numbers of its own, and how many tuples are after it; how far it counts at -1, 4096,
-/// 16384 and 16385; its point numbers, none for all; its deltas.
+/// The first tuple of a glyph with `points` points, in a table of one axis: whether point numbers are shared (1, else 0), how
+/// many tuples there are, whether it has point numbers of its own, and how many tuples are after it; how far it counts at -1,
+/// 4096, 16384 and 16385; its point numbers, none for all; its deltas.
 pub fn tuple(alloc: Global, gvar: &[u8], glyph: &str, points: &str) -> Result<Answer, Failure> {
     let Some(table) = gvar_table(gvar) else {
         return Ok(Answer::Nothing);
@@ -103,7 +103,7 @@ pub fn tuple(alloc: Global, gvar: &[u8], glyph: &str, points: &str) -> Result<An
     tuple_of(alloc, number(points)?, &tuple)
 }
 
-/// Whether these are the last points of contours, from one point up to so many.
+/// Whether `ends` are the last points of contours, the first of which begins at point `start`, in an outline of `points` points.
 fn are_ends(start: usize, ends: &[usize], points: usize) -> bool
     ensures { result ≡ true → AreEnds start ends.now points }
 {
@@ -113,8 +113,8 @@ fn are_ends(start: usize, ends: &[usize], points: usize) -> bool
     start <= *end && *end < points && are_ends(*end + 1, following, points)
 }
 
-/// Where the points of an outline go at a location in so many steps: the coordinates in parts of 2^30, and the steps that are
-/// left. `Row` where the coordinates don't fit the table or each other.
+/// Where the points of an outline go at a location, within `steps` steps: the coordinates in parts of 2^30, and the steps that
+/// are left. `Row` where the coordinates don't fit the table or each other.
 fn points_moved(
     alloc: Global,
     table: &Gvar<'_>,

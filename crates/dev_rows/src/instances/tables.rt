@@ -102,7 +102,7 @@ pub fn point_numbers(alloc: Global, limit: &str, bytes: &[u8]) -> Result<Answer,
     }
 }
 
-/// So many deltas, and how many bytes are after them.
+/// `count` deltas, and how many bytes are after them.
 pub fn deltas(alloc: Global, count: &str, bytes: &[u8]) -> Result<Answer, Failure> {
     match packed::deltas(Vec::new(alloc), number(count)?, bytes) {
         Ok((deltas, rest)) => list_and_rest(alloc, list(alloc, &deltas)?, rest),

@@ -1,20 +1,20 @@
-//! What a call answers, and how it differs from what a row says.
+//! What a call returns, and how it differs from what a row says.
 
 use cid_embed::Embedded;
 use std::alloc::Global;
 use std::fmt;
 use subsetter::Error;
 
-/// What a call answers, as a row writes it.
+/// What a call returns, as a row writes it.
 #[derive(Debug, Drop)]
 pub struct Answer {
     /// 0 where all was done, else the number of the error.
     pub status: u32,
     /// The bytes of the new font; none for an error.
     pub font: Vec<u8>,
-    /// The CIDs of the requested glyphs, which `embed` alone answers.
+    /// The CIDs of the requested glyphs, which `embed` alone returns.
     pub cids: Vec<u16>,
-    /// The widths of the CIDs, which `embed` alone answers.
+    /// The widths of the CIDs, which `embed` alone returns.
     pub widths: Vec<u32>,
 }
 

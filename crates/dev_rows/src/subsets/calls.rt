@@ -55,7 +55,7 @@ fn subset_by_kind(
     }
 }
 
-/// The name of the call with options, and what it answers.
+/// The name of the call with options, and what it returns.
 fn by_options(
     alloc: Global,
     font: &[u8],
@@ -70,7 +70,7 @@ fn by_options(
     ("subset_with_options", Answer::of_font(alloc, made))
 }
 
-/// The name of the call with coordinates and options, and what it answers.
+/// The name of the call with coordinates and options, and what it returns.
 fn by_coordinates(
     alloc: Global,
     font: &[u8],
@@ -92,7 +92,7 @@ fn by_coordinates(
     )
 }
 
-/// The name of the call of the row's kind that has no options, if there is one, and what it answers.
+/// The name of the call of the row's kind that has no options, if there is one, and what it returns.
 fn by_kind(
     alloc: Global,
     font: &[u8],
@@ -122,8 +122,8 @@ fn difference_in(row: &Row<'_>, call: &'static str, answered: &Answer) -> Option
     Some(Miss { call, difference })
 }
 
-/// Passes a row through the call with options and that of its kind, and answers the first that answered something else
-/// than the row says.
+/// Passes a row to the call with options and to that of its kind, and returns the first whose answer isn't what the
+/// row says.
 pub fn miss_of(alloc: Global, font: &[u8], row: &Row<'_>, options: &Options) -> Option<Miss> {
     let (call, answered) = if row.kind.varies() {
         by_coordinates(alloc, font, row, options)

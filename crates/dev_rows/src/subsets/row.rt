@@ -86,7 +86,7 @@ fn extras_of(drop: u32) -> Result<Extras, u32> {
     })
 }
 
-/// The limits of so many tokens and a depth.
+/// Limits of `tokens` tokens and a depth of `depth`.
 fn limits_of(tokens: u32, depth: u32) -> Result<Limits, u32> {
     let depth = u8::try_from(depth).map_err(|_| UNKNOWN_OPTION)?;
     Limits::new(tokens, depth).ok_or(NO_DEPTH)

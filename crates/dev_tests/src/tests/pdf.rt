@@ -1,4 +1,4 @@
-//! Parts of a PDF's font against values from outside. What `pdf_font` answers as a whole is in rows, which the bindings run.
+//! Parts of a PDF's font against values from outside. What `pdf_font` returns as a whole is in rows, which the bindings run.
 
 mod boxes;
 mod cff;

@@ -68,7 +68,7 @@ pub fn write_blocks(text: &mut Vec<u8>, pairs: &[CidOfCode]) -> Result<(), Error
     Ok(())
 }
 
-/// Writes what stands before the blocks.
+/// Writes what comes before the blocks.
 #[tactic(auto, unfolding(crate::specs::Cmaps::Encoding::encoding_front))]
 fn write_front(text: &mut Vec<u8>, vertical: bool) -> Result<(), Error>
     ensures ok { OnOk result (text.new.items ≡ text.old.items ++ encoding_front vertical) }

@@ -51,7 +51,7 @@ fn name_of(alloc: Global, vertical: bool, lines: &[u8]) -> Result<Vec<u8>, Error
     Ok(name)
 }
 
-/// Writes what stands before the name.
+/// Writes what comes before the name.
 #[tactic(auto, unfolding(crate::specs::Cmaps::CmapName::name_front))]
 fn write_front(text: &mut Vec<u8>) -> Result<(), Error>
     ensures ok { OnOk result (text.new.items ≡ text.old.items ++ name_front) }
@@ -63,7 +63,7 @@ fn write_front(text: &mut Vec<u8>) -> Result<(), Error>
     Ok(())
 }
 
-/// Writes what stands after the name.
+/// Writes what comes after the name.
 #[tactic(auto, unfolding(crate::specs::Cmaps::CmapName::name_back))]
 fn write_back(text: &mut Vec<u8>, vertical: bool) -> Result<(), Error>
     ensures ok { OnOk result (text.new.items ≡ text.old.items ++ name_back vertical) }

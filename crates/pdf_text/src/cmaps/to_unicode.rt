@@ -81,7 +81,7 @@ fn write_blocks(text: &mut Vec<u8>, mappings: &[Mapping<'_>]) -> Result<(), Erro
     Ok(())
 }
 
-/// Writes what stands before the blocks.
+/// Writes what comes before the blocks.
 #[tactic(auto, unfolding(crate::specs::Cmaps::Cmap::front))]
 fn write_front(text: &mut Vec<u8>) -> Result<(), Error>
     ensures ok { OnOk result (text.new.items ≡ text.old.items ++ front) }

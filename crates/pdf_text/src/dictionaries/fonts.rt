@@ -35,7 +35,7 @@ fn cmap_name(encoding: Option<OwnCmap<'_>>, vertical: bool) -> &[u8]
     }
 }
 
-/// Writes what stands after the name of a font with CFF outlines.
+/// Writes what comes after the name of a font with CFF outlines.
 #[tactic(auto, using(crate::proofs::Pieces::two_written))]
 fn write_name_end(text: &mut Vec<u8>, kind: ProgramKind, cmap: &[u8]) -> Result<(), Error>
     ensures ok { OnOk result (text.new.items ≡ text.old.items ++ name_end kind cmap.now) }

@@ -9,7 +9,7 @@ use crate::dictionaries::entries::{write_entry, write_name, write_size};
 use crate::values::{OwnCmap, ProgramKind};
 use subsetter_base::Error;
 
-/// Writes the entries of a font program of so many bytes, but for Length.
+/// Writes the entries of a font program of `size` bytes, except Length.
 pub fn write_program(text: &mut Vec<u8>, kind: ProgramKind, size: usize) -> Result<(), Error>
     ensures ok { OnOk result (text.new.items ≡ text.old.items ++ program_entries kind size) }
     ensures err { IfErr result (λ e. e ≡ OutOfMemory) }

@@ -47,7 +47,7 @@ fn run(width: u32, widths: &[u32]) -> usize
     n
 }
 
-/// How many widths at the front go on a list, of which it has at most so many.
+/// How many widths at the front go on a list of at most `most`.
 fn listed(most: usize, default: u32, widths: &[u32]) -> usize
     ensures value { result ≡ listed most default widths.now }
     ensures most { result ≤ length widths.now }
@@ -127,7 +127,7 @@ fn step<'a>(
     Ok(more)
 }
 
-/// The parts of an array for widths from CID 0 on. After its first a list has at most so many.
+/// The parts of an array for widths from CID 0 on. After its first width a list has at most `most` more.
 #[tactic(auto, using(crate::proofs::MetricsLaws::WidthLaws::Steps::headed, crate::proofs::MetricsLaws::WidthLaws::Steps::all_past))]
 pub fn parts_of(
     alloc: Global,
@@ -152,7 +152,7 @@ pub fn parts_of(
     Ok(parts)
 }
 
-/// How many elements a part adds to the outer array: a CID and a list, or two CIDs and so many numbers.
+/// How many elements a part adds to the outer array: a CID and a list, or two CIDs and `numbers` numbers.
 fn elements_of(part: Part<'_>, numbers: usize) -> usize
     requires { numbers ≤ 3 }
     ensures { result ≡ elements_of numbers (part_view part.entry) }
@@ -180,7 +180,7 @@ pub fn has_room(numbers: usize, parts: &[Part<'_>]) -> bool
     true
 }
 
-/// Lists of all widths from CID 0 on, each of at most so many.
+/// Lists of all widths from CID 0 on, each of at most `most`.
 #[tactic(auto, using(crate::proofs::MetricsLaws::WidthLaws::Lists::no_widths))]
 pub fn lists_of(alloc: Global, most: usize, widths: &[u32]) -> Result<Vec<Part<'_>>, Error>
     requires { 0 < most }

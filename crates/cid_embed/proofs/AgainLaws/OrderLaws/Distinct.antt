@@ -9,7 +9,7 @@ use Rattle.subsetter_base.proofs.Options.{just}
 use Rattle.subsetter_base.specs.Indexes.{index_of, IsWithoutRepeats}
 use Rattle.subsetter_base.proofs.GlyphLemmas.{index-finds, Contains-index, length-le_small}
 
--- equal members stand at one place
+-- equal members are at one place
 abbrev pub AreApart : List ℕ → Type 0
 AreApart xs = (i j : ℕ) → i < length xs → j < length xs → get_or xs i 0 ≡ get_or xs j 0 → i ≡ j
 

@@ -82,7 +82,7 @@ length-renumbered a b (Composite head chain) =
     let B = flat_map spelled (map (renumbered_component b) chain.components) in
     omega (arith, length-append (head ++ A) chain.tail, length-append head A, length-append (head ++ B) chain.tail, length-append head B, length-components a b chain.components)
 
--- ---- padding stands after the parts
+-- ---- padding comes after the parts
 
 pub padded_bytes : (hint long : Bool) (order bytes : List ℕ) (p : Parts) → ((g : ℕ) → new_index order g < 2 ^ 16) → IsBytes bytes → requested_parts hint (outline_parts bytes) ≡ Some p → parts_bytes (padded_parts long (renumbered order p)) ≡ padded long (parts_bytes (renumbered order p))
 padded_bytes hint long order bytes p small fit h = by p (asked_can hint bytes p fit h)

@@ -181,7 +181,7 @@ post_of_again find copy L M order middle fit few at h is = ap (λ (o : Option (L
 bare_long : (bytes : List ℕ) → 32 ≤ length bytes → without_glyph_names bytes ≡ to_be_bytes w32 0x00030000 ++ take 28 (drop 4 bytes)
 bare_long bytes le = ap (λ b. cond b (to_be_bytes w32 0x00030000 ++ take 28 (drop 4 bytes)) bytes) (le-leb 32 (length bytes) le)
 
--- what is taken of a table stands in its first 32 bytes
+-- what is taken of a table is in its first 32 bytes
 in_header : (bytes header : List ℕ) → range bytes 0 32 ≡ Some header → (32 ≤ length bytes) × (take 28 (drop 4 bytes) ≡ drop 4 header)
 in_header bytes header h =
     let long = range-fits bytes header 0 32 h in

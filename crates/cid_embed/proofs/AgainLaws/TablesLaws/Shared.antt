@@ -25,7 +25,7 @@ use Rattle.cid_embed.proofs.AgainLaws.TablesLaws.Names.{name_of_again}
 use Rattle.cid_embed.proofs.AgainLaws.OrderLaws.Places.{AreAt}
 use Rattle.cid_embed.proofs.AgainLaws.TablesLaws.SmallTables.{head_again, maxp_again}
 
--- the answer by the answers of the parts
+-- the result, from the results of the parts
 shared_by : Result (Option (List ℕ)) Error → Result (Option MetricBytes) Error → Result (Option (List ℕ)) Error → Result (Option (List ℕ)) Error → Result (Option (List ℕ)) Error → Result SharedTables Error
 shared_by h m x n p = h >>= λ head. m >>= λ metrics. x >>= λ maxp. n >>= λ name. p >>= λ post. Ok (record { head = head; metrics = metrics; maxp = maxp; name = name; post = post })
 

@@ -32,7 +32,7 @@ use Rattle.cid_embed.proofs.AgainLaws.OutlinesLaws.Outlines.{padded_all, padded_
 use Rattle.cid_embed.proofs.AgainLaws.OrderLaws.Places.{AreAt}
 use Rattle.cid_embed.proofs.AgainLaws.TablesLaws.Shared.{shared_again}
 
--- the answer by the answers of the parts
+-- the result, from the results of the parts
 by_parts : (List ℕ → Option (List ℕ)) → Result (List (List ℕ)) Error → (List (List ℕ) → Result SharedTables Error) → Result (List Table) Error
 by_parts find outlines shared = (outlines >>= λ bs. located bs >>= λ loca. shared bs >>= λ s. Ok (record { outlines = bs; loca = loca; shared = s })) >>= λ m. Ok (laid find m)
 

@@ -14,7 +14,7 @@ fn has_at(text: &[u8], offset: usize, part: &[u8]) -> bool {
         && &text[offset..offset + part.len()] == part
 }
 
-/// So many glyphs without a text, with codes from 0 on.
+/// `count` glyphs without a text, with codes from 0 on.
 fn many(alloc: Global, count: u16) -> Result<Vec<SheetGlyph<'static>>, Fail> {
     let mut glyphs = Vec::new(alloc);
     for code in 0..count {

@@ -42,7 +42,7 @@ says_from d all own m before (c ∷ cs) (suc j) h l at k =
     (mark_by d all own m before c _ _ refl refl (of_before d all m before c h) l (ap (λ n. column_at all n) (sym (add-zero own)) ∙ at 0 (omega arith)))
     (omega arith) (λ i n. let e : (own + 1) + i ≡ own + suc i = omega arith in ap (λ p. column_at all p) e ∙ at (suc i) (omega arith)) (omega arith)
 
--- the first column has mark 1, whatever stands before
+-- the first column has mark 1, whatever comes before
 first_says : (d : DefaultColumn) (c : Column) (cs : List Column) (a b : Bool) → is_default d c ≡ a → alike no_column c ≡ b → Says d (c ∷ cs) (mark d 1 no_column 1 c) c
 first_says d c cs true b p q = left_out p (rw p refl)
 first_says d c cs false true p q = rw (p, q) (kept p refl refl)

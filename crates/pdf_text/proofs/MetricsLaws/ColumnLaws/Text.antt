@@ -112,7 +112,7 @@ abbrev list_tokens : List Column → List (List ℕ) → List (List ℕ)
 list_tokens [] ts = codes "]" ∷ ts
 list_tokens (c ∷ cs) ts = column_tokens c (list_tokens cs ts)
 
--- what stands after a column on a list
+-- what comes after a column on a list
 after_column : (ts : List (List ℕ)) (rest : List ℕ) → (after : List ℕ) × (spread (spaced ts ++ (93 ∷ rest)) ≡ 32 ∷ after)
 after_column [] rest = (93 ∷ 32 ∷ spread rest, refl)
 after_column (t ∷ ts) rest = (spread ((t ++ spaced ts) ++ (93 ∷ rest)), refl)

@@ -39,7 +39,7 @@ number_token n rest after l e =
 abbrev pub AreSmall : List ℕ → Type 0
 AreSmall ws = All (λ w. w < 2 ^ 64) ws
 
--- what stands after a number on a list
+-- what comes after a number on a list
 past_number : (ts : List (List ℕ)) (rest : List ℕ) → (after : List ℕ) × (spread (spaced ts ++ (93 ∷ rest)) ≡ 32 ∷ after)
 past_number [] rest = (93 ∷ 32 ∷ spread rest, refl)
 past_number (t ∷ ts) rest = (spread ((t ++ spaced ts) ++ (93 ∷ rest)), refl)
