@@ -25,7 +25,7 @@ use subset_task::refusals::hint::text::Hint;
 use subset_task::task::{Form, Plan, Requests, Task};
 use subsetter::{Error, Tag};
 
-/// Prints why a run failed, if it did, and answers the status.
+/// Prints why a run failed, if it did, and returns the status.
 pub fn report<R: Eprint>(rt: &R, ended: &Result<(), Failure>, file: Option<&str>) -> u8
     ensures { result ≡ status_of_end ended.now }
 {
