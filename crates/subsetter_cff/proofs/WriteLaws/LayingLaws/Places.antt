@@ -1,4 +1,4 @@
--- Where the parts of a table are that is laid out.
+-- Where the parts of a laid-out table are.
 use Rattle.std.proofs.Common.{◌≡◌, ℕ, suc, ◌+◌, List, [], ◌∷◌, ◌++◌, length, refl, ap, arith, ◌∙◌, sym, append_assoc, length-append}
 use Rattle.std.specs.Int.{bytes_high_first}
 use Rattle.std.proofs.lemmas.List.{drop_at, append-nil}
