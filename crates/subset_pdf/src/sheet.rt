@@ -210,8 +210,8 @@ fn sheet_of(
     }
 }
 
-/// A PDF that shows glyphs of a font in 36 points, each with its text, the next characters by its length: in a line, or in
-/// a grid of 12 by 16 a page. A line is that of a text, unless it is chosen how glyphs get codes.
+/// A PDF that shows glyphs of a font in 36 points, in a line, or in a grid of 12 by 16 a page. Each has its text: as many of the
+/// next characters as its length says. A line is that of a text, unless it is chosen how glyphs get codes.
 ///
 /// # Errors
 ///

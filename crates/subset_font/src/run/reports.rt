@@ -30,7 +30,7 @@ pub fn report<R: Eprint>(rt: &R, ended: &Result<(), Failure>, file: Option<&str>
     ensures { result ≡ status_of_end ended.now }
 {
     if let Err(failure) = ended {
-        // Nobody could be told of a failure here, so the status alone tells.
+        // A failure here could be reported to nobody, so the status alone shows it.
         let _ = eprintln!(rt; "{}", Report { failure, file });
     }
     status_of_run(ended)

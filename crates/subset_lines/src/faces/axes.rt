@@ -27,7 +27,7 @@ use subsetter_variation::locations::axes::{Axis, axes};
 
 // ---- reading
 
-/// `count` records of one size each.
+/// `count` records of `size` bytes each.
 #[tactic(auto, using(crate::proofs::Listed::slices_step, crate::proofs::Listed::records_cut))]
 fn records_at(
     alloc: Global,

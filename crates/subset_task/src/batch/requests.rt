@@ -318,7 +318,7 @@ pub fn due_of<'a>(
 
 /// For each request the index of the next one of its source; that of none, which is their number, where there is none.
 ///
-/// It has no contract: it decides in which order requests are done, and each is done whatever its answer.
+/// It has no contract: it decides in which order requests are done, and each is done whatever its answer is.
 pub fn next_of_source(alloc: Global, requests: &[Request]) -> Result<Vec<usize>, AllocError> {
     let mut next = Vec::with_capacity(alloc, requests.len())?;
     let mut last: HashMap<String, usize> = HashMap::new(alloc);

@@ -112,8 +112,8 @@ impl GlyphCache {
         }
     }
 
-    /// These slots with a glyph that was unfolded at a depth, if it is a simple one of few points: `before` and `after` are the steps that
-    /// were left. It is copied, so that no more room is held than it takes, and its lists are kept.
+    /// These slots with a glyph that was unfolded at a depth, if it is a simple one of few points: `before` and `after` are the
+    /// steps that were left. It is copied, so that no more room is held than it takes, and its lists are kept.
     pub fn with(
         self,
         alloc: Global,

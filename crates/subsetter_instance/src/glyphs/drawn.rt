@@ -28,7 +28,7 @@ use subsetter_variation::items::advances::{advance_delta, advance_deltas};
 const UNIT: u64 = 1 << 30;
 /// Half of it.
 const HALF: i64 = 1 << 29;
-/// As much of it as makes a sum with any coordinate greater than 0.
+/// As many units as make the sum with any coordinate greater than 0.
 const ABOVE_UNITS: i64 = 1 << 31;
 /// What is drawn of a glyph, in parts.
 const ABOVE: i64 = 1 << 61;

@@ -67,7 +67,7 @@ fn longer_by_fixed(
     Some(stretch.with_number(stretch.len + 5))
 }
 
-/// One token longer, where an operator and its mask follow and the length of masks is known: the mask isn't the first one.
+/// One token longer, where a mask of `mask_len` bytes follows. That is 0 before the first mask, whose length isn't known yet.
 #[inline(always)]
 fn longer_by_mask(
     stretch: Stretch,

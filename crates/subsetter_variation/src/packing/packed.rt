@@ -22,11 +22,11 @@ use subsetter_base::Error;
 pub(crate) const DELTAS_ARE_ZERO: u8 = 0x80;
 /// Each has two bytes.
 pub(crate) const DELTAS_ARE_WORDS: u8 = 0x40;
-/// Counts are below these flags: one more than DELTA_RUN_COUNT_MASK.
+/// How many values are below these flags: one more than DELTA_RUN_COUNT_MASK.
 pub(crate) const DELTA_RUN_COUNTS: u8 = 0x40;
 /// The flag of a run of point numbers: each has two bytes.
 const POINTS_ARE_WORDS: u8 = 0x80;
-/// Counts are below this flag: one more than POINT_RUN_COUNT_MASK.
+/// How many values are below this flag: one more than POINT_RUN_COUNT_MASK.
 const POINT_RUN_COUNTS: u8 = 0x80;
 /// The flag of a count of point numbers that has two bytes.
 const COUNT_IS_WORD: u8 = 0x80;

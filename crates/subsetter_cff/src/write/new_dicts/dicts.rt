@@ -140,7 +140,7 @@ pub fn write_dicts(
 }
 
 /// Whether the private dicts are longer than a bound on bytes. They are written, one after the other, until they are; a real
-/// that is too long ends that, and is told where the table is written.
+/// that is too long ends that, and is reported where the table is written.
 fn privates_pass(alloc: Global, dicts: &[FontDictParts<'_>], most: u32) -> Result<bool, Error>
     ensures past { IfOk result (λ b. b ≡ true → most < length (privates (map font_dict_view dicts.now))) }
     ensures err { IfErr result (λ e. e ≡ OutOfMemory) }
