@@ -12,7 +12,7 @@ use Rattle.subsetter_variation.specs.Nearest.{nearest}
 turned : (d m k : ℕ) → d * m * k ≡ d * k * m
 turned d m k = mul_assoc d m k ∙ (ap (λ (n : ℕ). d * n) (mul_comm m k) ∙ sym (mul_assoc d k m))
 
--- so many parts of a unit, and those of a digit before them
+-- v parts of a unit, and those of a digit before them
 as_sum : (d m v k : ℕ) → (d * m + v) * k ≡ d * k * m + v * k
 as_sum d m v k = add-mul (d * m) v k ∙ ap (λ (n : ℕ). n + v * k) (turned d m k)
 

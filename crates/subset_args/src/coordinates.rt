@@ -15,7 +15,7 @@ use std::alloc::{AllocError, Global};
 use subsetter_base::Tag;
 use subsetter_variation::rounding::nearest;
 
-/// A number without a sign: so many halves of a 65536th, and whether there is more.
+/// A number without a sign: how many halves of a 65536th it has, and whether there is more.
 #[derive(Clone, Copy)]
 pub struct Halves {
     pub count: u64,
@@ -113,7 +113,7 @@ fn fixed(quarters: i64) -> Option<i32>
     i32::try_from(nearest(quarters, 4)).ok()
 }
 
-/// A number that is as near to each whole 65536th as so many halves, in quarters.
+/// A number in quarters that is rounded to the same 65536th as these halves.
 fn quarters_of(halves: Halves) -> u64
     requires { halves.count ≤ 8600000000 }
     ensures value { result ≡ quarters halves }
@@ -123,7 +123,7 @@ fn quarters_of(halves: Halves) -> u64
     if halves.more { count + 1 } else { count }
 }
 
-/// So many below 0.
+/// The negative of a count.
 fn negative(count: u64) -> i64
     requires { count ≤ 18000000000 }
     ensures value { result ≡ neg_ℤ (pos count) }
@@ -132,7 +132,7 @@ fn negative(count: u64) -> i64
     -(count as i64)
 }
 
-/// So many above 0.
+/// A count as a signed number.
 fn positive(count: u64) -> i64
     requires { count ≤ 18000000000 }
     ensures value { result ≡ pos count }

@@ -12,7 +12,7 @@ ghost use Rattle.subset_args.specs.Words.{number_in_bits, tag_of};
 use std::alloc::{AllocError, Global};
 use subsetter_base::Tag;
 
-/// Whether a plus stands first, which `parse` lets pass.
+/// Whether the first character is a plus, which `parse` accepts.
 fn begins_with_plus(word: &str) -> bool
     ensures { result ≡ (slice_index word.now 0 == 43) }
 {

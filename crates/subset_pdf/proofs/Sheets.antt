@@ -49,7 +49,7 @@ text_fault_named font settings options count ps e (in_subset lacking) = let f = 
 text_fault_named font settings options count ps _ (in_drawing subset made fault) = in_drawing subset made fault
 
 module _ (bytes : List ℕ) (request : PdfRequest) (shown : List Shown) where
-  -- a fault for which `pdf_font` answers nothing, by the options that it gets
+  -- a fault for which `pdf_font` returns nothing, by the options that it gets
   abbrev FaultBy : FontOptions → FontError → Type 0
   FaultBy options e = (e ≡ Subset OutOfMemory) ⊎ ((order : List ℕ) × HasFontFault (font_of bytes request.index options) request.at.now options (uses_of shown) order e)
 

@@ -8,7 +8,7 @@ use pdf_font::Shown;
 use std::alloc::Global;
 use subsetter_base::Error;
 
-/// So many characters of a text, or all where there are fewer, and the others.
+/// The first `count` characters of a text, or all where there are fewer, and the others.
 fn cut(text: &[char], count: usize) -> (&[char], &[char])
     ensures text { result.0.now ≡ take count text.now }
     ensures others { result.1.now ≡ drop count text.now }
@@ -31,7 +31,7 @@ fn take_number(numbers: &[usize]) -> (usize, &[usize])
     }
 }
 
-/// Glyphs in use, in order, each with its text: so many of the characters that are left.
+/// Glyphs in use, in order, each with its text: the next of the characters, as many as its length says.
 ///
 /// # Errors
 ///

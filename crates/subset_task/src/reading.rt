@@ -8,7 +8,7 @@ use crate::refusals::failure::Failure;
 use std::alloc::Global;
 use std::io::Read;
 
-/// The bytes that a reader has left, with room for so many taken at once.
+/// The bytes that a reader has left; memory for `room` of them is reserved at once.
 pub fn read_whole<R: Read>(alloc: Global, reader: &mut R, room: usize) -> Result<Vec<u8>, Failure>
     ensures bytes { IfOk result (λ font. IfSome (R.remaining reader.old) (λ bytes. font.items ≡ bytes)) }
     ensures end { OnOk result (IsAtEnd (R.remaining reader.new)) }

@@ -28,7 +28,7 @@ use subsetter_sfnt::laying::tables::in_order;
 use subsetter_sfnt::parse::parse;
 use subsetter_type2::limits::Limits;
 
-/// A subset of a TrueType font that has at most so many bytes.
+/// A subset of a TrueType font. Where `bytes` is given, it has at most that many.
 fn subset_truetype(
     alloc: Global,
     face: &Face<'_>,
@@ -208,7 +208,7 @@ pub fn subset_with_options(
 ///   the header or a record of the directory is cut.
 /// - `Unimplemented`: the outlines are those of `CFF2`.
 pub fn check_opening(data: &[u8], index: u32, extras: Extras) -> Result<(), Error>
-    // In a font that can be opened no such fault stands.
+    // A font that can be opened has no such fault.
     ensures ok { OnOk result ((e : SpecError) → ¬ (HasOpeningFault (font_at «data».now index extras) e)) }
     // What can't be opened has a fault of that name.
     ensures err { IfErr result (λ e. HasOpeningFault (font_at «data».now index extras) e) }

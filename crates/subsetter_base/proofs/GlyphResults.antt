@@ -1,4 +1,4 @@
--- What making a remapper of sorted glyphs answers, said of the glyphs as they were given.
+-- What comes of making a remapper of sorted glyphs, stated for the glyphs as they were given.
 use Rattle.std.proofs.Common.{◌≡◌, ℕ, List, [], ◌∷◌, Result, Ok, Err, subst, sym, inl, inr, ◌⊎◌}
 use Rattle.std.specs.Prelude.{IfOk, IfErr, OnOk}
 use Rattle.std.specs.List.Sorted.{IsPermutation, IsSorted}

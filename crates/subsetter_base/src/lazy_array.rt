@@ -37,7 +37,7 @@ impl<'a, T: Readable<'a>> LazyArray16<'a, T> {
         Self::of_items(data, (data.len() / T::SIZE) as u16)
     }
 
-    /// The array of so many items over these bytes.
+    /// The array of `len` items over these bytes.
     pub(crate) fn of_items(data: &'a [u8], len: u16) -> Self
         ensures { result ≡ record { bytes = «data».now; count = len } }
     {

@@ -76,7 +76,7 @@ pub extern "C" fn subsetter_subset(
     )
 }
 
-/// As `subsetter_subset`, where the charstring of a glyph may run for so many tokens, and call to such a depth.
+/// As `subsetter_subset`, where the charstring of a glyph may run for `tokens` tokens, and call to `depth` levels.
 ///
 /// Status 9 besides: the depth is 0; nothing is written, and `length` is 0.
 #[unsafe(no_mangle)]

@@ -1,7 +1,7 @@
 //! The subsetter as a C library.
 //!
-//! Each exported function takes a font and glyph numbers, calls one function of the libraries below, hands what that
-//! answers over in buffers of the caller or in memory of its own, and answers a status. `bindings/c/subsetter.h` declares
+//! Each exported function takes a font and glyph numbers, calls one function of the libraries below, hands over its result
+//! in buffers of the caller or in memory of its own, and returns a status. `bindings/c/subsetter.h` declares
 //! them for C. A slice is passed as a pointer and a count.
 //!
 //! ```text

@@ -12,14 +12,14 @@ pub fn word(words: &[u32], at: usize) -> u32
     words.get(at).copied().unwrap_or(0)
 }
 
-/// 0 stands for the default.
+/// A number, where 0 means the default.
 pub fn or_default(n: u32, usual: u32) -> u32
     ensures { result ≡ or_default n usual }
 {
     if n == 0 { usual } else { n }
 }
 
-/// With so many bytes at most, where these aren't 0.
+/// With at most `bytes` bytes, where that isn't 0.
 fn bounded(limits: Limits, bytes: u32) -> Limits
     ensures tokens { result.tokens ≡ limits.tokens }
     ensures depth { result.depth ≡ limits.depth }

@@ -44,7 +44,7 @@ pub fn settings_of(alloc: Global, coordinates: &[Coordinate]) -> Result<Vec<(Tag
 ///
 /// # Errors
 ///
-/// `OutOfMemory`: a request for memory was refused. For a font that can't be opened it is what `check_opening_at` answers.
+/// `OutOfMemory`: a request for memory was refused. For a font that can't be opened it is what `check_opening_at` returns.
 pub fn settings_for(
     alloc: Global,
     font: &[u8],
@@ -54,7 +54,7 @@ pub fn settings_for(
 ) -> Result<Vec<(Tag, i32)>, Error>
     ensures ok { IfOk result (λ v. v.items ≡ settings_of coordinates.now) }
     ensures err { IfErr result (λ e. (e ≡ OutOfMemory) ⊎ HasOpeningFaultAt (font_at font.now index extras) e) }
-    // Where a fault stands that is found before memory is taken, the answer isn't out of memory.
+    // Where there is a fault that is found before memory is taken, the result isn't out of memory.
     ensures before_memory { (e : SpecError) → HasOpeningFaultAt (font_at font.now index extras) e → result ≢ Err OutOfMemory }
 {
     match settings_of(alloc, coordinates) {

@@ -9,7 +9,7 @@ use Rattle.subsetter_variation.specs.Items.ItemVariations.{region_index, region_
 use Rattle.subsetter_cff2.specs.Variation.{are_regions_below}
 use Rattle.subsetter_cff2.specs.RegionRuns.{index_at, one_more, run, AreRuns}
 
--- so many indexes from a place on are below the bound
+-- whether all of a count of indexes, from a place on, are below the bound
 abbrev all_below : ℕ → List ℕ → ℕ → ℕ → Bool
 all_below bound bytes zero place = true
 all_below bound bytes (suc c) place = nat_lt (index_at bytes place) bound && all_below bound bytes c (place + 2)

@@ -1,4 +1,4 @@
--- Where a table is made, no fault stands.
+-- Where a table is made, there is no fault.
 use Rattle.std.proofs.Common.{◌≡◌, ℕ, zero, suc, ◌+◌, ◌<◌, ◌^◌, pos, Bool, true, false, cond, List, [], ◌∷◌, length, map, Option, Some, None, refl, ap, arith, ◌∙◌, sym, subst}
 use Rattle.std.specs.Prelude.{nat_lt, slice_get, Result, Ok, Err}
 use Rattle.std.specs.List.{concat, flat_map}

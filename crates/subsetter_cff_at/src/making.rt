@@ -91,7 +91,7 @@ pub fn make_table(
     ensures ok { IfOk result (λ t. IsTableAt bytes.now (request_of request.now) limits.tokens limits.depth (table_bytes t.pieces)) }
     // With the box of each glyph of that table, by its charstring.
     ensures boxes { IfOk result (λ t. t.boxes.items ≡ table_boxes (table_bytes t.pieces)) }
-    // And then no fault stands in the table.
+    // And then the table has no fault.
     ensures clean { IfOk result (λ t. (e : SpecError) → HasFault bytes.now (request_of request.now) limits.tokens limits.depth e → ⊥) }
     // And the charstrings of the requested glyphs have no more bytes than they may have.
     ensures within { IfOk result (λ _. KeepsBound limits.bytes (drawn_of bytes.now (request_of request.now) limits.tokens limits.depth)) }

@@ -1,4 +1,4 @@
--- Where there is no static font a fault stands, and where a fault stands there is none.
+-- Where there is no static font there is a fault, and where there is a fault there is no static font.
 pub mod Opening
 pub mod Source
 pub mod Glyph

@@ -74,7 +74,7 @@ module _ (font : Font) (d seen cff2 : List ℕ) (settings : List (Tag × ℤ)) (
   in_new_table : (e : Error) → HasTableFault (table_in seen d) cff2 settings glyphs tokens depth e → HasCffInstanceFault font settings glyphs tokens depth e
   in_new_table e f = let t = subst (λ find. HasTableFault find cff2 settings glyphs tokens depth e) find_is f in in_table cff2 t.p (taken font d cff2 o outlines).cff2_is t.prepared_is t.fault
 
-  -- no fault stands that is found before memory is taken
+  -- there is no fault that is found before memory is taken
   pub made_before : {V : Type 0} (r : Result V Error) (e : Error) → HasOutlinesFault font e → r ≢ Err OutOfMemory
   made_before r e f h = absurd (no_outlines_fault font cff2 e (taken font d cff2 o outlines) f)
 

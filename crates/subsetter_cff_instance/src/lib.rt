@@ -1,5 +1,5 @@
-//! A static font of a font with outlines in `CFF2`: [`cff_instance`] answers a font with a CID-keyed `CFF ` in which each glyph that is
-//! requested is what the font has at a location, under its old number.
+//! A static font of a font with outlines in `CFF2`: [`cff_instance`] returns a font with a CID-keyed `CFF ` in which each
+//! glyph that is requested is what the font has at a location, under its old number.
 //!
 //! ```text
 //! let file = cff_instance(alloc, data, 0, &coordinates, &mapper, Limits::default())?;

@@ -1,4 +1,4 @@
--- At the default a glyph is drawn as it stands in the source, without its variations.
+-- At the default a glyph is drawn as it is in the source, without its variations.
 use Rattle.std.proofs.Common.{◌≡◌, ℕ, List, length, Option, Some, None, Ok, ℤ, pos, All, refl, sym, ap, ◌∙◌}
 use Rattle.std.specs.Option.{ok_or}
 use Rattle.subsetter_base.specs.Bytes.{◌>>=◌}

@@ -1,4 +1,4 @@
--- Where there is no instance a fault stands, and where a fault stands there is none.
+-- Where there is no instance there is a fault, and where there is a fault there is no instance.
 pub mod Opening
 pub mod Parts
 pub mod Place

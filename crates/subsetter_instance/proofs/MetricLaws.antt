@@ -178,7 +178,7 @@ module _ (table : List ℕ) (bytes : IsBytes table) where
   word_at : (at : ℕ) → at + 2 ≤ length table → signed_word (signed_at table at) ≡ take 2 (drop at table)
   word_at at fits = word_back (take 2 (drop at table)) (IsBytes-take 2 (drop at table) (IsBytes-drop at table bytes)) (length-take-le 2 (drop at table) (omega (arith, length-drop at table)))
 
-  -- so many bytes, and those after them
+  -- n bytes, and those after them
   next : (n at : ℕ) → take n (drop at table) ++ drop (at + n) table ≡ drop at table
   next n at = ap (λ (l : List ℕ). take n (drop at table) ++ l) (sym (drop-drop n at table)) ∙ take-append-drop n (drop at table)
 

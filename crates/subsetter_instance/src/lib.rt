@@ -1,4 +1,4 @@
-//! A static font of a variable TrueType font: `instance` answers a font in which each glyph that is requested is the
+//! A static font of a variable TrueType font: `instance` returns a font in which each glyph that is requested is the
 //! simple outline, without instructions, that the variable font has at a location, under its old number.
 #![tactic(auto)]
 

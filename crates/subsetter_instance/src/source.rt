@@ -58,7 +58,7 @@ pub fn normalized_coordinates(
     }
 }
 
-/// The variations of outlines for so many axes, if there are some.
+/// The variations of outlines for `axes` axes, if there are some.
 fn variations_in(gvar: Option<&[u8]>, axes: usize) -> Option<Option<Gvar<'_>>>
     ensures value { result ≡ variations_in (option_copied gvar.entry) axes }
     ensures axes { IfSome result (λ t. HasAxes t axes) }
@@ -74,7 +74,7 @@ fn variations_in(gvar: Option<&[u8]>, axes: usize) -> Option<Option<Gvar<'_>>>
     }
 }
 
-/// The tables of a font of so many axes, unless one is missing or cut.
+/// The tables of a font with `axes` axes, unless one is missing or cut.
 #[tactic(auto, unfolding(crate::specs::Source::source_in))]
 pub fn source_in<'a>(face: &Face<'a>, axes: usize) -> Option<Source<'a>>
     ensures value { result ≡ source_in (table_in face.now.«data».now face.now.records.now) axes }
@@ -102,7 +102,7 @@ pub fn source_in<'a>(face: &Face<'a>, axes: usize) -> Option<Source<'a>>
     })
 }
 
-/// The tables of a font of so many axes. `Unimplemented` where `gvar`, `HVAR` or `MVAR` has a major version other than 1, else
+/// The tables of a font with `axes` axes. `Unimplemented` where `gvar`, `HVAR` or `MVAR` has a major version other than 1, else
 /// `MalformedFont` where a table is missing or cut.
 pub fn source_or_fault<'a>(face: &Face<'a>, axes: usize) -> Result<Source<'a>, Error>
     ensures value { result ≡ source_or_fault (table_in face.now.«data».now face.now.records.now) axes }

@@ -44,7 +44,7 @@ fn are_ascending(ends: &[usize], count: usize) -> bool
     last <= count
 }
 
-/// Whether so many glyphs have texts: each number is a character, there are as many ends, they are in ascending order, and none
+/// Whether `count` glyphs have texts: each number is a character, there are as many ends, they are in ascending order, and none
 /// is past the characters.
 pub fn are_texts(count: usize, text: &[u32], ends: &[usize]) -> bool
     ensures { result ≡ are_texts count text.now ends.now }

@@ -51,7 +51,7 @@ pub fn characters_in(alloc: Global, text: &str) -> Result<Vec<u32>, Error>
     Ok(numbers_of(alloc, &characters)?)
 }
 
-/// Where each of so many texts ends that have one character each.
+/// Where each of `count` texts ends, if each has one character.
 ///
 /// # Errors
 ///

@@ -30,7 +30,7 @@ pub struct TextItem {
     pub y_offset: i32,
 }
 
-/// Whether the text that begins at a glyph, if any does, is among so many characters.
+/// Whether the text that begins at a glyph, if any does, is within `count` characters.
 fn is_ranged(count: usize, item: TextItem) -> bool
     ensures { result ≡ is_ranged count item }
 {

@@ -79,7 +79,7 @@ fn places_in(alloc: Global, parts: &[TextPart]) -> Result<Vec<Placed>, RunError>
     Ok(places)
 }
 
-/// Whether the parts of an own glyph are the first of so many that are left.
+/// Whether the parts of an own glyph are the first of the `left` parts.
 fn is_own(before: u32, left: usize, own: TextOwn) -> bool
     ensures { result ≡ is_own before left own }
 {
@@ -149,7 +149,7 @@ pub fn glyphs_of(alloc: Global, owns: &[TextOwn], parts: &[TextPart]) -> Result<
 
 // ---- to C
 
-/// The end of so many parts after others.
+/// The end of `count` parts after others.
 fn end_after(before: u32, count: usize) -> Option<u32>
     ensures { IfSome result (λ end. end ≡ before + count) }
 {

@@ -27,7 +27,7 @@ impl Limits {
         })
     }
 
-    /// These limits, where at most so many bytes may be written.
+    /// These limits, where at most `bytes` bytes may be written.
     pub fn with_bytes(self, bytes: u32) -> Self
         ensures { (result.tokens ≡ self.tokens) × (result.depth ≡ self.depth) × (result.bytes ≡ Some bytes) }
     {
@@ -61,7 +61,7 @@ impl Limits {
         self.bytes
     }
 
-    /// Whether so many bytes are too many.
+    /// Whether `len` bytes are more than may be written.
     #[inline(always)]
     pub fn is_past(&self, len: usize) -> bool
         ensures { result ≡ is_past self.now.bytes len }

@@ -1,6 +1,6 @@
 //! A charstring as a list of instructions.
 //!
-//! `Program::default` answers a `Program` and no `Result`, as it takes no memory.
+//! `Program::default` returns a `Program` and no `Result`, as it takes no memory.
 
 ghost use Rattle.std.specs.Prelude.{◌≡◌, ◌++◌, ◌∷◌, [], OnOk, OnErr, IfOk, IfErr, MatchOption};
 ghost use Rattle.subsetter_type2.specs.Flat.{flat_operands};

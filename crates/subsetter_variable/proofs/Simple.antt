@@ -60,7 +60,7 @@ words_length : (es : List ℕ) → length (end_bytes es) ≡ 2 * length es
 words_length [] = refl
 words_length (e ∷ es) = omega (arith, length-append (to_be_bytes w16 e) (end_bytes es), words_length es)
 
--- what stands around a length of 0
+-- what is around a length of 0
 bare_around : (bytes front following : List ℕ) (n : ℕ) → bytes ≡ front ++ (0 ∷ 0 ∷ following) → number bytes 0 2 ≡ Some n → length front ≡ 10 + 2 * n → bare_simple bytes ≡ bytes
 unfolding bare_simple
 bare_around bytes front following n is contours long =

@@ -1,4 +1,4 @@
--- What the tables that were found say of where a font stands.
+-- What the tables that were found say of the location of a font.
 use Rattle.std.proofs.Common.{◌≡◌, ℕ, Bor, Bool, true, false, List, Option, Some, None, Result, Ok, Err, ℤ, pos, refl, sym, ap, subst, ◌∙◌, ◌⊎◌, inl, inr}
 use Rattle.std.specs.Prelude.{codes, All, is_some, IsSome, IsTrue, ◌↔◌}
 use Rattle.std.specs.Option.{option_copied}

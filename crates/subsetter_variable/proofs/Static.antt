@@ -140,7 +140,7 @@ module _ (font : Font) (settings : List (Tag × ℤ)) (glyphs : List ℕ) (stati
     too_long : (most : ℕ) (out : List ℕ) → bound ≡ Some most → IsWithin bound out → most < length out → ⊥
     too_long most out set within longer = let fits = subst (λ (b : Option ℕ). IsWithin b out) set within in omega arith
 
-    -- no fault stands in the static font where it has an answer within the bound
+    -- the static font has no fault where it has an answer within the bound
     no_fault_within : (out : List ℕ) (a : IsAnswer tokens depth static glyphs out) → IsWithin bound out → (e : Error) → HasFaultWithin bound tokens depth static glyphs a.subset.keeps.order e → ⊥
     no_fault_within out a within e (in_font f) = a.clean e f
     no_fault_within out a within e (beyond b) = too_long b.most out b.is_set within (b.longer out a)

@@ -26,7 +26,7 @@ fn are_zero(at: &[i32]) -> bool
     at.iter().all(|v| *v == 0)
 }
 
-/// Whether a font stands at its default for user coordinates, each a tag and a value in 65536ths: it has no outlines in
+/// Whether user coordinates, each a tag and a value in 65536ths, are a font's default: it has no outlines in
 /// `glyf`, or each of its normalized coordinates is 0. A file that can't be opened has no outlines.
 ///
 /// # Errors
@@ -85,7 +85,7 @@ fn moved_instance(
 ) -> Result<Option<Vec<u8>>, Error>
     // There is none at the font's default, and elsewhere it is an instance of the font, read afresh from its bytes.
     ensures ok { IfOk result (λ made. MatchOption made (IsAtDefault (font_at «data».now index all_extras) coordinates.now) (λ file. ¬ (IsAtDefault (font_at «data».now index all_extras) coordinates.now) × IsInstance (font_at «data».now index all_extras) coordinates.now mapper.now file.items)) }
-    // And then no fault stands.
+    // And then there is no fault.
     ensures clean { IfOk result (λ made. IfSome made (λ _. (e : SpecError) → ¬ (HasInstanceFault (font_at «data».now index all_extras) coordinates.now mapper.now steps e))) }
     // What is refused isn't at its default, and has a fault of that name.
     ensures err { IfErr result (λ e. (e ≡ OutOfMemory) ⊎ (¬ (IsAtDefault (font_at «data».now index all_extras) coordinates.now) × HasInstanceFault (font_at «data».now index all_extras) coordinates.now mapper.now steps e)) }
@@ -121,8 +121,8 @@ fn static_cff(
 /// The static font that a font is at user coordinates: None where it is at its default, and is to be taken as it is, with
 /// its hints. Else it is a file with one font, of index 0, in which the mapper's glyphs have their old numbers.
 ///
-/// - Of outlines in `glyf` it is what `instance` answers, where each glyph may take as many steps as `limits` has tokens.
-/// - Of outlines in `CFF2`, without `glyf` and `CFF `, it is what `cff_instance` answers, at the font's default too, where each
+/// - Of outlines in `glyf` it is what `instance` returns, where each glyph may take as many steps as `limits` has tokens.
+/// - Of outlines in `CFF2`, without `glyf` and `CFF `, it is what `cff_instance` returns, at the font's default too, where each
 ///   charstring may run within the tokens and the depth of `limits`.
 /// - The bytes of `limits` bound neither.
 ///
@@ -143,7 +143,7 @@ pub fn static_font(
     // There is none at the default of a font without outlines in CFF2 alone; else it is an instance, or a font with outlines in `CFF `
     // that is made of those of CFF2, read afresh from its bytes.
     ensures ok { IfOk result (λ made. MatchOption made (IsAtDefault (font_at «data».now index all_extras) coordinates.now × ¬ (IsCff2Font (font_at «data».now index all_extras))) (λ file. IsStaticFile (font_at «data».now index all_extras) coordinates.now mapper.now file.items)) }
-    // And then no fault stands.
+    // And then there is no fault.
     ensures clean { IfOk result (λ _. (e : SpecError) → ¬ (HasStaticFault (font_at «data».now index all_extras) coordinates.now mapper.now limits.now.tokens limits.now.depth e)) }
     // What is refused isn't at its default, or its outlines are those of CFF2, and it has a fault of that name.
     ensures err { IfErr result (λ e. (e ≡ OutOfMemory) ⊎ HasStaticFault (font_at «data».now index all_extras) coordinates.now mapper.now limits.now.tokens limits.now.depth e) }

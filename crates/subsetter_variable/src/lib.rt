@@ -1,8 +1,8 @@
 //! Subsets of variable fonts: a font with some glyphs of a font, as they are at user coordinates on its axes.
 //!
-//! [`subset_with_variations`] answers what `subset` answers for a font that is at its default, with its hints. Where it
-//! is elsewhere, it makes the static font that `instance` answers, and subsets that; of a font with outlines in `CFF2` alone
-//! it makes the one that `cff_instance` answers, at its default too. [`static_font`] answers that font itself, for
+//! [`subset_with_variations`] returns what `subset` returns for a font that is at its default, with its hints. Where it
+//! is elsewhere, it makes the static font that `instance` returns, and subsets that; of a font with outlines in `CFF2` alone
+//! it makes the one that `cff_instance` returns, at its default too. [`static_font`] returns that font itself, for
 //! whatever takes one, as `embed` of `cid_embed`.
 //!
 //! ```text

@@ -26,7 +26,7 @@ use subsetter::{
 ///
 /// Those of `check_opening`, but for the one of `CFF2`.
 pub fn check_opening_at(data: &[u8], index: u32, extras: Extras) -> Result<(), Error>
-    // In a font that can be opened no such fault stands.
+    // A font that can be opened has no such fault.
     ensures ok { OnOk result ((e : SpecError) → ¬ (HasOpeningFaultAt (font_at «data».now index extras) e)) }
     // What can't be opened has a fault of that name.
     ensures err { IfErr result (λ e. HasOpeningFaultAt (font_at «data».now index extras) e) }

@@ -38,7 +38,7 @@ fn is_key_up_to(table: &[u8], records: Records, place: usize, wanted: u32) -> bo
     }
 }
 
-/// How many of so many records are there.
+/// How many of `count` records are there.
 fn records_there(table: &[u8], records: Records, count: u32) -> usize
     requires { 0 < records.size }
     ensures value { result ≡ records_there table.now records.at records.size count }
@@ -48,7 +48,7 @@ fn records_there(table: &[u8], records: Records, count: u32) -> usize
     room.min(count as usize)
 }
 
-/// How many of the keys of so many records are at most a number.
+/// How many of the keys of `count` records are at most `wanted`.
 #[tactic(auto, using(crate::proofs::HalfSteps::half_on, crate::proofs::HalfSteps::half_back, crate::proofs::HalfSteps::half_done, crate::proofs::HalfSteps::half_end))]
 fn count_up_to(table: &[u8], records: Records, count: usize, wanted: u32) -> usize
     requires few { count < 2 ^ 32 }
@@ -74,7 +74,7 @@ fn count_up_to(table: &[u8], records: Records, count: usize, wanted: u32) -> usi
     low
 }
 
-/// The place of the last of so many records whose key is at most a number.
+/// The place of the last of `count` records whose key is at most `wanted`.
 #[tactic(auto, unfolding(crate::specs::Halves::last_up_to))]
 pub fn last_up_to(table: &[u8], records: Records, count: u32, wanted: u32) -> Option<usize>
     requires some { 0 < records.size }

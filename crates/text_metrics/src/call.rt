@@ -48,7 +48,7 @@ fn each_metrics(alloc: Global, units: u16, advances: &[u16]) -> Result<Vec<Glyph
     Ok(metrics)
 }
 
-/// The numbers of so many glyphs.
+/// The glyphs 0 to `count` - 1.
 #[tactic(auto, using(crate::proofs::Each::each_more, crate::proofs::Each::each_done))]
 pub(crate) fn numbers(alloc: Global, count: u16) -> Result<Vec<u16>, Error>
     ensures ok { IfOk result (λ v. v.items ≡ each_from (λ g. g) 0 count) }

@@ -46,7 +46,7 @@ fn each_metrics(alloc: Global, columns: &[Column]) -> Result<Vec<GlyphMetrics>, 
     Ok(metrics)
 }
 
-/// So many widths of 0.
+/// `count` widths of 0.
 fn no_widths(alloc: Global, count: u16) -> Result<Vec<u32>, Error>
     ensures ok { IfOk result (λ v. v.items ≡ replicate count 0) }
     ensures err { IfErr result (λ e. e ≡ OutOfMemory) }
@@ -55,7 +55,7 @@ fn no_widths(alloc: Global, count: u16) -> Result<Vec<u32>, Error>
     Ok(widths)
 }
 
-/// What the columns of the first glyphs have along the line at a location, of so many.
+/// What the columns of the first `count` glyphs have along the line at a location.
 fn columns_there(
     alloc: Global,
     face: &Face<'_>,
@@ -77,7 +77,7 @@ fn columns_there(
     each_metrics(alloc, &columns.each)
 }
 
-/// What the columns of the first glyphs have along the line, of so many.
+/// What the columns of the first `count` glyphs have along the line.
 fn columns_in(
     alloc: Global,
     face: &Face<'_>,

@@ -53,7 +53,7 @@ fn is_drawn(entries: &Index<'_>, glyph: u16) -> bool
     }
 }
 
-/// Whether the first glyphs of `glyf` have outlines, so many.
+/// Whether each of the first `count` glyphs of `glyf` has an outline.
 #[tactic(auto, using(crate::proofs::Each::each_more, crate::proofs::Each::each_done))]
 fn outlined(alloc: Global, tables: OutlineTables<'_>, count: u16) -> Result<Vec<bool>, Error>
     ensures ok { IfOk result (λ v. v.items ≡ each_from (has_outline (outlines_view tables.entry)) 0 count) }
@@ -66,7 +66,7 @@ fn outlined(alloc: Global, tables: OutlineTables<'_>, count: u16) -> Result<Vec<
     Ok(inked)
 }
 
-/// Whether the first glyphs of `CFF ` are drawn, so many.
+/// Whether each of the first `count` glyphs of `CFF ` is drawn.
 #[tactic(auto, using(crate::proofs::Each::each_more, crate::proofs::Each::each_done))]
 fn drawn(alloc: Global, entries: &Index<'_>, count: u16) -> Result<Vec<bool>, Error>
     ensures ok { IfOk result (λ v. v.items ≡ each_from (is_drawn (items entries.now)) 0 count) }
@@ -96,7 +96,7 @@ fn inked_in_cff(alloc: Global, cff: Option<&[u8]>, count: u16) -> Result<Vec<boo
     }
 }
 
-/// Whether the first glyphs of a font have ink, so many, as far as that is known.
+/// Whether each of the first `count` glyphs of a font has ink, as far as that is known.
 pub(crate) fn inked_in(alloc: Global, face: &Face<'_>, count: u16) -> Result<Vec<bool>, Error>
     ensures value { Gives (λ v. v.items) result (Ok (inked_in (table_in face.now.«data».now face.now.records.now) count)) }
     ensures err { IfErr result (λ e. e ≡ OutOfMemory) }

@@ -27,7 +27,7 @@ const ONE_FAILED: u8 = 1;
 
 const UNUSABLE: u8 = 2;
 
-/// Reports that FILE can't be used, and answers the status.
+/// Reports that FILE can't be used, and returns the status.
 fn refuse_file<R: Eprint>(rt: &R, name: &str, reason: Option<io::Error>) -> u8
     ensures { result ≡ 2 }
 {
@@ -231,14 +231,14 @@ pub fn status_of_batch<R: Eprint>(
     }
 }
 
-/// Reports that memory ran out before the first request, and answers the status.
+/// Reports that memory ran out before the first request, and returns the status.
 pub fn refuse_memory<R: Eprint>(rt: &R) -> u8
     ensures { result ≤ 3 }
 {
     status_of_batch(rt, &Err(Failure::Error(Error::OutOfMemory)), false, false)
 }
 
-/// Does the requests of a batch, and answers the status.
+/// Carries out the requests of a batch, and returns the status.
 fn run_requests<R: Files + Print + Eprint + Input + AllocGlobal>(rt: &R, batch: Batch) -> u8
     ensures { result ≤ 3 }
 {
@@ -258,7 +258,7 @@ fn run_requests<R: Files + Print + Eprint + Input + AllocGlobal>(rt: &R, batch: 
     status_of_batch(rt, &ended, answers.has_failed(), is_shown)
 }
 
-/// Does what the lines of FILE request, and answers the status: 0 where all is done, 1 where a request failed, 2 where FILE
+/// Carries out what the lines of FILE request, and returns the status: 0 where all is done, 1 where a request failed, 2 where FILE
 /// can't be used, and 3 where an answer can't be written.
 pub fn run_batch<R: Files + Print + Eprint + Input + AllocGlobal>(rt: &R, name: &str) -> u8
     ensures { result ≤ 3 }

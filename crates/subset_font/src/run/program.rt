@@ -31,7 +31,7 @@ impl Termination for Ended {
     }
 }
 
-/// Reports a mistake in the arguments, and answers the status.
+/// Reports a mistake in the arguments, and returns the status.
 fn refuse<R: Eprint>(rt: &R, mistake: &Mistake<'_>) -> u8
     ensures { result ≤ 3 }
 {
@@ -41,7 +41,7 @@ fn refuse<R: Eprint>(rt: &R, mistake: &Mistake<'_>) -> u8
     status
 }
 
-/// Runs the program by the arguments after its name, and answers the status.
+/// Runs the program with the arguments after its name, and returns the status.
 fn run_words<R: Files + Print + Eprint + Input + AllocGlobal>(rt: &R, words: &[String]) -> u8
     ensures { result ≤ 3 }
 {
@@ -56,7 +56,7 @@ fn run_words<R: Files + Print + Eprint + Input + AllocGlobal>(rt: &R, words: &[S
     }
 }
 
-/// Reports that the arguments can't be read, and answers the status.
+/// Reports that the arguments can't be read, and returns the status.
 fn refuse_unread<R: Eprint>(rt: &R, failure: Failure) -> u8
     ensures { result ≤ 3 }
 {
@@ -83,7 +83,7 @@ pub fn run_by<R: Files + Print + Eprint + Input + AllocGlobal>(
     Ended { status }
 }
 
-/// Runs the program, and answers its status: 0 where all is done, else the failure's.
+/// Runs the program, and returns its status: 0 where all is done, else the failure's.
 pub fn run<R: Env + Files + Print + Eprint + Input + AllocGlobal>(rt: &R) -> Ended
     ensures { result.status ≤ 3 }
 {

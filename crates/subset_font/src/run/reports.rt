@@ -25,12 +25,12 @@ use subset_task::refusals::hint::text::Hint;
 use subset_task::task::{Form, Plan, Requests, Task};
 use subsetter::{Error, Tag};
 
-/// Prints why a run failed, if it did, and answers the status.
+/// Prints why a run failed, if it did, and returns the status.
 pub fn report<R: Eprint>(rt: &R, ended: &Result<(), Failure>, file: Option<&str>) -> u8
     ensures { result ≡ status_of_end ended.now }
 {
     if let Err(failure) = ended {
-        // Nobody could be told of a failure here, so the status alone tells.
+        // A failure here could be reported to nobody, so the status alone shows it.
         let _ = eprintln!(rt; "{}", Report { failure, file });
     }
     status_of_run(ended)

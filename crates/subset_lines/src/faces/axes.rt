@@ -27,7 +27,7 @@ use subsetter_variation::locations::axes::{Axis, axes};
 
 // ---- reading
 
-/// So many records of one size each.
+/// `count` records of `size` bytes each.
 #[tactic(auto, using(crate::proofs::Listed::slices_step, crate::proofs::Listed::records_cut))]
 fn records_at(
     alloc: Global,
@@ -47,7 +47,7 @@ fn records_at(
     Ok(records)
 }
 
-/// The records of named instances after so many axes.
+/// The `count` records of named instances after the axes.
 fn instances_of(
     alloc: Global,
     at: u16,

@@ -144,7 +144,7 @@ fn too_long(alloc: Global) -> Answer
     failed(TOO_LONG, String::from_str(alloc, text))
 }
 
-/// A request after others, and how far it is, where lists may have so many more numbers.
+/// A request after others, and its state, where lists may have `left` more numbers.
 #[tactic(auto, using(crate::proofs::BatchLaws::begun_too_long, crate::proofs::BatchLaws::begun_few))]
 fn admit(
     alloc: Global,
@@ -166,7 +166,7 @@ fn admit(
     (Some(job), state)
 }
 
-/// The request of a line after others by what the line requests, and how far it is, where lists may have so many more numbers.
+/// The request of a line after others by what the line requests, and its state, where lists may have `left` more numbers.
 #[tactic(auto, using(crate::proofs::BatchLaws::begun_by_nothing))]
 fn begin(
     alloc: Global,
@@ -318,7 +318,7 @@ pub fn due_of<'a>(
 
 /// For each request the index of the next one of its source; that of none, which is their number, where there is none.
 ///
-/// It has no contract: it decides in which order requests are done, and each is done whatever it answers.
+/// It has no contract: it decides in which order requests are done, and each is done whatever its answer is.
 pub fn next_of_source(alloc: Global, requests: &[Request]) -> Result<Vec<usize>, AllocError> {
     let mut next = Vec::with_capacity(alloc, requests.len())?;
     let mut last: HashMap<String, usize> = HashMap::new(alloc);

@@ -1,4 +1,4 @@
--- What is refused of a font with a CFF table has a fault of that name, and where a file is answered no fault stands.
+-- What is refused of a font with a CFF table has a fault of that name, and where a file is made there is no fault.
 use Rattle.std.proofs.Common.{◌≡◌, ℕ, ◌<◌, ◌≤◌, true, false, List, length, Option, Some, None, Ok, Err, refl, sym, ap, subst, ◌∙◌, arith}
 use Rattle.std.specs.Prelude.{codes, is_some, IsSome}
 use Rattle.subsetter_base.specs.Bytes.{IsBytes}
@@ -107,7 +107,7 @@ module _ (tokens depth : ℕ) (font : Font) (glyphs source : List ℕ) (bytes : 
   cff_clean e (faults.large_file x ts o (of_outlines found r k) large) = some_not_none (outlines font) found r (no_outlines font without)
   cff_clean e (faults.large_file x ts o (of_charstrings found f is k) large) = small_file found ts is k large
 
--- what is answered is a subset, and no fault stands
+-- what is made is a subset, and there is no fault
 pub is_cff_subset : (tokens depth : ℕ) (font : Font) (glyphs out : List ℕ) → IsBytes font.bytes → 1 ≤ depth → 0 < length glyphs → length glyphs ≤ 65535 → IsWithoutRepeats glyphs → flavor font ≡ Some Cff → ((e : Error) → HasOpeningFault font e → ⊥) → cff_file (table font) tokens depth glyphs ≡ Ok out
     → IsAnswer tokens depth font glyphs out
 is_cff_subset tokens depth font glyphs out bytes deep some few once kind opening h =

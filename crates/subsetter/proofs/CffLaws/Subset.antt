@@ -1,4 +1,4 @@
--- What subsetting a font with a CFF table answers is a subset.
+-- What is made of a font with a CFF table is a subset.
 use Rattle.std.proofs.Common.{◌≡◌, ℕ, ◌≤◌, true, false, List, length, Option, Some, None, refl, sym, ap, ◌∙◌, arith}
 use Rattle.std.specs.Prelude.{codes, is_some}
 use Rattle.std.specs.Option.{option_map}
@@ -96,7 +96,7 @@ module _ (tokens depth : ℕ) (font : Font) (glyphs source : List ℕ) (kind : f
     layout = record { tables = laid m; made = of_charstrings source kind there (made_tables (table font) source tokens depth glyphs m s.made); bytes = refl; room = fit };
   }
 
-  -- and no fault stands
+  -- and there is no fault
   pub made_clean : IsBytes font.bytes → 1 ≤ depth → 1 ≤ length glyphs → length glyphs ≤ 65535 → IsWithoutRepeats glyphs → ((e : Error) → HasFault tokens depth font glyphs glyphs e → ⊥) → IsAnswer tokens depth font glyphs (file (kind_word Cff) (laid m))
   unfolding made_subset
   made_clean bytes deep some few once clean = record {

@@ -28,7 +28,7 @@ use Rattle.subsetter.proofs.GlyfLaws.ReachingLaws.Unfold.{outline_is}
 
 -- ---- the tables
 
--- what stands where the tables of the outlines can be read
+-- what holds where the tables of the outlines can be read
 pub record HasTables (hinting : Bool) (find : List ℕ → Option (List ℕ)) (t : Outlines) : Type 0 where
   pub loca_is : find (codes "loca") ≡ Some t.loca
   pub glyf_is : find (codes "glyf") ≡ Some t.glyf

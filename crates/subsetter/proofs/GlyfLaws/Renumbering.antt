@@ -8,13 +8,13 @@ use Rattle.subsetter.specs.Glyf.Parts.{Component, rest_size, has_more, has_instr
 use Rattle.subsetter_base.specs.Indexes.{new_index}
 use Rattle.subsetter.proofs.GlyfLaws.Chains.{with_front, written, chain_text, is_component, text_goes_on, text_ends}
 
--- the last bytes are the components that have their old numbers; what stands before them and what these are to become is the whole
+-- the last bytes are the components that have their old numbers; what is before them and what these are to become is the whole
 pub record IsUnderway (hint : Bool) (order out rest : List ℕ) (total : Option (List ℕ)) : Type 0 where
   pub fits : length rest ≤ length out
   pub following : drop (length out - length rest) out ≡ rest
   pub whole : with_front (take (length out - length rest) out) (chain_text hint order rest) ≡ total
 
--- a component has its new number, and others stand after it
+-- a component has its new number, and others come after it
 pub record IsRenumbered (hint : Bool) (order out : List ℕ) (at : ℕ) (c : Component) (after_out after : List ℕ) : Type 0 where
   pub fits : length after ≤ length after_out
   pub front : take (length after_out - length after) after_out ≡ take at out ++ spelled (written hint order c)
@@ -83,7 +83,7 @@ underway_starts hint order before outline out rest le is e =
       whole = ap (λ (l : List ℕ). with_front l (chain_text hint order rest)) (ap (take (length out - length rest)) whole ∙ take_at front rest (length out - length rest) cut) ∙ ap (λ (l : List ℕ). with_front front (chain_text hint order l)) e;
     }
 
--- what stood there before stays
+-- what was there before stays
 pub record IsAfter (before out rest : List ℕ) : Type 0 where
   pub room : length before + length rest ≤ length out
   pub front : take (length before) out ≡ before

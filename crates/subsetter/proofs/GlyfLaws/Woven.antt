@@ -1,4 +1,4 @@
--- A list of outlines of which some are borrowed and the others stand one after another, and one more after them.
+-- A list of outlines of which some are borrowed and the others are in one piece, one after another, and one more after them.
 use Rattle.std.proofs.Common.{◌≡◌, ◌<◌, ◌≤◌, ℕ, Bool, true, false, List, [], ◌∷◌, ◌++◌, length, take, drop, refl, ap, ◌∙◌, arith}
 use Rattle.std.proofs.lemmas.List.{take-append-le, drop-append-le, length-append, take_all}
 use Rattle.std.specs.Borrow.{Bor}

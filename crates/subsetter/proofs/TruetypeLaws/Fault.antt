@@ -1,4 +1,4 @@
--- What subsetting refuses has a fault of that name, and where it answers no fault stands.
+-- What subsetting refuses has a fault of that name, and where it makes a font there is no fault.
 use Rattle.std.proofs.Common.{◌≡◌, ℕ, ◌^◌, ◌≤◌, ltb, Bool, true, false, cond, List, [], length, Option, Some, None, Ok, Err, refl, sym, ap, subst, ◌∙◌, ◌⊎◌, arith, inl, inr}
 use Rattle.std.specs.Prelude.{codes, is_some, IsSome}
 use Rattle.std.proofs.lemmas.Bool.{ltb-false}
@@ -28,7 +28,7 @@ use Rattle.subsetter.proofs.CommonLaws.SharedLaws.Fault.{shared_refused, no_metr
 use Rattle.subsetter.proofs.TruetypeLaws.Bound.{is_beyond}
 use Rattle.subsetter.proofs.TruetypeLaws.Steps.{MadeSteps, made_steps, tables_steps, file_steps}
 
--- a fault of some order stands
+-- there is a fault by some order
 abbrev pub Stands : ℕ → ℕ → Font → List ℕ → Error → Type 0
 Stands tokens depth font glyphs e = (order : List ℕ) × HasFault tokens depth font glyphs order e
 

@@ -48,7 +48,7 @@ fn is_kept(one: &NameRecord) -> bool
 /// How many strings are looked through one by one.
 const LINEAR_MAX: usize = 32;
 
-/// Distinct strings, which are to stand one after another.
+/// Distinct strings, which are to be written one after another.
 #[derive(Drop)]
 struct Strings<'a> {
     strings: Vec<&'a [u8]>,
@@ -75,7 +75,7 @@ impl<'a> Model for Strings<'a> {
     } };
 }
 
-/// Where a string begins among some that stand one after another.
+/// Where a string begins among some that are written one after another.
 fn linear_offset(strings: &[&[u8]], string: &[u8]) -> Option<usize>
     requires { length (joined (nows strings.now)) < 2 ^ 64 }
     ensures { result ≡ (if among (nows strings.now) string.now then Some (string_offset (nows strings.now) string.now) else None) }
@@ -90,7 +90,7 @@ fn linear_offset(strings: &[&[u8]], string: &[u8]) -> Option<usize>
     None
 }
 
-/// Keeps where a string begins that stands after so many, if these are 32 or more.
+/// Keeps where a string begins that comes after `count` others, if these are 32 or more.
 fn remember_hashed<'a>(
     hashed: &mut HashMap<Text<'a>, u16>,
     count: usize,
@@ -109,7 +109,7 @@ fn remember_hashed<'a>(
 }
 
 impl<'a> Strings<'a> {
-    /// No strings, and room for so many.
+    /// No strings, and room for `count`.
     fn with_capacity(alloc: Global, count: usize) -> Result<Self, Error>
         ensures ok { IfOk result (λ s. s ≡ []) }
         ensures err { IfErr result (λ e. e ≡ OutOfMemory) }
@@ -238,7 +238,7 @@ fn write_records(w: &mut Writer, table: &Table<'_>) -> Result<(), Error>
     Ok(())
 }
 
-/// A table as it stands, its storage right after its records.
+/// A table as it is written: its storage comes right after its records.
 impl Writeable for Table<'_> {
     ghost use Rattle.subsetter.specs.Common.Name.Read.{name_bytes};
     ghost use Rattle.subsetter.specs.Common.Name.View.{seen_table};
@@ -297,7 +297,7 @@ impl<'a> NewNames<'a> {
     }
 }
 
-/// Writes the header of a table of so many records.
+/// Writes the header of a table with `count` records.
 #[tactic(auto, unfolding(crate::specs::Common::Name::Plain::header_bytes))]
 fn write_header(out: &mut Vec<u8>, count: usize)
     requires count { count ≤ 5460 }
@@ -335,7 +335,7 @@ fn collect_names<'a>(
     Ok(())
 }
 
-/// No bytes, and room for so many.
+/// No bytes, and room for `count`.
 fn no_bytes(alloc: Global, count: usize) -> Result<Writer, Error>
     ensures ok { IfOk result (λ w. w ≡ []) }
     ensures err { IfErr result (λ e. e ≡ OutOfMemory) }

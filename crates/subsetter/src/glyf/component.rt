@@ -91,7 +91,7 @@ pub fn is_composite(first: u8) -> bool
     first >= 128
 }
 
-/// What stands after a component at the front.
+/// What comes after a component at the front.
 fn rest_after<'a>(bytes: &'a [u8], component: Component<'_>) -> &'a [u8]
     requires { component_at bytes.now ≡ Some (component_seen component) }
     ensures { result.now ≡ drop (4 + rest_size component.entry.flags) bytes.now }

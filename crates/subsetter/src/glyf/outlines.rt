@@ -34,7 +34,7 @@ use subsetter_sfnt::laying::room::put;
 pub struct OutlineList<'a> {
     /// Whether instructions are asked for.
     hinting: bool,
-    /// The borrowed outlines; no bytes stand for the next of those that were made.
+    /// The borrowed outlines; an empty one is the place of the next of those that were made.
     kept: Vec<&'a [u8]>,
     /// How many bytes each outline that was made has. An empty one counts as made.
     sizes: Vec<usize>,
@@ -64,7 +64,7 @@ impl<'a> Model for OutlineList<'a> {
 }
 
 impl<'a> OutlineList<'a> {
-    /// No outlines, and room for so many.
+    /// No outlines, and room for `count`.
     pub fn with_capacity(alloc: Global, count: usize, hinting: bool) -> Result<Self, Error>
         ensures ok { IfOk result (λ list. list ≡ record { hinting = hinting; items = [] }) }
         ensures err { IfErr result (λ e. e ≡ OutOfMemory) }
@@ -251,7 +251,7 @@ fn write_outline(out: &mut Vec<u8>, outline: Outline<'_>, long: bool)
     }
 }
 
-/// Writes the outlines one after another, and answers the checksum of what it wrote.
+/// Writes the outlines one after another, and returns the checksum of what it wrote.
 /// They are summed in pieces, while these are at hand.
 pub fn write_outlines(out: &mut Vec<u8>, outlines: &OutlineList<'_>, long: bool) -> u32
     requires { length out.old.items + length (glyf_bytes long outlines.now.items) ≤ vec_capacity out.old }

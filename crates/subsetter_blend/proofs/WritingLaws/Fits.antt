@@ -19,7 +19,7 @@ unfolding opened
 opened_already (OneByteOperator c) operands mask code e = refl
 opened_already (TwoByteOperator c) operands mask code e = absurd (cc)
 
--- an operator of one byte stands as it is
+-- an operator of one byte stays as it is
 pub plain_event : (e : Event) (code : List ℕ) (f : Fitted) → e.operator.0 ≡ OneByteOperator code → may_begin f.pen.advance e.operator.0 ≡ true
     → all_taken fitted_piece (split (length (width f.pen.advance)) e) f ≡ fitted e f
 plain_event e code f one stands =

@@ -25,7 +25,7 @@ sum_more vs i s n h e =
     ap (λ (z : ℤ). z +ℤ sum_of (drop (i + 1) vs)) e ∙ regrouped s (get_or vs i (pos 0)) (sum_of (drop (i + 1) vs))
     ∙ ap (λ (l : List ℤ). s +ℤ sum_of l) (sym (drop_more vs i (pos 0) h))
 
--- the sum with what stands before
+-- the sum with what comes before
 pub sum_moved : (before : ℤ) (vs : List ℤ) → 1 ≤ length vs → before +ℤ sum_of vs ≡ sum_of (moved_by before vs)
 sum_moved before [] h = absurd (omega (arith, h))
 sum_moved before (v ∷ vs) h = sym (regrouped before v (sum_of vs))
@@ -42,7 +42,7 @@ and_none : (o : Result Fitted Error) → and_then o (all_taken fitted_piece []) 
 and_none (Ok f) = refl
 and_none (Err e) = refl
 
--- an event of few operands stands as it is
+-- an event of few operands stays as it is
 pub piece_alone : (e : Event) (f : Fitted) → length (width f.pen.advance) + length e.operands ≤ 48 → all_taken fitted_piece (split (length (width f.pen.advance)) e) f ≡ fitted_piece e f
 piece_alone e f h = ap (λ (l : List Event). all_taken fitted_piece l f) (split_last e (length (width f.pen.advance)) (length e.operands) h) ∙ and_none (fitted_piece e f)
 
@@ -56,7 +56,7 @@ module _ (operator : Operator) (mask : List ℕ) (operands : List ℤ) (start le
   count_is : length operands - start ≡ length (moved_by before (drop start operands))
   count_is = sym (length_moved before (drop start operands) ∙ length-drop start operands)
 
-  -- what is left may stand as it is
+  -- what is left may stay as it is
   pub piece_last : wide + (length operands - start) ≤ 48 → all_taken fitted_piece (pieces (length operands - start) wide (left start before)) f ≡ fitted_piece (left start before) f
   piece_last h =
       ap (λ (l : List Event). all_taken fitted_piece l f) (split_last (left start before) wide (length operands - start) (omega (arith, h, count_is)))

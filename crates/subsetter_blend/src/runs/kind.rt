@@ -53,7 +53,7 @@ pub fn one_byte_kind(first: u8) -> Option<Kind>
     }
 }
 
-/// The operator of this byte takes so many operands.
+/// Whether the operator of this byte takes `count` operands.
 #[inline(always)]
 fn one_byte_accepts(first: u8, count: usize) -> bool
     ensures { result ≡ one_byte_accepts first count }
@@ -79,7 +79,7 @@ fn one_byte_accepts(first: u8, count: usize) -> bool
     }
 }
 
-/// The operator of the mark and this byte takes so many operands.
+/// Whether the operator of the mark and this byte takes `count` operands.
 fn two_byte_accepts(second: u8, count: usize) -> bool
     ensures { result ≡ two_byte_accepts second count }
 {
@@ -92,7 +92,7 @@ fn two_byte_accepts(second: u8, count: usize) -> bool
     }
 }
 
-/// The operator takes so many operands.
+/// Whether the operator takes `count` operands.
 #[inline(always)]
 #[tactic(auto, unfolding(crate::specs::Runs::Kind::accepts))]
 pub fn accepts(operator: Operator, count: usize) -> bool

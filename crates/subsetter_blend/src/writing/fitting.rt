@@ -172,7 +172,7 @@ fn end_point(hint: bool, old: Position, new: Position) -> Position
 }
 
 impl Fitting {
-    /// Nothing is written yet; there is room for so many bytes.
+    /// Nothing is written yet; there is room for `room` bytes.
     pub fn with_room(alloc: Global, advance: i16, room: usize) -> Result<Self, Error>
         ensures ok { IfOk result (λ f. f ≡ fitted_start advance) }
         ensures err { IfErr result (λ e. e ≡ OutOfMemory) }

@@ -10,7 +10,7 @@ use subsetter_type2::runs::fixed_stack::FixedStack;
 /// The operands of a piece.
 pub type Part = FixedStack<i64, 48>;
 
-/// How many of so many operands the next piece takes, by an operator of one byte.
+/// How many of `count` operands the next piece takes, by an operator of one byte.
 fn one_byte_cut(first: u8, count: usize) -> usize
     ensures value { result ≡ one_byte_cut first count }
     ensures low { 40 ≤ result }
@@ -24,7 +24,7 @@ fn one_byte_cut(first: u8, count: usize) -> usize
     }
 }
 
-/// How many of so many operands the next piece takes.
+/// How many of `count` operands the next piece takes.
 pub fn cut(operator: OperatorType, count: usize) -> usize
     ensures value { result ≡ cut operator count }
     ensures low { 40 ≤ result }

@@ -43,7 +43,7 @@ answer_handed Said Named answer before after told status ok err = said_as (IsAns
 abbrev pub failed : {X : Type 0} → Error → Result X Error
 failed e = Err e
 
--- want of memory, where no fault stands that is found before memory is taken
+-- want of memory, where there is no fault that is found before memory is taken
 pub wanting : {X : Type 0} (HasEarlyFault : Error → Type 0) (e : Error) → e ≡ OutOfMemory → ((why : Error) → HasEarlyFault why → failed {X = X} e ≡ Err OutOfMemory → ⊥) → IsOutOfMemory HasEarlyFault e
 wanting {X = X} HasEarlyFault e memory before = record { is = memory; opens = λ why fault. before why fault (ap (failed {X = X}) memory) }
 

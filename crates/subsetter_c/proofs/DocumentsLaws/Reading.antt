@@ -20,7 +20,7 @@ use Rattle.subsetter_c.specs.declared.documents.reading.ReadSizes.{ReadSizes}
 abbrev read_buffers : List Entry → List ℕ → ReadBuffers
 read_buffers e m = record { entries = e; missing = m }
 
--- both lists stand at the front of their buffers
+-- both lists are at the front of their buffers
 pub both_placed : (entries : List Entry) (missing : List ℕ) (r : ReadText) (e : List Entry) (m : List ℕ) (entries_after : List Entry) (missing_after : List ℕ) → e ≡ r.entries.items → m ≡ r.missing.items → entries_after ≡ begun_with e entries → missing_after ≡ begun_with m missing → read_buffers entries_after missing_after ≡ read_begun r (read_buffers entries missing)
 both_placed entries missing r e m entries_after missing_after pe pm be bm =
     let entries_are : entries_after ≡ begun_with r.entries.items entries = be ∙ ap (λ l. begun_with l entries) pe in

@@ -1,4 +1,4 @@
-//! Statuses: what each call answers to C.
+//! Statuses: what each call returns to C.
 
 ghost use Rattle.std.specs.Prelude.{◌≡◌};
 ghost use Rattle.subsetter_c.specs.Answers.Status.{status_of, status_text};

@@ -1,4 +1,4 @@
--- The plain way refuses a source just where a fault stands in it.
+-- The plain way refuses a source just where it has a fault.
 use Rattle.std.proofs.Common.{◌≡◌, ℕ, Bool, true, false, cond, eqb, ltb, ◌&&◌, List, [], ◌∷◌, length, Option, Some, None, refl, ap, arith, inl, inr, ◌⊎◌, ◌∙◌, sym, subst}
 use Rattle.std.specs.Prelude.{Contains, Ok, Err}
 use Rattle.std.specs.Option.{ok_or, option_and_then}

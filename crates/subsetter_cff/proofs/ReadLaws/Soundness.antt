@@ -149,7 +149,7 @@ was_opened bytes cff e =
       };
     }
 
--- where a source is opened, none of the faults stands in it that are found while it is opened
+-- where a source is opened, it has none of the faults that are found while it is opened
 pub opened_is_sound : (bytes : List ℕ) (cff : Cff) (e : Error) → opened bytes ≡ Ok cff → HasOpeningFault bytes e → ⊥
 opened_is_sound bytes cff e opened_ok (in_front fault) = let w = was_opened bytes cff opened_ok in no_front_fault bytes e (front_is_read bytes w.cff w.cff_is) fault
 opened_is_sound bytes cff e opened_ok (in_top c is fault) =

@@ -1,4 +1,4 @@
--- Where the plain way answers a table, that table read afresh is a subset of the source.
+-- Where the plain way makes a table, that table read afresh is a subset of the source.
 use Rattle.std.proofs.Common.{◌≡◌, ℕ, ◌<◌, ◌≤◌, Bool, true, false, cond, eqb, ltb, List, [], ◌∷◌, ◌++◌, map, length, Option, Some, None, refl, ap, arith, inl, inr, ◌∙◌, sym, subst}
 use Rattle.std.specs.Prelude.{slice_get, unwrap_or, Ok}
 use Rattle.std.specs.Option.{option_and_then, ok_or}

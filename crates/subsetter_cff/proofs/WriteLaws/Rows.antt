@@ -75,7 +75,7 @@ no_matrix : (cff : Cff) (glyph : ℕ) → last_of font_matrix_operator cff.top �
 unfolding stated_matrices
 no_matrix cff glyph none = rw none refl
 
--- FDSelect in ranges: 0 to 4 have font dict 3, 5 to 8 have 7, others none; so many ranges as there may not be
+-- FDSelect in ranges: 0 to 4 have font dict 3, 5 to 8 have 7, others none; and a count of ranges that may not be
 ranges : (selected (Ranges (0 ∷ 2 ∷ 0 ∷ 0 ∷ 3 ∷ 0 ∷ 5 ∷ 7 ∷ 0 ∷ 9 ∷ [])) 2 ≡ Some 3) × (selected (Ranges (0 ∷ 2 ∷ 0 ∷ 0 ∷ 3 ∷ 0 ∷ 5 ∷ 7 ∷ 0 ∷ 9 ∷ [])) 6 ≡ Some 7)
     × (selected (Ranges (0 ∷ 2 ∷ 0 ∷ 0 ∷ 3 ∷ 0 ∷ 5 ∷ 7 ∷ 0 ∷ 9 ∷ [])) 9 ≡ None) × (selected (Ranges (0 ∷ 0 ∷ 0 ∷ 0 ∷ [])) 0 ≡ None)
     -- the next range is cut, but its first glyph is there

@@ -48,7 +48,7 @@ grouped : {A B C : Type 0} (r : Result A Error) (f : A → Result B Error) (g : 
 grouped (Ok x) f g = refl
 grouped (Err e) f g = refl
 
--- charstrings that stand one after the other
+-- charstrings, one after the other
 pub record HasTexts (texts : List (List ℕ)) (k : KeptGlyphs) : Type 0 where
   pub text : k.char_strings.items ≡ concat texts
   pub ends : k.ends.items ≡ offsets 1 texts

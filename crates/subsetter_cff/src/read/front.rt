@@ -56,7 +56,7 @@ pub fn parse_parts<'a>(bytes: &'a [u8], start: &'a [u8]) -> Option<Front<'a>>
     })
 }
 
-/// What stands after the header, as far as the third byte says.
+/// What comes after the header, as far as the third byte says.
 #[tactic(auto, unfolding(crate::specs::Read::Cff::past_header))]
 fn past_header(bytes: &[u8]) -> Option<&[u8]>
     ensures { option_map (λ x. x.now) result ≡ past_header bytes.now }

@@ -30,7 +30,7 @@ pub fn made_is_subset()
     ensures { MadeIsSubset }
 {}
 
-/// Where the plain way answers a table, that table read afresh is a subset of the source.
+/// Where the plain way makes a table, that table read afresh is a subset of the source.
 #[tactic(auto, using(crate::proofs::WriteLaws::Headline::answered_is_subset))]
 pub fn answered_is_subset()
     ensures { AnsweredIsSubset }

@@ -19,7 +19,7 @@ use subsetter_base::GlyphRemapper;
 use subsetter_base::error::Error;
 use subsetter_type2::limits::Limits;
 
-/// The subset, exactly as the plain way answers it, within the bound on bytes.
+/// The subset, exactly as the plain way makes it, within the bound on bytes.
 fn subset_exactly(
     alloc: Global,
     table: &[u8],
@@ -59,11 +59,11 @@ pub fn subset(
 ) -> Result<CffPieces, Error>
     // What is answered is a subset of the table, laid out byte for byte.
     ensures ok { IfOk result (λ new. IsSubsetLaidOut table.now limits.tokens limits.depth mapper.now (table_bytes new)) }
-    // And then no fault stands in the source.
+    // And then the source has no fault.
     ensures clean { IfOk result (λ new. (e : SpecError) → HasCffFault table.now limits.tokens limits.depth mapper.now e → ⊥) }
     // What is refused has a fault of that name, or the bound on bytes is set and the new table would pass it.
     ensures err { IfErr result (λ e. (e ≡ OutOfMemory) ⊎ (HasCffFault table.now limits.tokens limits.depth mapper.now e ⊎ ((e ≡ OverflowError) × IsTooLong limits.bytes length (cff_subset table.now limits.tokens limits.depth mapper.now)))) }
-    // Both are what the plain way answers.
+    // Both are what the plain way gives.
     ensures exact { GivesWithin table_bytes limits.bytes length result (cff_subset table.now limits.tokens limits.depth mapper.now) }
 {
     let _count = mapper.num_gids();

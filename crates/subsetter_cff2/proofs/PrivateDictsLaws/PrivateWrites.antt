@@ -81,7 +81,7 @@ pub said_err : {X : Type 0} (result : Result X Error) (is_array : Bool) (v : Opt
 said_err (Ok x) is_array v r operator front h fails = tt
 said_err (Err e) is_array v r operator front h fails = fails_on _ _ _ e (whole_is is_array v r operator front h) fails
 
--- the same, of what the writer of numbers answers
+-- the same, of what the writer of numbers returns
 pub all_ok : (result : Result (Unit {0}) Error) (front operator : List ℕ) (xs ys : List Number) (new : List ℕ) → xs ≡ ys → Gives (λ x. tt) result (limit (short xs)) → OnOk result (new ≡ front ++ entry_bytes (plain_entry operator xs))
     → OnOk result (following front (written_entry operator ys) ≡ Ok new)
 all_ok (Ok x) front operator xs ys new same checked is = written_ok front operator xs ys new same checked is

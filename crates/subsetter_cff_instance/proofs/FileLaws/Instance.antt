@@ -1,4 +1,4 @@
--- What the plain way answers is a static font.
+-- What the plain way makes is a static font.
 use Rattle.std.proofs.Common.{◌≡◌, ℕ, List, Ok, ℤ, refl, sym, ap, subst, ◌∙◌}
 use Rattle.subsetter_base.specs.Bytes.{IsBytes}
 use Rattle.subsetter_base.specs.declared.tag.Tag.{Tag}

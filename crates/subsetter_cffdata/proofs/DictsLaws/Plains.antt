@@ -1,4 +1,4 @@
--- Entries that stand as they are written: what is passed is a number of it, and the whole is what is written for its operator and numbers.
+-- Entries that stay as written: what is passed is a number of the entry, and the whole is written for its operator and numbers.
 use Rattle.std.proofs.Common.{◌≡◌, ◌≢◌, ℕ, zero, suc, ◌+◌, ◌-◌, ◌*◌, ◌/◌, ◌%◌, ◌<◌, ◌≤◌, Bool, true, false, List, [], ◌∷◌, ◌++◌, map, length, take, drop, Option, Some, None, refl, ap, sym, ◌∙◌, subst, arith, inl, inr, append_assoc, length-append, length-drop, pos, negsuc, FitsSigned, w16, w32, nat_lt, nat_le, ◌==◌, if◌then◌else◌}
 use Rattle.std.specs.Int.{cast_unsigned, to_be_bytes}
 use Rattle.std.specs.Option.{option_map_or}

@@ -1,4 +1,4 @@
--- What is left after a number is no longer than what stood there, so an entry doesn't depend on the steps that were given.
+-- What is left after a number is no longer than what was there, so an entry doesn't depend on the steps that were given.
 use Rattle.std.proofs.Common.{◌≡◌, ℕ, zero, suc, ◌+◌, ◌-◌, ◌*◌, ◌/◌, ◌%◌, ◌<◌, ◌≤◌, Bool, true, false, cond, eqb, ltb, List, [], ◌∷◌, ◌++◌, length, take, drop, Option, Some, None, refl, ap, arith, ◌∙◌, sym, inl, inr, append_assoc}
 use Rattle.std.specs.Prelude.{pos, neg_ℤ}
 use Rattle.subsetter_cffdata.specs.Dicts.Tokens.{operator_part, with_operands}

@@ -47,7 +47,7 @@ no_card k bytes e = rw e refl
 
 pub ruleset cards = (card_of, no_card)
 
--- ---- the second of two numbers that stand side by side
+-- ---- the second of two numbers that are side by side
 pub second_half : (bytes : List ℕ) (i n size : ℕ) → n ≡ size → drop n (slice_range bytes (i * n) (i * n + 2 * n)) ≡ take size (drop ((i + 1) * size) bytes)
 second_half bytes i n size same =
     let both : i * n + 2 * n - i * n ≡ n + n = omega arith in

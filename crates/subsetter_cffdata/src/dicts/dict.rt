@@ -49,7 +49,7 @@ impl<'a> DictionaryParser<'a> {
         }
     }
 
-    /// Goes to the next entry, and answers its operator; None where no entry can be read, and so again at each further call.
+    /// Goes to the next entry, and returns its operator; None where no entry can be read, and so again at each further call.
     pub fn parse_next(&mut self) -> Option<Operator>
         ensures value { operator_part (entry_at (left self.old)) ≡ option_map (λ x. (operator_of x, left self.new)) result }
         ensures none { IfNone result (left self.new ≡ left self.old) }
@@ -80,7 +80,7 @@ impl<'a> DictionaryParser<'a> {
         Some(entry)
     }
 
-    /// Goes to the next entry and reads its operands, as many as the buffer holds, and answers its operator; None where no
+    /// Goes to the next entry and reads its operands, as many as the buffer holds, and returns its operator; None where no
     /// entry can be read, and then none are shown.
     pub fn parse_entry(&mut self) -> Option<Operator>
         ensures value { operator_part (entry_at (left self.old)) ≡ option_map (λ x. (operator_of x, left self.new)) result }

@@ -36,7 +36,7 @@ pub fn skip_index<T: IndexSize>(r: &mut Reader<'_>) -> Option<()>
     Some(())
 }
 
-/// The rest of an INDEX of so many entries: the size of an offset, the offsets and the data.
+/// The rest of an INDEX of `count` entries: the size of an offset, the offsets and the data.
 #[tactic(auto, unfolding(crate::specs::Indexes::Index::index_body))]
 fn parse_body<'a>(count: u32, r: &mut Reader<'a>) -> Option<Index<'a>>
     requires { count < 4294967295 }
@@ -47,7 +47,7 @@ fn parse_body<'a>(count: u32, r: &mut Reader<'a>) -> Option<Index<'a>>
     parse_data(size, count, r)
 }
 
-/// The offsets of a size, and the data that they cut into so many entries. An INDEX whose last offset is 0 has none.
+/// The offsets of a size, and the data that they cut into `count` entries. An INDEX whose last offset is 0 has none.
 #[tactic(auto, unfolding(crate::specs::Indexes::Index::index_data))]
 fn parse_data<'a>(size: OffsetSize, count: u32, r: &mut Reader<'a>) -> Option<Index<'a>>
     requires { count < 4294967295 }

@@ -3,7 +3,7 @@
 ghost use Rattle.std.specs.Prelude.{◌≡◌, ◌+◌, ◌<◌, ◌≤◌, ◌++◌, ◌∷◌, [], length, drop, OnSome, IfNone};
 ghost use Rattle.std.specs.Option.{option_map};
 
-/// The characters of a real by their nibbles (Technical Note 5176, table 5): `.`, which stands between digits.
+/// The characters of a real by their nibbles (Technical Note 5176, table 5): `.`, which comes between digits.
 pub(crate) const POINT: u8 = 10;
 /// `E`, before an exponent.
 pub(crate) const EXPONENT: u8 = 11;

@@ -69,6 +69,6 @@ clean_opening font settings glyphs steps out e h =
 pub clean : (font : Font) (settings : List (Tag × ℤ)) (glyphs : List ℕ) (steps : ℕ) (out : List ℕ) → instance_of font settings glyphs steps ≡ Ok out → (e : Error) → HasInstanceFault font settings glyphs steps e → ⊥
 clean font settings glyphs steps out h e f = no_fault font settings glyphs steps out (font_steps font settings glyphs steps out h) e (clean_opening font settings glyphs steps out e h) f
 
--- what the plain way answers is an answer
+-- what the plain way makes is an answer
 pub is_answer : (font : Font) (settings : List (Tag × ℤ)) (glyphs : List ℕ) (steps : ℕ) (out : List ℕ) → IsBytes font.bytes → instance_of font settings glyphs steps ≡ Ok out → IsAnswer font settings glyphs steps out
 is_answer font settings glyphs steps out bytes h = record { instance = is_instance font settings glyphs steps out bytes h; clean = clean font settings glyphs steps out h }

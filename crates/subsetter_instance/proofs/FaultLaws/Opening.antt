@@ -74,7 +74,7 @@ neither : (b : Bool) → cond {A = Result FontFlavor Error} b (Err Unimplemented
 neither true k = cc
 neither false k = cc
 
--- outlines of CFF are told by their table, where there is no glyf
+-- outlines of CFF are recognized by their table, where there is no glyf
 pub is_cff : (find : List ℕ → Option (List ℕ)) → flavored find ≡ Ok Cff → (find (codes "glyf") ≡ None) × IsSome (find (codes "CFF "))
 unfolding flavored_by
 is_cff find h = by (find (codes "glyf")) (find (codes "CFF ")) (sym (flavored_is find) ∙ h)

@@ -12,7 +12,7 @@ use Rattle.subsetter_instance.specs.Glyphs.Drawn.{Drawn}
 use Rattle.subsetter_instance.specs.Tables.Extremes.{all_extents, box_bytes}
 use Rattle.subsetter_instance.specs.Tables.Written.{head_bytes}
 
--- what stands between checksumAdjustment and indexToLocFormat
+-- what is between checksumAdjustment and indexToLocFormat
 abbrev pub middle_bytes : List Drawn → List ℕ → List ℕ
 middle_bytes ds head = slice_range head 12 36 ++ box_bytes (all_extents ds) ++ slice_range head 44 50
 
@@ -20,7 +20,7 @@ pub eight_bytes : (e : Option Extents) → length (box_bytes e) ≡ 8
 eight_bytes None = refl
 eight_bytes (Some e) = refl
 
--- a part after so many bytes
+-- a part of n bytes from an offset on
 pub slice_at : (l pre part post : List ℕ) (from n : ℕ) → l ≡ pre ++ (part ++ post) → length pre ≡ from → length part ≡ n → take n (drop from l) ≡ part
 slice_at l pre part post from n is a b = ap (λ (x : List ℕ). take n (drop from x)) is ∙ ap (take n) (drop_at pre (part ++ post) from a) ∙ take_at part post n b
 

@@ -1,4 +1,4 @@
--- What the plain way answers is an instance.
+-- What the plain way makes is an instance.
 use Rattle.std.proofs.Common.{◌≡◌, ℕ, List, Ok, ℤ, refl, sym, ap, subst, ◌∙◌}
 use Rattle.subsetter_base.specs.Bytes.{IsBytes}
 use Rattle.subsetter_base.specs.declared.tag.Tag.{Tag}

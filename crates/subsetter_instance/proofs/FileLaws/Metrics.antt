@@ -58,7 +58,7 @@ six_bytes (Some e) = refl
 pub eight_bytes : (ds : List Drawn) → length (extreme_bytes ds) ≡ 8
 eight_bytes ds = omega (arith, length-append (to_be_bytes w16 (widest ds)) (side_bytes (all_extents ds)), six_bytes (all_extents ds))
 
--- what stands before numberOfHMetrics
+-- what comes before numberOfHMetrics
 abbrev front_bytes : List ℕ → List ℕ → List ℕ
 front_bytes extremes hhea = take 10 hhea ++ extremes ++ slice_range hhea 18 34
 

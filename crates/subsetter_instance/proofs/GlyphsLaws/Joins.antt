@@ -38,7 +38,7 @@ left_by true n steps left b e =
     omega arith
 left_by false n steps left b e = absurd cc
 
--- the steps that are left after so many
+-- the steps that are left after n
 pub steps_left : (n steps left : ℕ) → Ok left ≡ spent n steps → left + n ≡ steps
 steps_left n steps left e = left_by (nat_le n steps) n steps left refl e
 

@@ -12,7 +12,7 @@ size_of long = cond long 4 2
 abbrev pub row_count : Bool → ℕ
 row_count long = cond long 8 16
 
--- so many entries of an offset
+-- k entries of one offset
 abbrev pub entries : Bool → ℕ → ℕ → List ℕ
 entries long at k = loca_bytes long (replicate k at)
 

@@ -61,7 +61,7 @@ fn most_contours(drawn: &[Drawn]) -> usize
     most
 }
 
-/// `maxp` of so many glyphs, without instructions and components.
+/// `maxp` of `count` glyphs, without instructions and components.
 pub fn maxp(alloc: Global, count: u16, drawn: &[Drawn]) -> Result<Vec<u8>, AllocError>
     ensures { IfOk result (λ v. v.items ≡ maxp_bytes count drawn.now) }
 {

@@ -40,7 +40,7 @@ fn row_of(long: bool, offset: usize) -> [u8; 32]
     }
 }
 
-/// Appends so many entries of one offset.
+/// Appends `count` entries of one offset.
 fn write_run(loca: &mut Vec<u8>, long: bool, offset: usize, count: usize) -> Result<(), Error>
     requires { count ≤ 65536 }
     ensures ok { OnOk result (loca.new.items ≡ loca.old.items ++ loca_bytes long (replicate count offset)) }
@@ -55,7 +55,7 @@ fn write_run(loca: &mut Vec<u8>, long: bool, offset: usize, count: usize) -> Res
     Ok(())
 }
 
-/// `loca` of so many glyphs, by where each requested one begins, and where the last one ends.
+/// `loca` of `count` glyphs, by where each requested one begins, and where the last one ends.
 pub fn loca(
     alloc: Global,
     long: bool,

@@ -14,7 +14,7 @@ const MOST_CONTOURS: usize = 0x7FFF;
 /// The most points of an outline (`maxPoints` of `maxp`).
 const MOST_POINTS: usize = 0xFFFF;
 
-/// Whether these are the last points of contours that have so many points in all.
+/// Whether these are the last points of contours that have `points` points in all.
 fn are_ends(ends: &[u16], points: usize) -> bool
     ensures { result ≡ are_ends 0 ends.now points }
 {

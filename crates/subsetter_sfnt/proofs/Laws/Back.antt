@@ -20,7 +20,7 @@ use Rattle.subsetter_sfnt.proofs.Laws.LayingLaws.Written.{length-record, length-
 
 -- ---- the records of the directory
 
--- the record of a table that stands at a place
+-- the record of a table at an offset
 abbrev pub record_at : ℕ → Table → TableRecord
 record_at at t = record { tag = record { 0 = t.tag }; checksum = checksum t.bytes; offset = at; length = length t.bytes }
 

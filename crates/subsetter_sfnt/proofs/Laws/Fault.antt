@@ -104,7 +104,7 @@ flavored_refused font d e o h =
     let t = λ (tag : List ℕ). opened_table font d tag o in
     in_tables font (requested font.extras (table_in font.bytes d) (codes "glyf")) (requested font.extras (table_in font.bytes d) (codes "CFF ")) (requested font.extras (table_in font.bytes d) (codes "CFF2")) e (rw (opened_records font d o) refl) (t (codes "glyf")) (t (codes "CFF ")) (t (codes "CFF2")) h
 
--- ---- no fault stands
+-- ---- there is no fault
 
 past_by : (bytes : List ℕ) (at : ℕ) (b : Bool) → leb (at + 4) (length bytes) ≡ b → length bytes < at → kind_at bytes at ≡ None
 past_by bytes at true h lt = absurd (omega (arith, leb-true (at + 4) (length bytes) h))

@@ -38,7 +38,7 @@ lookup_above tag low (t ∷ rest) lt up =
     let above : be tag < be t.tag + 1 = omega arith in
     lookup_other tag t.tag t.bytes rest (apart_by tag t.tag before) ∙ lookup_above tag (be t.tag + 1) rest above up.1
 
--- a table that may be missing is found where it stands
+-- a table that may be missing is found in its place
 pub lookup_opt : (tag : List ℕ) (o : Option (List ℕ)) (rest : List Table) → AscendFrom (be tag + 1) (tags rest) → lookup tag (opt tag o ++ rest) ≡ o
 lookup_opt tag None rest up = lookup_above tag (be tag + 1) rest (omega arith) up
 lookup_opt tag (Some bytes) rest up = lookup_here tag bytes rest

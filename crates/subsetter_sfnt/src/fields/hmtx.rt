@@ -65,7 +65,7 @@ pub fn glyph_metric(hmtx: &[u8], count: u16, glyph: u16) -> Option<LongHorMetric
     }
 }
 
-/// The advance of the last of so many pairs.
+/// The advance of the last of `count` pairs.
 pub fn last_advance(hmtx: &[u8], count: u16) -> Option<u16>
     requires { 0 < count }
     ensures { result ≡ number hmtx.now (4 * (count - 1)) 2 }

@@ -22,7 +22,7 @@ pub trait TableBytes: Copy {
         ensures exact { length (bytes_of self.now) < 2 ^ 32 → result ≡ length (bytes_of self.now) }
         ensures past { 2 ^ 32 ≤ length (bytes_of self.now) → 2 ^ 32 ≤ result };
 
-    /// Writes the bytes into room that was reserved before, and answers their checksum.
+    /// Writes the bytes into room that was reserved before, and returns their checksum.
     fn write_summed(&self, out: &mut Vec<u8>) -> u32
         requires { length out.old.items + length (bytes_of self.now) ≤ vec_capacity out.old }
         ensures items { out.new.items ≡ out.old.items ++ bytes_of self.now }

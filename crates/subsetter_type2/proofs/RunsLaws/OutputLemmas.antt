@@ -102,7 +102,7 @@ stop_before numbers k rest f l e n =
     let p : ◌≡◌ {A = Option (CharStringNumber × List ℕ)} None (Some (get_or numbers k (Integer (pos 0)), flat_operands (drop (suc k) numbers))) = sym n ∙ read_nth numbers k rest (Integer (pos 0)) f l e in
     absurd (cc)
 
--- the last number of those that stand is where the new one began
+-- the last of the operands is where the new one began
 pub last_of_more : (bytes : List ℕ) (settled count : ℕ) (w : Written) (n : CharStringNumber) → IsOutput bytes settled count w → (place : ℕ) → place ≡ length bytes → place ≡ last_operand_offset (record { settled = w.settled; operands = w.operands ++ n ∷ [] })
 last_of_more bytes settled count w n h place e =
     let k : length w.operands ≡ length (w.operands ++ n ∷ []) - 1 = omega (arith, length-append w.operands (n ∷ [])) in

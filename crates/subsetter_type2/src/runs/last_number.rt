@@ -7,7 +7,7 @@ ghost use Rattle.subsetter_type2.specs.Runs.OutputView.{AllFit, IsLast};
 
 use subsetter_cffdata::numerals::charstring_number::{CharStringNumber, read_number};
 
-/// What is after so many numbers.
+/// What is after the first `count` numbers.
 #[inline(always)]
 fn skip_numbers(bytes: &[u8], count: usize) -> Option<&[u8]>
     ensures inside { IfSome result (λ rest. length rest.now ≤ length bytes.now) }
@@ -30,7 +30,7 @@ pub struct LastNumber {
     pub before: usize,
 }
 
-/// The last of so many numbers, which are all of these bytes, and how many bytes are before it.
+/// The last of `count` numbers, which are all of these bytes, and how many bytes are before it.
 #[inline(always)]
 pub fn find_last_number(bytes: &[u8], count: usize) -> Option<LastNumber>
     ensures some { IfSome result (λ last. 1 ≤ count) }

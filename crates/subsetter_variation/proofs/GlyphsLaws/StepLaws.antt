@@ -16,7 +16,7 @@ use Rattle.subsetter_variation.specs.VariationLaws.{IsPassedOver, IsSameAtAnySte
 one_answer : {A : Type 0} (r : Result A Error) (x y : A) → r ≡ Ok x → r ≡ Ok y → x ≡ y
 one_answer r x y e f = done_is x y (sym e ∙ f)
 
--- but for the steps that are left, two walks stand at one place
+-- but for the steps that are left, two walks are at one place
 Alike : Walk → Walk → Type 0
 Alike w v = (w.xs ≡ v.xs) × (w.ys ≡ v.ys) × (w.headers ≡ v.headers)
 

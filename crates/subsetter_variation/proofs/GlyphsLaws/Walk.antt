@@ -25,7 +25,7 @@ last_touched-take c k d l = ap last_touched (take_more c k d l) ∙ last_touched
 pub first_touched-drop : (c : List Point) (k : ℕ) (d : Point) → k < length c → first_touched (drop k c) ≡ option_or (touched (get_or c k d)) (first_touched (drop (k + 1) c))
 first_touched-drop c k d l = ap first_touched (drop_more c k d l)
 
--- where the loop stands, the two neighbours are those of the definition, or the point is touched
+-- where the loop is, the two neighbours are those of the definition, or the point is touched
 here : (c : List Point) (k : ℕ) (x s : ℤ) (d : Option ℤ) → first_touched (drop k c) ≡ option_or (option_map (λ y. record { at = x; delta = y }) d) (first_touched (drop (k + 1) c)) → delta_or d x (before c k) (option_or (first_touched (drop k c)) (first_touched c)) s ≡ delta_or d x (before c k) (after c k) s
 here c k x s None f = ap (λ o. inferred x (before c k) (option_or o (first_touched c)) s) f
 here c k x s (Some d) f = refl

@@ -7,7 +7,7 @@ use Rattle.subsetter_base.specs.Options.{◌>>=◌}
 use Rattle.subsetter_variation.specs.Packing.Packed.{Run, word_in, runs, run_in, begun, delta_in, next_delta, deltas_from}
 use Rattle.subsetter_base.specs.Bytes.{byte}
 
--- a run of so many deltas, after its first byte
+-- a run of n deltas, after its first byte
 abbrev pub run_of : ℕ → ℕ → List ℕ → Run
 run_of n control bytes = record { left = n; control = control; bytes = bytes }
 
@@ -35,7 +35,7 @@ next_in_run n control bytes =
     let one : suc n - 1 ≡ n = omega arith in
     ap (λ o. o >>= delta_in) (begun_on n control bytes) ∙ rw one (with_run (nat_le 128 control) (nat_le 64 control) n control bytes (word_in bytes) (byte bytes))
 
--- a delta that is read, and so many after it
+-- a delta that is read, and m after it
 abbrev pub next_then : ℕ → Option (ℤ × Run) → Option (List ℤ × List ℕ)
 next_then m o = o >>= λ d. onto d.0 (deltas_from m d.1)
 
@@ -46,7 +46,7 @@ run_cut : (m n control : ℕ) (bytes : List ℕ) → delta_bytes control bytes �
 run_cut m n control bytes h = ap (next_then m) (next_in_run n control bytes) ∙ ap (λ o. next_then m (option_map (λ d. (d.0, run_of n control d.1)) o)) h
 
 -- ---- of each kind
--- so many zeros
+-- a number of zeros
 abbrev pub zeros : ℕ → List ℤ
 zeros zero = []
 zeros (suc n) = pos 0 ∷ zeros n
@@ -127,7 +127,7 @@ unfolding next_delta
 between_runs zero control bytes = refl
 between_runs (suc m) control bytes = refl
 
--- the deltas that are read, and so many after them
+-- the deltas that are read, and m after them
 abbrev pub then_deltas : ℕ → Option (List ℤ × List ℕ) → Option (List ℤ × List ℕ)
 then_deltas m None = None
 then_deltas m (Some d) = option_map (λ x. (d.0 ++ x.0, x.1)) (deltas_from m (runs d.1))

@@ -1,4 +1,4 @@
--- Deltas that are read run by run: where a reader of them stands.
+-- Deltas that are read run by run: where a reader of them is.
 use Rattle.std.proofs.Common.{◌≡◌, ℕ, zero, suc, ◌+◌, ◌-◌, ◌%◌, ◌<◌, ◌≤◌, List, [], ◌∷◌, ◌++◌, length, get_or, drop, Option, Some, None, IfSome, ℤ, pos, refl, ap, subst, sym, ◌∙◌, arith}
 use Rattle.std.specs.Option.{option_map}
 use Rattle.std.proofs.lemmas.List.{drop-drop, get_or-drop, get_or_append_left}

@@ -12,7 +12,7 @@ use Rattle.subsetter_variation.specs.Locations.Segments.{segment_map_at, axis_va
 use Rattle.subsetter_variation.specs.Locations.Coordinates.{coordinate, coordinates_at}
 use Rattle.subsetter_variation.specs.declared.locations.axes.Axis.{Axis}
 
--- what stands past the end of a list of axes
+-- what is past the end of a list of axes
 abbrev pub no_axis : Axis
 no_axis = record { tag = record { 0 = [] }; minimum = pos 0; default = pos 0; maximum = pos 0 }
 

@@ -35,7 +35,7 @@ const MAP_DATA_0: usize = 4;
 
 const MAP_DATA_1: usize = 6;
 
-/// How many entries a map of indexes has, and where they stand.
+/// How many entries a map of indexes has, and where they are.
 fn map_head(map: &[u8]) -> Option<(u32, usize)>
     ensures value { result ≡ map_head map.now }
     ensures offset { IfSome result (λ h. h.1 ≤ 6) }
@@ -146,7 +146,7 @@ fn advance_items(
     Ok(items)
 }
 
-/// `MalformedFont` for so many items: there is no store.
+/// `MalformedFont` for each of `count` items: there is no store.
 fn without_store(alloc: Global, count: usize) -> Result<Vec<Result<i64, Error>>, AllocError>
     ensures { IfOk result (λ v. v.items ≡ replicate count (Err MalformedFont)) }
 {

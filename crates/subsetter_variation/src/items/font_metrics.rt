@@ -46,7 +46,7 @@ fn has_tag(bytes: &[u8], tag: Tag) -> bool
     Tag::new(&[bytes[0], bytes[1], bytes[2], bytes[3]]) == tag
 }
 
-/// The indexes of the first of so many value records that has a tag, if one has.
+/// The indexes of the first of `count` value records that has a tag, if one has.
 #[tactic(auto, using(crate::proofs::ItemsLaws::Values::value_step, crate::proofs::ItemsLaws::Values::value_found, crate::proofs::ItemsLaws::Values::value_cut, crate::proofs::ItemsLaws::Values::value_end))]
 fn value_from(mvar: &[u8], count: u16, size: u16, tag: Tag) -> Option<Option<(u16, u16)>>
     ensures { result ≡ value_from count 0 size mvar.now tag.0 }
@@ -75,7 +75,7 @@ fn value_of(mvar: &[u8], tag: Tag) -> Option<Option<(u16, u16)>>
     value_from(mvar, count, size, tag)
 }
 
-/// A store, if its regions have so many axes.
+/// A store, if its regions have `axis_count` axes.
 fn store_for(axis_count: usize, store: Store<'_>) -> Option<Store<'_>>
     ensures { result ≡ store_for axis_count store.entry }
 {

@@ -25,7 +25,7 @@ use std::marker::Model;
 use subsetter_base::Error;
 use subsetter_base::read::{LazyArray16, Readable, Reader, signed_at};
 
-/// An offset of 32 bits, unless it is 0, which stands for no table.
+/// An offset of 32 bits, unless it is 0, which means that there is no table.
 pub(crate) fn nullable_offset(bytes: &[u8], at: usize) -> Option<u32>
     ensures { result ≡ nullable_offset bytes.now at }
 {

@@ -41,7 +41,7 @@ pub(crate) fn none_known() -> [Option<KnownScalar>; PLACES]
     [None; PLACES]
 }
 
-/// So many places without scalars, one at least.
+/// `count` places without scalars, one at least.
 fn no_scalars(alloc: Global, count: usize) -> Result<Vec<Option<KnownScalar>>, AllocError>
     ensures places { IfOk result (λ v. 0 < length v.items) }
     ensures none { IfOk result (λ v. (s : SpecStore) (at : List ℤ) → AreScalars s at v.items) }
@@ -54,7 +54,7 @@ fn no_scalars(alloc: Global, count: usize) -> Result<Vec<Option<KnownScalar>>, A
     Ok(places)
 }
 
-/// So many places without deltas, one at least.
+/// `count` places without deltas, one at least.
 fn no_deltas(alloc: Global, count: usize) -> Result<Vec<Option<KnownDelta>>, AllocError>
     ensures places { IfOk result (λ v. 0 < length v.items) }
     ensures none { IfOk result (λ v. (s : SpecStore) (at : List ℤ) → AreDeltas s at v.items) }

@@ -55,7 +55,7 @@ pub fn find_axis(axes: &[Axis], tag: Tag) -> Option<Axis>
     None
 }
 
-/// So many axes, of size bytes each.
+/// `count` axes, of `size` bytes each.
 #[tactic(auto, using(crate::proofs::PackingLaws::Listed::axes_step, crate::proofs::PackingLaws::Listed::axes_cut))]
 fn axes_at(
     alloc: Global,

@@ -1,4 +1,4 @@
--- What the plain way to `hhea` and `hmtx` answers keeps the metrics; what it refuses has a fault, and what it answers has none.
+-- The plain way to `hhea` and `hmtx` keeps the metrics; what it refuses has a fault, and what it makes has none.
 use Rattle.std.proofs.Common.{◌≡◌, ℕ, zero, suc, ◌+◌, ◌-◌, ◌*◌, ◌^◌, ◌<◌, ◌≤◌, Bool, true, false, cond, List, length, get_or, Option, Some, None, Result, Ok, Err, refl, sym, ap, subst, ◌∙◌, ◌⊎◌, inl, inr, arith}
 use Rattle.std.specs.Prelude.{codes, Contains, IsSome, slice_index, ◌==◌}
 use Rattle.std.specs.Option.{ok_or}

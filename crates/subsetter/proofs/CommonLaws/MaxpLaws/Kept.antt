@@ -1,4 +1,4 @@
--- What the plain way to `maxp` answers says how many glyphs there are; what it refuses has a fault, and what it answers has none.
+-- The plain way to `maxp` keeps how many glyphs there are; what it refuses has a fault, and what it makes has none.
 use Rattle.std.proofs.Common.{◌≡◌, ℕ, ◌^◌, ◌<◌, ◌≤◌, ltb, Bool, true, false, cond, List, [], ◌++◌, length, drop, Option, Some, None, Ok, Err, refl, sym, ap, subst, ◌∙◌, append_assoc, arith}
 use Rattle.std.specs.Prelude.{codes}
 use Rattle.std.specs.Int.{w16, w32, to_be_bytes}

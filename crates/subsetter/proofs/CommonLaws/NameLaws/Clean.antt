@@ -1,4 +1,4 @@
--- Where a subset of `name` is answered no fault stands.
+-- Where a subset of `name` is made there is no fault.
 use Rattle.std.proofs.Common.{◌≡◌, ℕ, zero, suc, ◌+◌, ◌*◌, ◌<◌, ◌≤◌, Bool, true, false, cond, eqb, leb, drop, List, [], ◌∷◌, length, Option, Some, None, Ok, refl, sym, ap, subst, ◌∙◌, arith}
 use Rattle.std.specs.Prelude.{map, filter, codes, Contains, slice_index_or}
 use Rattle.std.specs.Option.{option_and_then, option_map, ok_or}

@@ -1,4 +1,4 @@
--- What a subset of `name` refuses has a fault of that name, and where it answers none stands.
+-- Where a subset of `name` is refused there is a fault of that name, and where it is made there is none.
 use Rattle.std.proofs.Common.{◌≡◌, ℕ, zero, suc, ◌*◌, ◌<◌, ◌≤◌, Bool, true, false, cond, leb, ltb, eqb, List, [], ◌∷◌, length, Option, Some, None, Result, Ok, Err, refl, sym, ap, subst, ◌∙◌, ◌⊎◌, inl, inr, arith}
 use Rattle.std.specs.Prelude.{map, drop, filter, filter_map, slice_index_or, codes, Contains}
 use Rattle.std.specs.Option.{option_and_then, option_map, ok_or}

@@ -107,7 +107,7 @@ found_later ts others t q at total is eq h =
 pub joined-first : (ts others : List (List ℕ)) (t : List ℕ) (at total : ℕ) → ts ≡ t ∷ others → at + length (joined ts) ≡ total → at + length t + length (joined others) ≡ total
 joined-first ts others t at total is h = omega (arith, ap (λ l. length (joined l)) is, length-append t (joined others))
 
--- strings of which some stand in front
+-- the first of some strings
 pub nows-take : (n : ℕ) (bs : List (Bor (List ℕ))) → nows (take n bs) ≡ take n (nows bs)
 nows-take zero bs = refl
 nows-take (suc n) [] = refl

@@ -43,7 +43,7 @@ is_name bytes at len lt is le =
 
 -- ---- the names at the front of some bytes
 
--- so many names at the front, and what is after them
+-- the first k names, and what is after them
 record IsFront (all : List ℕ) (k : ℕ) : Type 0 where
   rest : List ℕ
   split : all ≡ run_bytes (names_in all) 0 k ++ rest

@@ -16,7 +16,7 @@ within zero k step lt = absurd (omega arith)
 within (suc n) zero step lt = omega arith
 within (suc n) (suc k) step lt = omega (arith, within n k step (omega arith))
 
--- after one more name of a length, where k such names stand before
+-- after one more name of a length, where k such names come before
 pub one_more_alike : (bytes : List ℕ) (len step k : ℕ) → step ≡ len + 1 → 8 * step ≤ length bytes → k < 8 → get_or bytes (k * step) 0 ≡ len → names_in (drop (k * step) bytes) ≡ drop k (names_in bytes) → names_in (drop ((k + 1) * step) bytes) ≡ drop (k + 1) (names_in bytes)
 one_more_alike bytes len step k is room lt here before =
     let at = k * step in
@@ -34,7 +34,7 @@ no_step step = omega arith
 one_step : (step : ℕ) → 1 * step ≡ step
 one_step step = omega arith
 
--- so many of eight names of a length are passed over, where eight looks a step apart find that length
+-- `count` of eight names of a length are passed over, where eight looks a step apart find that length
 pub eight_alike : (bytes : List ℕ) (len step count : ℕ) → step ≡ len + 1 → 8 * step ≤ length bytes → count ≤ 8 → ((k : ℕ) → k < 8 → get_or bytes (k * step) 0 ≡ len) → names_in (drop (count * step) bytes) ≡ drop count (names_in bytes)
 eight_alike bytes len step zero is room le here = ap (λ (n : ℕ). names_in (drop n bytes)) (no_step step)
 eight_alike bytes len step (suc k) is room le here =

@@ -1,4 +1,4 @@
--- What is refused of the tables that both kinds of outlines share has a fault of that name, and where they are made no such fault stands.
+-- What is refused of the tables that both kinds of outlines share has a fault of that name; where they are made there is none.
 use Rattle.std.proofs.Common.{◌≡◌, ℕ, ltb, Bool, true, false, cond, List, [], ◌∷◌, length, Option, Some, None, Ok, Err, refl, subst, inl, inr}
 use Rattle.std.specs.Prelude.{codes, Contains}
 use Rattle.std.specs.List.{AllByRecursion}

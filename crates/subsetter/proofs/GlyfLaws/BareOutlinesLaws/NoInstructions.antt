@@ -50,7 +50,7 @@ module _ (a b : ℕ) (rest pad : List ℕ) (one : length pad ≤ 1) where
   abbrev whole : List ℕ
   whole = a ∷ b ∷ rest
 
-  -- where nothing is found, the outline is as it was, and nothing stands after its instructions
+  -- where nothing is found, the outline is as it was, and nothing comes after its instructions
   none_following : bare_found whole ≡ None → IsBareSimple (whole ++ pad)
   none_following none contours size e f lt =
       let len = length-append whole pad in

@@ -44,7 +44,7 @@ fn past_name(bytes: &[u8], at: usize) -> usize
     }
 }
 
-/// The place after so many names from a place on.
+/// The place after `count` names from a place on.
 fn pass(bytes: &[u8], start: usize, count: usize) -> usize
     requires { start ≤ length bytes.now }
     ensures names { names_in (drop result bytes.now) ≡ drop count (names_in (drop start bytes.now)) }
@@ -57,7 +57,7 @@ fn pass(bytes: &[u8], start: usize, count: usize) -> usize
     at
 }
 
-/// How many bytes so many of eight names have, where the eight have this length, so that one look at each length byte finds it out.
+/// How many bytes the first `count` of eight names have, where all eight have this length: one look at each length byte tells.
 fn alike_len(bytes: &[u8], count: usize, len: u8) -> Option<usize>
     requires { count ≤ 8 }
     ensures names { IfSome result (λ n. names_in (drop n bytes.now) ≡ drop count (names_in bytes.now)) }
@@ -90,7 +90,7 @@ fn length_byte(bytes: &[u8], at: usize) -> u8 {
     }
 }
 
-/// The place after so many names from a place on, found soon where eight names are alike.
+/// The place after `count` names from a place on, found fast where eight names have one length.
 fn skip(bytes: &[u8], at: usize, count: usize) -> usize
     requires { at ≤ length bytes.now }
     ensures names { names_in (drop result bytes.now) ≡ drop count (names_in (drop at bytes.now)) }
@@ -182,7 +182,7 @@ fn mark_in(marks: &[u32], place: usize) -> Option<usize>
     Some(*mark as usize)
 }
 
-/// So many names from a number on, each after its length byte, where every offset is kept and all are there.
+/// `count` names from a number on, each after its length byte, where every offset is kept and all are there.
 fn run_in<'a>(
     all: &'a [u8],
     marks: &[u32],
@@ -214,7 +214,7 @@ struct Mark<'a> {
     count: usize,
 }
 
-/// Names by their numbers. They stand one after another, so the places of some are kept.
+/// Names by their numbers. They are written one after another, so the places of some are kept.
 #[derive(Drop)]
 pub(crate) struct NameList<'a> {
     all: &'a [u8],
@@ -296,7 +296,7 @@ impl<'a> NameList<'a> {
         first_entry(&bytes[at..])
     }
 
-    /// So many names from a number on, each after its length byte, where every offset is kept and all are there.
+    /// `count` names from a number on, each after its length byte, where every offset is kept and all are there.
     pub(crate) fn entries(&self, from: usize, count: usize) -> Option<&'a [u8]>
         requires { from + count < 2 ^ 64 }
         ensures { IfSome result (λ run. run.now ≡ run_bytes self.now from count) }

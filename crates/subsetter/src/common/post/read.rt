@@ -31,7 +31,7 @@ impl<'a> Model for Names<'a> {
 }
 
 impl<'a> Names<'a> {
-    /// The names that stand in some bytes.
+    /// The names in some bytes.
     pub(crate) fn new(bytes: &'a [u8]) -> Self
         ensures { result ≡ bytes.now }
     {

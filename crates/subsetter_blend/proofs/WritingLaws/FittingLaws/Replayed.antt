@@ -28,7 +28,7 @@ use Rattle.subsetter_blend.specs.Hint.{is_hint}
 abbrev pub at : ℕ → ℕ → List CharStringNumber → type2.Registers
 at stems mask_len numbers = record { operands = numbers; stems = stems; mask_len = mask_len }
 
--- so many stems were counted by pieces of the event, so that its last operands make the rest of them
+-- the stems that pieces of the event counted, so that its last operands make the rest of them
 pub record IsCounted (r : Registers) (e : Event) (stems n : ℕ) : Type 0 where
   pub hint : is_hint e.operator.0 ≡ true → stems + n / 2 ≡ r.stems + length e.operands / 2
   pub path : is_hint e.operator.0 ≡ false → stems ≡ r.stems
@@ -163,7 +163,7 @@ pub stems_done : (operator : Operator) (x : List ℕ) (numbers : List CharString
     → type2.count_stems operator x (at stems mask_len numbers) ≡ type2.Does (Some (record { operator = operator; operands = numbers; mask = [] })) (at after mask_len []) (type2.On x)
 stems_done operator x numbers stems mask_len after e h = rw h (ap (λ (n : ℕ). type2.Does (Some (record { operator = operator; operands = numbers; mask = [] })) (at n mask_len []) (type2.On x)) e)
 
--- a mask of so many bytes that stands before others
+-- a mask whose length is `mask_len` and that comes before others
 took_again : (operator : Operator) (rest x : List ℕ) (r : type2.Registers) → nat_le r.mask_len (length rest) ≡ true
     → type2.take_mask operator (take r.mask_len rest ++ x) r ≡ type2.emit operator (take r.mask_len rest) (type2.On x) r
 took_again operator rest x r h =

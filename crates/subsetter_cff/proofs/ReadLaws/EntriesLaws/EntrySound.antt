@@ -1,4 +1,4 @@
--- Where entries meet the demands and lead to what they name, no fault of an entry stands.
+-- Where entries meet the demands and lead to what they name, no entry has a fault.
 use Rattle.std.proofs.Common.{◌≡◌, ℕ, Bool, true, false, List, drop, ◌-◌, Option, Some, None, refl, ◌∙◌, sym}
 use Rattle.std.specs.Prelude.{is_some, IfSome}
 use Rattle.std.specs.Option.{option_and_then}

@@ -23,7 +23,7 @@ use Rattle.subsetter_cffdata.proofs.Options.{step}
 abbrev keeps_on : {A : Type 0} (a b c : Option A) → Keeps a b → Keeps b c → Keeps a c
 keeps_on a b c k l = record { what = l.what; source_is = k.source_is ∙ sym k.copy_is ∙ l.source_is; copy_is = l.copy_is }
 
--- matrices that stand in a table are those that its glyph has
+-- matrices that are in a table are those that its glyph has
 both_stated : (top : List Number) (own : Option (List Number)) (m : List Decimal × List Decimal) → (own >>= λ o. Some (map value top, map value o)) ≡ Some m → matrix_pair (Some top) own ≡ m
 both_stated top None m e = absurd (none-some m e)
 both_stated top (Some o) m e = same_Some _ _ e

@@ -1,4 +1,4 @@
--- No fault stands in a subset of a CID-keyed font; and a glyph that it hasn't is one.
+-- A subset of a CID-keyed font has no fault; and a glyph that it hasn't is one.
 use Rattle.std.proofs.Common.{◌≡◌, ℕ, zero, suc, ◌≤◌, List, [], ◌∷◌, length, Option, None, refl, arith}
 use Rattle.subsetter_cff.specs.Write.Again.{HasNoFaultAgain, UnknownIsFault}
 use Rattle.subsetter_cff.proofs.WriteLaws.RefusalsLaws.Excluded.{answered_excludes}

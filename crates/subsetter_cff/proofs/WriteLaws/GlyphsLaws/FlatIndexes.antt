@@ -1,4 +1,4 @@
--- The INDEX of items that stand one after the other.
+-- The INDEX of items in one piece, one after the other.
 use Rattle.std.proofs.Common.{◌≡◌, ℕ, suc, ◌+◌, false, eqb, arith, inl, inr, List, [], ◌∷◌, ◌++◌, length, refl, ap}
 use Rattle.std.specs.Int.{bytes_high_first}
 use Rattle.std.specs.List.{concat}

@@ -1,4 +1,4 @@
--- The plain way refuses a glyph of a table that was opened just where a fault stands.
+-- The plain way refuses a glyph of a table that was opened just where it has a fault.
 use Rattle.std.proofs.Common.{◌≡◌, ℕ, Bool, true, false, cond, List, ◌∷◌, [], Some, None, refl, inl, inr, sym, subst}
 use Rattle.std.specs.Prelude.{Contains, Ok, Err}
 use Rattle.std.specs.Option.{ok_or}
@@ -57,7 +57,7 @@ refused_glyph cff tokens depth glyph e sound h =
       ]
     ]
 
--- where the kept glyphs are refused, a fault of one stands
+-- where the kept glyphs are refused, one of them has a fault
 pub refused_glyphs : (cff : Cff) (tokens depth : ℕ) (glyphs : List ℕ) (e : Error) → TopIsSound cff → kept_glyphs cff tokens depth glyphs ≡ Err e → (g : ℕ) × (Contains glyphs g × HasGlyphFault cff tokens depth g e)
 refused_glyphs cff tokens depth [] e sound h = absurd cc
 refused_glyphs cff tokens depth (g ∷ gs) e sound h =

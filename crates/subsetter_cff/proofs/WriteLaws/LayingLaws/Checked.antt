@@ -1,4 +1,4 @@
--- What a writer answers is a limit that is kept or not, unless memory ran out.
+-- What a writer returns is a limit that is kept or not, unless memory ran out.
 use Rattle.std.proofs.Common.{◌≡◌, ℕ, ◌+◌, ◌^◌, Bool, true, false, cond, ◌⊎◌, List, [], ◌∷◌, ◌++◌, map, length, refl, ap, inl, inr, ◌∙◌, sym}
 use Rattle.std.specs.Prelude.{◌||◌, Option, None, Some, Result, Ok, Err, IfErr}
 use Rattle.std.specs.List.{concat, list_any}

@@ -37,7 +37,7 @@ unfolding front_by
 front_split texts t o = ap (λ (l : List ℕ). header ++ (t.names.now ++ (index (l ∷ []) ++ tail_by texts))) (top_split (top_by texts t) o)
 
 -- ---- an INDEX of one item
--- of data of so many bytes, with this last offset
+-- of data of `total` bytes, with this last offset
 abbrev single_by : ℕ → ℕ → List ℕ
 single_by total end = 0 ∷ 1 ∷ offset_size (total + 1) ∷ (bytes_high_first (offset_size (total + 1)) 1 ++ bytes_high_first (offset_size (total + 1)) end)
 

@@ -166,7 +166,7 @@ places_kept size charset private select dicts x e =
     let c = bind_ok (limit (is_offset (size + charset + private + select))) _ x b.1.1 in
     ltb-true (size + charset + private + select + dicts) (2 ^ 31) (is_kept (is_offset (size + charset + private + select + dicts)) x c.1.1)
 
--- where the charstrings stand
+-- where the charstrings are
 abbrev place_by : List (List ℕ) → TableParts → ℕ → ℕ → ℕ
 place_by texts t glyphs size =
     size + length (charset_bytes glyphs) + length (privates (new_dicts t)) + length (select_bytes glyphs (select_of_table t.numbers))

@@ -1,4 +1,4 @@
--- Where the parts of a table stand that is laid out.
+-- Where the parts of a laid-out table are.
 use Rattle.std.proofs.Common.{◌≡◌, ℕ, suc, ◌+◌, List, [], ◌∷◌, ◌++◌, length, refl, ap, arith, ◌∙◌, sym, append_assoc, length-append}
 use Rattle.std.specs.Int.{bytes_high_first}
 use Rattle.std.proofs.lemmas.List.{drop_at, append-nil}
@@ -62,7 +62,7 @@ pub charset_stands : (p : Parts) → IsAt (cff_table p) (charset_offset p) (char
 unfolding cff_table
 charset_stands p = stands_after _ (front p (table_offsets p)) (charset_of p) _ (charset_offset p) refl (sym (length-front p (table_offsets p)))
 
--- what stands before the private dicts
+-- what comes before the private dicts
 abbrev pub before_privates : Parts → List ℕ
 before_privates p = front p (table_offsets p) ++ charset_of p
 

@@ -54,7 +54,7 @@ pub laid_written : (t : TableParts) (texts : List (List ℕ)) (glyphs : ℕ) (d 
 laid_written t texts glyphs d x o w0 w1 w2 w3 w4 w5 is are at g h i j k l =
     five_written w0 w1 w2 w3 w4 w5 (front_by texts t o) (charset_bytes glyphs) x.privates (select_bytes glyphs (select_of_table t.numbers)) (index (views x.font_dicts.items)) g (drafted t texts d o w0 w1 is h) i j k l ∙ in_pieces t texts glyphs d.size x o is.size are at
 
--- ---- the charstrings stand after
+-- ---- the charstrings come after
 six : (a b c d e z : List ℕ) → (a ++ (b ++ (c ++ (d ++ (e ++ []))))) ++ z ≡ a ++ (b ++ (c ++ (d ++ (e ++ z))))
 six a b c d e z = simp (append_assoc, append-nil)
 

@@ -29,7 +29,7 @@ pub range_operands_is : (size place : ℕ) → size < 2 ^ 31 → place < 2 ^ 31 
 unfolding range_operands as_u32 as_i32 in_i32
 range_operands_is size place lt lt' = rw (lt-ltb size 2147483648 lt, lt-ltb place 2147483648 lt') refl
 
--- ---- where font dict i and its private dict stand
+-- ---- where font dict i and its private dict are
 pub record Found (ss : List (List ℕ)) (place : ℕ) (fs : List FontDict) (i : ℕ) (f : FontDict) : Type 0 where
   pub front : List ℕ
   pub back : List ℕ

@@ -111,7 +111,7 @@ taken_by front bytes operator rest limit xs h out room shown =
     ap (λ (o : Option (List Number)). following front (written_if_there operator o) >>= λ new. following new (written_entries (without subroutines_operator (entries rest)))) (shown ∙ ap (λ (n : ℕ). operands_at n bytes) room)
     ∙ taken front bytes operator rest h out
 
--- ---- entries that stand as they are written
+-- ---- entries that stay as they are written
 plain_written : (operator bytes rest : List ℕ) (e : IsEntryAndRest operand_limit operator bytes rest) → written_entry operator e.numbers ≡ Ok (entry_bytes (plain_entry operator e.numbers))
 unfolding written_entry
 plain_written operator bytes rest e = rw e.accepted refl

@@ -15,7 +15,7 @@ pub plain_values : (xs : List Number) → map value (map Plain xs) ≡ xs
 plain_values [] = refl
 plain_values (x ∷ xs) = ap (λ (ys : List Number). x ∷ ys) (plain_values xs)
 
--- what stands after the strings
+-- what comes after the strings
 abbrev following : Parts → Offsets → List NewEntry
 following p o = plain_entry font_matrix_operator p.matrix ∷ plain_entry font_box_operator p.box ∷ placed_entries o
 

@@ -60,7 +60,7 @@ same_numbers p q k (suc n) h = same_step (p k) (q k) k _ _ (h k (omega arith) (o
 used_by : (numbers : List ℕ) (used : List Bool) (n : ℕ) → ((i : ℕ) → i < n → get_or used i false ≡ is_listed numbers i) → filter (λ i. get_or used i false) (range_with_len 0 n) ≡ filter (is_listed numbers) (range_with_len 0 n)
 used_by numbers used n h = same_numbers (λ i. get_or used i false) (is_listed numbers) 0 n (λ i a b. h i (omega arith))
 
--- none stands from an end on
+-- there are none from an end on
 none_kept : (p : ℕ → Bool) (k n : ℕ) → ((i : ℕ) → k ≤ i → p i ≡ false) → filter p (range_with_len k n) ≡ []
 none_kept p k zero h = refl
 none_kept p k (suc n) h = rw (h k (omega arith)) (none_kept p (k + 1) n (λ i le. h i (omega arith)))

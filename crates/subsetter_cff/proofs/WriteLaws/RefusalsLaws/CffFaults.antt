@@ -1,4 +1,4 @@
--- The plain way refuses a table just where a fault stands in it.
+-- The plain way refuses a table just where it has a fault.
 use Rattle.std.proofs.Common.{◌≡◌, ℕ, ltb, ◌≤◌, List, length, refl, arith, inl, inr, ◌⊎◌, ◌∙◌, sym, subst}
 use Rattle.std.specs.Prelude.{Contains, Ok, Err}
 use Rattle.std.specs.Option.{ok_or}

@@ -1,4 +1,4 @@
--- Where the plain way answers a table, no fault stands in its source.
+-- Where the plain way makes a table, its source has no fault.
 use Rattle.std.proofs.Common.{◌≡◌, ℕ, zero, suc, ◌<◌, ◌≤◌, true, false, List, [], ◌∷◌, ◌++◌, length, Option, Some, ap, arith, ◌∙◌, sym, subst, ◌+◌, ◌^◌}
 use Rattle.std.specs.Prelude.{Contains, slice_get, slice_index, slice_index_or, unwrap_or, Ok}
 use Rattle.std.specs.List.{flat_map, concat}

@@ -45,7 +45,7 @@ no_string : cff_subset (with_copyright 0xF8 0x1B) 1000000 64 (0 ∷ []) ≡ Err 
 unfolding cff_subset opened opened_parts cff_parts past_header name_bytes name_index top_index top_dict string_index subroutine_index index_of index_body index_data byte card part entries entries_in entry_at entry_in dict_number_from integer_from short_integer char_strings at_offset offset_operand string_operand string_of as_i32 as_u32 in_i32 parts_of parts_for counted_parts kept_glyph private_of private_at outcome run act_at token_of effect_of
 no_string = refl
 
--- version 2, with fewer than three bytes: both faults stand
+-- version 2, with fewer than three bytes: it has both faults
 other_version : cff_subset (2 ∷ []) 1000000 64 (0 ∷ []) ≡ Err CFFError
 unfolding cff_subset opened
 other_version = refl

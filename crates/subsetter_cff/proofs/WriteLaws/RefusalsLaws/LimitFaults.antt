@@ -100,7 +100,7 @@ not_false false e = absurd cc
 no_error : (p : Parts) (e : Error) → ◌≡◌ {A = Result Parts Error} (Ok p) (Err e) → ⊥
 no_error p e h = cc
 
--- so many numbers, where they are demanded
+-- n numbers, where they are demanded
 so_many_of : (cff : Cff) (operator : List ℕ) (n : ℕ) (xs : List Number) → Contains top_demands (record { operator = operator; holds = so_many n }) → TopIsSound cff → last_of operator cff.top ≡ Some xs → length xs ≡ n
 so_many_of cff operator n xs inside sound is =
     eqb-true (length xs) n (last_holds (so_many n) operator cff.top xs (demand_holds top_demands (record { operator = operator; holds = so_many n }) cff.top inside sound.operands) is)

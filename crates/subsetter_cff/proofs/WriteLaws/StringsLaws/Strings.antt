@@ -28,7 +28,7 @@ found_after : (y : List ℕ) (ys : List (List ℕ)) (x : List ℕ) (i : ℕ) (o 
 found_after y ys x i None h e = absurd (none-some i e)
 found_after y ys x i (Some j) h e = let step : suc j ≡ i = omega (arith, same_Some _ _ e) in rw (← step) (h j refl)
 
--- at its place stands the string
+-- at its place is the string
 pub place_found : (xs : List (List ℕ)) (x : List ℕ) (i : ℕ) → index_by bytes_eq xs x ≡ Some i → slice_get xs i ≡ Some x
 place_found [] x i e = absurd (none-some i e)
 place_found (y ∷ ys) x i e =

@@ -12,7 +12,7 @@ use crate::read::entries::operators::same_operator;
 use subsetter_cffdata::dicts::dict::DictionaryParser;
 use subsetter_cffdata::dicts::operator::Operator;
 
-/// Shows the operands of the entry that the parser stands at, where it is wanted.
+/// Shows the operands of the entry that the parser is at, where it is wanted.
 fn show_wanted(parser: &mut DictionaryParser<'_>, is_wanted: bool, is_shown: &mut bool)
     ensures value { shown_if is_shown.new (shown parser.new) ≡ found_now is_wanted (operands_at (length parser.old.operands.now) (entry_of parser.old)) (shown_if is_shown.old (shown parser.old)) }
     ensures left { left parser.new ≡ left parser.old }
@@ -23,7 +23,7 @@ fn show_wanted(parser: &mut DictionaryParser<'_>, is_wanted: bool, is_shown: &mu
     }
 }
 
-/// Goes on to the end, and answers whether an entry of the operator was met. The parser then shows the operands of the last one.
+/// Goes on to the end, and returns whether an entry of the operator was met. The parser then shows the operands of the last one.
 pub fn show_last(parser: &mut DictionaryParser<'_>, operator: &Operator) -> bool
     requires { length parser.old.operands.now ≡ operand_limit }
     ensures { shown_if result (shown parser.new) ≡ last_of (operator_of operator.now) (entries (left parser.old)) }

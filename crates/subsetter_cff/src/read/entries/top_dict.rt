@@ -43,7 +43,7 @@ pub struct TopDictData {
     pub private: Option<Range<usize>>,
 }
 
-/// Takes what an entry says, in place of what an earlier one of its operator said, and answers whether it meets all demands.
+/// Takes what an entry says, in place of what an earlier one of its operator said, and returns whether it meets all demands.
 #[tactic(auto, using(crate::proofs::ReadLaws::EntriesLaws::FieldsTaken::met_is))]
 fn take_entry(
     demands: Demands,

@@ -102,7 +102,7 @@ impl<'a> SubrOffsets<'a> {
         }
     }
 
-    /// Of a table whose dicts have together so many bytes.
+    /// Of a table whose dicts have `bytes` bytes together.
     pub fn for_dicts(alloc: Global, table: &'a [u8], bytes: usize) -> Result<Self, Error>
         ensures ok { IfOk result (λ s. s ≡ table.now) }
         ensures err { IfErr result (λ e. e ≡ OutOfMemory) }

@@ -72,7 +72,7 @@ fn write_pieces(
     })
 }
 
-/// Where the pieces stand after a front of a size.
+/// Where the pieces begin after a front of a size.
 #[tactic(auto, unfolding(crate::specs::Write::Laying::TableLimits::offset_limits))]
 fn find_offsets(size: usize, pieces: &Pieces) -> Result<Offsets, Error>
     ensures offsets { IfOk result AreOffsets }
@@ -91,7 +91,7 @@ fn find_offsets(size: usize, pieces: &Pieces) -> Result<Offsets, Error>
     })
 }
 
-/// What stands before the charstrings' INDEX, by the draft of its front. Room is taken for that INDEX's offsets too.
+/// What comes before the charstrings' INDEX, by the draft of its front. Room is taken for that INDEX's offsets too.
 #[tactic(auto, unfolding(crate::specs::Write::Laying::TableLimits::laid_limits))]
 fn write_laid(
     alloc: Global,

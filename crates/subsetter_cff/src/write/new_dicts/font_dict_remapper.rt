@@ -57,7 +57,7 @@ fn mark_used(numbers: &[u8]) -> [bool; 256]
     used
 }
 
-/// From where on none of these numbers stands.
+/// The end of these numbers: all of them are below it.
 fn end_of(numbers: &[u8]) -> usize
     ensures none { (n : ℕ) → result ≤ n → is_listed numbers.now n ≡ false }
     ensures within { result ≤ 256 }
@@ -95,7 +95,7 @@ fn marked_numbers(alloc: Global, used: &[bool], end: usize) -> Result<Vec<u8>, E
     Ok(places)
 }
 
-/// Where each number stands first.
+/// The first place of each number.
 fn indexes_of(numbers: &[u8]) -> [Option<u8>; 256]
     requires { length numbers.now ≤ 255 }
     ensures { (n : ℕ) → n < 256 → slice_index_or result n None ≡ index_of numbers.now n }
@@ -141,7 +141,7 @@ impl FontDictRemapper {
     }
 }
 
-/// The new number of a font dict, by where each of the used ones stands.
+/// The new number of a font dict, by the place of each of the used ones.
 fn new_number(indexes: &[Option<u8>; 256], used: &[u8], number: u8) -> u8
     requires { (n : ℕ) → n < 256 → slice_index_or indexes.now n None ≡ index_of used.now n }
     ensures { result ≡ new_index used.now number }

@@ -40,7 +40,7 @@ impl<'a> Model for SidRemapper<'a> {
     } };
 }
 
-/// Where a string stands first.
+/// The first place of a string.
 fn index_of(strings: &[&[u8]], string: &[u8]) -> Option<usize>
     ensures value { result ≡ index_by bytes_eq (views strings.now) string.now }
     ensures within { IfSome result (λ i. i < length strings.now) }
@@ -53,7 +53,7 @@ fn index_of(strings: &[&[u8]], string: &[u8]) -> Option<usize>
     None
 }
 
-/// The number of a string that stands at a place.
+/// The number of the string at a place.
 fn number_at(place: usize) -> StringId
     requires { place < 65145 }
     ensures { result.0 ≡ 391 + place }

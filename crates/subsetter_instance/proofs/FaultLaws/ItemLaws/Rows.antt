@@ -146,7 +146,7 @@ module _ (bytes : List ℕ) (at inner : ℕ) where
 
 -- ---- items
 
--- where the data of an outer index stand in a store
+-- where the data of an outer index are in a store
 module _ (s : Store) (outer inner : ℕ) where
   abbrev data_at : ℕ → Option ℕ
   data_at count = cond (nat_lt outer count) (nullable_offset s.bytes (8 + outer * 4)) None

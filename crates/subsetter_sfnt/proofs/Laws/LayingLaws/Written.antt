@@ -148,7 +148,7 @@ around out b at there =
 pub untouched : (out b : List ℕ) (at : ℕ) → take (length b) (drop at out) ≡ b → out ≡ take at out ++ b ++ drop (at + length b) out
 untouched out b at there = around out b at there ∙ sym (append_assoc (take at out) b (drop (at + length b) out))
 
--- a word in bytes 8..12 of a table that stands at a place
+-- a word in bytes 8..12 of a table at an offset
 pub patched : (out b W : List ℕ) (at : ℕ) → at + length b ≤ length out → 12 ≤ length b → take (length b) (drop at out) ≡ b
     → take (at + 8) out ++ W ++ drop (at + 8 + 4) out ≡ take at out ++ (take 8 b ++ W ++ drop 12 b) ++ drop (at + length b) out
 patched out b W at within room there =
@@ -164,7 +164,7 @@ patched out b W at within room there =
     regroup : (p a w d r : List ℕ) → p ++ a ++ w ++ (d ++ r) ≡ p ++ (a ++ w ++ d) ++ r
     regroup p a w d r = simp append_assoc
 
--- the next table stands at the front of what is left
+-- the next table is at the front of what is left
 pub record Stands (out b rest : List ℕ) (at : ℕ) : Type 0 where
   pub within : at + length b ≤ length out
   pub there : take (length b) (drop at out) ≡ b
