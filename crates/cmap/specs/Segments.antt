@@ -1,5 +1,7 @@
--- Format 4: ranges of characters below 65536, with glyphs in a row or in a list (OpenType, "cmap", "Format 4: Segment mapping to delta values").
-use Rattle.std.specs.Prelude.{ℕ, zero, suc, ◌+◌, ◌-◌, ◌*◌, ◌/◌, ◌%◌, ◌==◌, nat_le, if◌then◌else◌, List, Option, Some, None}
+-- Format 4: ranges of characters below 65536, with glyphs in a row or in a list (OpenType, "cmap", "Format 4: Segment
+-- mapping to delta values").
+use Rattle.std.specs.Prelude.{ℕ, zero, suc, ◌+◌, ◌-◌, ◌*◌, ◌/◌, ◌%◌, ◌==◌, nat_le, if◌then◌else◌, List, Option, Some}
+use Rattle.std.specs.Prelude.{None}
 use Rattle.std.specs.Option.{option_and_then, option_map}
 use Rattle.subsetter_base.specs.Bytes.{number}
 
@@ -30,7 +32,8 @@ shifted glyph delta = (glyph + delta) % 65536
 abbrev pub listed : ℕ → ℕ → Option ℕ
 listed glyph delta = if glyph == 0 then None else Some (shifted glyph delta)
 
--- the glyph of a character that stands at a distance from the start of its segment: by idDelta alone where idRangeOffset is 0, and else by a number that stands so far after that offset
+-- the glyph of a character that stands at a distance from the start of its segment: by idDelta alone where
+-- idRangeOffset is 0, and else by a number that stands so far after that offset
 abbrev pub glyph_at : List ℕ → ℕ → ℕ → ℕ → ℕ → ℕ → Option ℕ
 glyph_at table place offset delta c start =
     if offset == 0 then Some (shifted c delta)
@@ -48,7 +51,9 @@ in_segment table n i c =
 -- the glyph of a character by the next so many segments from i on of n: that of the first whose end isn't below it
 unfoldable pub by_segments : List ℕ → ℕ → ℕ → ℕ → ℕ → Option ℕ
 by_segments table n zero i c = None
-by_segments table n (suc more) i c = option_and_then (λ end. if nat_le c end then in_segment table n i c else by_segments table n more (i + 1) c) (end_code table i)
+by_segments table n (suc more) i c =
+    option_and_then (λ end. if nat_le c end then in_segment table n i c else by_segments table n more (i + 1) c)
+    (end_code table i)
 
 -- the glyph of a character by a table of format 4
 abbrev pub glyph_by_segments : List ℕ → ℕ → Option ℕ

@@ -6,7 +6,8 @@ use Rattle.subsetter_sfnt.specs.Extras.{all_extras}
 use Rattle.subsetter_sfnt.specs.Read.{Font}
 use Rattle.subsetter_sfnt.specs.declared.extras.Extras.{Extras}
 use Rattle.font_reasons.specs.declared.asked.Call.{Call}
-use Rattle.font_reasons.specs.declared.asked.Call.TheVariants.{Subset, SubsetAt, Embed, EmbedAt, PdfFont, GlyphsOf, Advances}
+use Rattle.font_reasons.specs.declared.asked.Call.TheVariants.{Subset, SubsetAt, Embed, EmbedAt, PdfFont, GlyphsOf}
+use Rattle.font_reasons.specs.declared.asked.Call.TheVariants.{Advances}
 
 -- what was asked for of a font, and the error
 pub record Question : Type 0 where

@@ -1,5 +1,6 @@
 -- Names whose strings aren't inside their table (OpenType, "name").
-use Rattle.std.specs.Prelude.{ℕ, zero, suc, ◌+◌, ◌==◌, ◌&&◌, not, Bool, nat_lt, if◌then◌else◌, List, Option, Some, None, codes}
+use Rattle.std.specs.Prelude.{ℕ, zero, suc, ◌+◌, ◌==◌, ◌&&◌, not, Bool, nat_lt, if◌then◌else◌, List, Option, Some, None}
+use Rattle.std.specs.Prelude.{codes}
 use Rattle.std.specs.Option.{option_and_then}
 use Rattle.subsetter_base.specs.Bytes.{number, range, from_offset}
 use Rattle.subsetter_sfnt.specs.Fields.Name.{is_unicode, name_record_of, string_of}
@@ -32,7 +33,10 @@ lost_from name storage (suc n) at = or_else (lost_at name storage at) (lost_from
 
 -- count is at byte 2, storageOffset at 4, and the records begin at 6
 abbrev pub lost_in : List ℕ → Option Reason
-lost_in name = option_and_then (λ count. option_and_then (λ storage. lost_from name storage count 6) (option_and_then (from_offset name) (number name 4 2))) (number name 2 2)
+lost_in name =
+    option_and_then (λ count.
+    option_and_then (λ storage. lost_from name storage count 6) (option_and_then (from_offset name) (number name 4 2)))
+    (number name 2 2)
 
 -- of a table of version 0; others are copied
 abbrev pub lost_name_of : List ℕ → Option Reason

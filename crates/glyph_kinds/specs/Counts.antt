@@ -11,4 +11,6 @@ count_of (kinds ∷ all) kind = if has_kind kind kinds then count_of all kind + 
 
 -- each kind, with how many have it
 abbrev pub kind_counts : List ℕ → List (ℕ × ℕ)
-kind_counts all = map (λ kind. (kind, count_of all kind)) (0 ∷ 1 ∷ 2 ∷ 3 ∷ 4 ∷ 5 ∷ 6 ∷ 7 ∷ 8 ∷ 9 ∷ 10 ∷ 11 ∷ 12 ∷ 13 ∷ 14 ∷ 15 ∷ 16 ∷ [])
+kind_counts all =
+    map (λ kind. (kind, count_of all kind))
+    (0 ∷ 1 ∷ 2 ∷ 3 ∷ 4 ∷ 5 ∷ 6 ∷ 7 ∷ 8 ∷ 9 ∷ 10 ∷ 11 ∷ 12 ∷ 13 ∷ 14 ∷ 15 ∷ 16 ∷ [])

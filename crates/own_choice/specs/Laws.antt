@@ -30,4 +30,7 @@ PartsFit = (maxp : List ℕ) (parts : ℕ) → IsMost maxp parts
 
 -- a glyph that can be a part at the font's default has a box of 16 bits wherever it is placed
 abbrev pub PartsHaveBoxes : Type 0
-PartsHaveBoxes = (s : Source) (p : Part) → p.glyph < s.count → has_small_outline 16384 (tables s) p.glyph ≡ true → is_place p.x ≡ true → is_place p.y ≡ true → HasBox s p
+PartsHaveBoxes =
+    (s : Source) (p : Part) → p.glyph < s.count → has_small_outline 16384 (tables s) p.glyph ≡ true
+    → is_place p.x ≡ true → is_place p.y ≡ true
+    → HasBox s p

@@ -1,4 +1,5 @@
--- The boxes of glyphs of a `CFF ` table whose charstrings may call subroutines (Technical Note 5176, section 14; Technical Note 5177).
+-- The boxes of glyphs of a `CFF ` table whose charstrings may call subroutines (Technical Note 5176, section 14;
+-- Technical Note 5177).
 use Rattle.std.specs.Prelude.{ℕ, List, [], map, Option, option_map, ℤ, pos}
 use Rattle.std.specs.Option.{option_map_or, unwrap_or}
 use Rattle.std.specs.Result.{result_ok}
@@ -14,7 +15,8 @@ use Rattle.subsetter_points.specs.declared.bounds.Bounds.{Bounds}
 
 -- of a charstring under a private dict, run within these limits; none where it can't be
 unfoldable pub run_box : Cff → Limits → Private → List ℕ → Option Bounds
-run_box cff limits private charstring = result_ok (flat_form (library cff private) limits.tokens limits.depth charstring) >>= flat_box
+run_box cff limits private charstring =
+    result_ok (flat_form (library cff private) limits.tokens limits.depth charstring) >>= flat_box
 
 -- of a glyph
 unfoldable pub drawn_box : Cff → Limits → ℕ → Option Bounds

@@ -17,7 +17,15 @@ abbrev pub ink_by : ℕ → List Ink → ℕ → Ink
 ink_by count inks g = if nat_lt g count then glyph g else own_by inks (g - count)
 
 abbrev pub figured_by : ℕ → List Ink → Item → Figured
-figured_by count inks i = record { ink = ink_by count inks i.glyph; text = i.text; x_advance = i.x_advance; y_advance = i.y_advance; x_offset = i.x_offset; y_offset = i.y_offset }
+figured_by count inks i =
+    record {
+      ink = ink_by count inks i.glyph;
+      text = i.text;
+      x_advance = i.x_advance;
+      y_advance = i.y_advance;
+      x_offset = i.x_offset;
+      y_offset = i.y_offset;
+    }
 
 -- a glyph is one of so many
 abbrev pub is_known_ink : ℕ → Ink → Bool

@@ -1,5 +1,6 @@
 -- Vertical metrics of glyphs (OpenType, "vhea", "vmtx", "VORG"), as a PDF has them (ISO 32000-1, 9.7.4.3).
-use Rattle.std.specs.Prelude.{ℕ, zero, suc, ◌+◌, ◌-◌, ◌*◌, ◌/◌, ◌^◌, ◌==◌, min, nat_lt, if◌then◌else◌, List, [], ◌∷◌, slice_get, Option, Some, None, ℤ, pos, neg_ℤ, ◌+ℤ◌}
+use Rattle.std.specs.Prelude.{ℕ, zero, suc, ◌+◌, ◌-◌, ◌*◌, ◌/◌, ◌^◌, ◌==◌, min, nat_lt, if◌then◌else◌, List, [], ◌∷◌}
+use Rattle.std.specs.Prelude.{slice_get, Option, Some, None, ℤ, pos, neg_ℤ, ◌+ℤ◌}
 use Rattle.std.specs.Option.{option_and_then, option_copied, option_map, option_map_or, option_or, unwrap_or}
 use Rattle.pdf_text.specs.declared.metrics.columns.Column.{Column}
 use Rattle.subsetter_base.specs.Bytes.{field, signed_field}
@@ -17,7 +18,13 @@ pub record Vertical : Type 0 where
   pub outlines : Outlines
 
 abbrev pub vertical_view : VerticalTables → Vertical
-vertical_view t = record { vhea = option_copied t.vhea; vmtx = option_copied t.vmtx; vorg = option_copied t.vorg; outlines = outlines_view t.outlines }
+vertical_view t =
+    record {
+      vhea = option_copied t.vhea;
+      vmtx = option_copied t.vmtx;
+      vorg = option_copied t.vorg;
+      outlines = outlines_view t.outlines;
+    }
 
 -- ---- "vmtx"
 
@@ -42,7 +49,9 @@ pub record Origin : Type 0 where
 
 -- record number k after the header, if the table has it
 abbrev pub origin_at : Option (List ℕ) → ℕ → Option Origin
-origin_at vorg k = option_and_then (λ g. option_map (λ y. record { glyph = g; y = y }) (signed_field vorg (4 * k + 10))) (field vorg (4 * k + 8) 2)
+origin_at vorg k =
+    option_and_then (λ g. option_map (λ y. record { glyph = g; y = y }) (signed_field vorg (4 * k + 10)))
+    (field vorg (4 * k + 8) 2)
 
 -- the y that a record has for a glyph, else that of the later ones
 abbrev pub by_record : Option Origin → ℕ → Option ℤ → Option ℤ
@@ -81,8 +90,8 @@ abbrev pub vorg_y_at : Option (List ℕ) → Option Variation → ℕ → Option
 vorg_y_at vorg None g = vorg_y vorg g
 vorg_y_at vorg (Some v) g = option_map (varied_origin v g) (vorg_y vorg g)
 
--- the y of the origin, in the font's units: of TrueType outlines the top of the box and the top side bearing, those of the default; else by
--- "VORG"; else by the top that is given, if one is
+-- the y of the origin, in the font's units: of TrueType outlines the top of the box and the top side bearing, those of
+-- the default; else by "VORG"; else by the top that is given, if one is
 abbrev pub origin_by : Option (List ℕ) → Vertical → Option Variation → Option ℤ → ℕ → Option ℤ
 origin_by (Some glyf) t v top g = by_top t g (box_top t.outlines g)
 origin_by None t v top g = option_or (vorg_y_at t.vorg v g) (option_and_then (by_top t g) top)
@@ -96,7 +105,12 @@ half w = pos (min ((w + 1) / 2) (2 ^ 31 - 1))
 
 -- advance and origin in thousandths: an advance goes downwards, and an origin that isn't said is PDF's own, 880
 abbrev pub column : ℕ → ℕ → ℕ → Option ℤ → Column
-column units w a y = record { advance = neg_ℤ (thousandths (pos a) units); x = half w; y = option_map_or (λ v. thousandths v units) y (pos 880) }
+column units w a y =
+    record {
+      advance = neg_ℤ (thousandths (pos a) units);
+      x = half w;
+      y = option_map_or (λ v. thousandths v units) y (pos 880);
+    }
 
 -- PDF's own column (DW2)
 abbrev pub own_column : ℕ → Column
@@ -109,7 +123,9 @@ advance_at t (Some v) g = option_map (varied_height v g) (advance_of t g)
 
 -- the column of a glyph that has a width, whose top may be given; PDF's own where it has no advance height
 abbrev pub metric_at : Vertical → Option Variation → Option ℤ → ℕ → ℕ → Column
-metric_at t v top g w = option_map_or (λ a. column (units_per_em t.outlines.head) w a (origin_y_at t v top g)) (advance_at t v g) (own_column w)
+metric_at t v top g w =
+    option_map_or (λ a. column (units_per_em t.outlines.head) w a (origin_y_at t v top g))
+    (advance_at t v g) (own_column w)
 
 -- of each glyph, whose tops are these from a place on, if they are given
 abbrev pub columns_from : Vertical → Option Variation → List ℤ → ℕ → List ℕ → List ℕ → List Column

@@ -1,5 +1,6 @@
 -- A coordinate of 65536ths as a decimal number: the shortest that rounds back to it (Technical Note 5902).
-use Rattle.std.specs.Prelude.{◌≡◌, ◌≢◌, ◌<◌, ℕ, zero, suc, ◌+◌, ◌*◌, ◌/◌, ◌%◌, ◌^◌, ◌==◌, ◌&&◌, ◌||◌, nat_lt, Bool, if◌then◌else◌, List, [], ◌∷◌, ◌++◌, codes, decimal, ℤ, unsigned_abs}
+use Rattle.std.specs.Prelude.{◌≡◌, ◌≢◌, ◌<◌, ℕ, zero, suc, ◌+◌, ◌*◌, ◌/◌, ◌%◌, ◌^◌, ◌==◌, ◌&&◌, ◌||◌, nat_lt, Bool}
+use Rattle.std.specs.Prelude.{if◌then◌else◌, List, [], ◌∷◌, ◌++◌, codes, decimal, ℤ, unsigned_abs}
 use Rattle.pdf_text.specs.Numbers.{sign}
 
 -- a quotient to the nearest whole number, halves to the even one
@@ -19,7 +20,13 @@ rounds_back k n = back k (rounded k n) == n
 
 -- the fewest decimals that round back, of which five always do
 unfoldable pub decimals : ℕ → ℕ
-decimals n = if rounds_back 0 n then 0 else if rounds_back 1 n then 1 else if rounds_back 2 n then 2 else if rounds_back 3 n then 3 else if rounds_back 4 n then 4 else 5
+decimals n =
+    if rounds_back 0 n then 0
+    else if rounds_back 1 n then 1
+    else if rounds_back 2 n then 2
+    else if rounds_back 3 n then 3
+    else if rounds_back 4 n then 4
+    else 5
 
 -- the last so many digits of a number
 unfoldable pub digits : ℕ → ℕ → List ℕ

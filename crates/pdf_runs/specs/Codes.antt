@@ -1,5 +1,7 @@
--- The codes of what is drawn and said: each pair of a figure and a character has one, and its CID is the code (ISO 32000-1, 9.7.6.2).
-use Rattle.std.specs.Prelude.{◌≡◌, ◌<◌, ◌⊎◌, is_some, ℕ, ◌==◌, ◌&&◌, Bool, true, false, if◌then◌else◌, List, [], ◌∷◌, map, length, take, Option, Some, None}
+-- The codes of what is drawn and said: each pair of a figure and a character has one, and its CID is the code (ISO
+-- 32000-1, 9.7.6.2).
+use Rattle.std.specs.Prelude.{◌≡◌, ◌<◌, ◌⊎◌, is_some, ℕ, ◌==◌, ◌&&◌, Bool, true, false, if◌then◌else◌, List, [], ◌∷◌}
+use Rattle.std.specs.Prelude.{map, length, take, Option, Some, None}
 use Rattle.subsetter_base.specs.declared.error.Error.{Error}
 use Rattle.subsetter_base.specs.declared.error.Error.TheVariants.{OutOfMemory, OverflowError}
 use Rattle.subsetter_base.specs.Remap.{index_by, with_value}
@@ -54,7 +56,8 @@ pub record HasFirst (pairs new : List Pair) (ps : List Piece) : Type 0 where
 
 -- why pieces have no codes: memory ran out at one of them, or there are too many, and then the pairs stay
 abbrev pub IsUncoded : List Pair → List Pair → List Piece → Error → Type 0
-IsUncoded pairs new ps e = ((e ≡ OutOfMemory) × HasFirst pairs new ps) ⊎ ((e ≡ OverflowError) × IsOverfull pairs ps × (new ≡ pairs))
+IsUncoded pairs new ps e =
+    ((e ≡ OutOfMemory) × HasFirst pairs new ps) ⊎ ((e ≡ OverflowError) × IsOverfull pairs ps × (new ≡ pairs))
 
 -- values that others don't have, with one more
 abbrev pub with_new : {A : Type 0} → (A → A → Bool) → List A → List A → A → List A

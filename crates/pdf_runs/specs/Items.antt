@@ -1,5 +1,6 @@
 -- The glyphs of a shaped run, in visual order.
-use Rattle.std.specs.Prelude.{ℕ, ◌-◌, Bool, true, ◌&&◌, nat_lt, is_some, List, [], ◌∷◌, reverse, Option, Some, None, pos}
+use Rattle.std.specs.Prelude.{ℕ, ◌-◌, Bool, true, ◌&&◌, nat_lt, is_some, List, [], ◌∷◌, reverse, Option, Some, None}
+use Rattle.std.specs.Prelude.{pos}
 use Rattle.std.specs.Borrow.{Bor}
 use Rattle.std.specs.List.{list_all}
 use Rattle.std.specs.Ordering.{int_eq}

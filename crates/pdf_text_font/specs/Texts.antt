@@ -1,5 +1,6 @@
 -- ToUnicode of a text: a line for each code above 0 (ISO 32000-1, 9.10.3).
-use Rattle.std.specs.Prelude.{◌<◌, ℕ, ◌+◌, ◌-◌, ◌/◌, ◌%◌, nat_lt, if◌then◌else◌, List, [], ◌∷◌, drop, All, Option, Some, None}
+use Rattle.std.specs.Prelude.{◌<◌, ℕ, ◌+◌, ◌-◌, ◌/◌, ◌%◌, nat_lt, if◌then◌else◌, List, [], ◌∷◌, drop, All, Option, Some}
+use Rattle.std.specs.Prelude.{None}
 use Rattle.subsetter_base.specs.Texts.{utf16}
 use Rattle.pdf_text.specs.Cmaps.Cmap.{Line}
 use Rattle.pdf_codes.specs.Units.{is_left_out}

@@ -13,4 +13,6 @@ entry_of s = record { glyph = s.glyph; text = s.text.now }
 -- each glyph has so many of the characters that are left as its text
 abbrev pub entries_of : List ℕ → List ℕ → List ℕ → List Entry
 entries_of text lengths [] = []
-entries_of text lengths (g ∷ glyphs) = record { glyph = g; text = take (slice_index lengths 0) text } ∷ entries_of (drop (slice_index lengths 0) text) (drop 1 lengths) glyphs
+entries_of text lengths (g ∷ glyphs) =
+    record { glyph = g; text = take (slice_index lengths 0) text }
+    ∷ entries_of (drop (slice_index lengths 0) text) (drop 1 lengths) glyphs

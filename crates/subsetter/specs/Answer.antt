@@ -7,7 +7,8 @@ use Rattle.subsetter.specs.Glyf.Read.{Outlines, outlines}
 use Rattle.subsetter.specs.Fault.{HasFault}
 use Rattle.subsetter.specs.Subset.{IsSubset}
 
--- a subset, where no fault stands in the source, of glyphs in the order in which they are found; a charstring leads to no further glyph
+-- a subset, where no fault stands in the source, of glyphs in the order in which they are found; a charstring leads to
+-- no further glyph
 pub record IsAnswer (tokens depth : ℕ) (font : Font) (glyphs out : List ℕ) : Type 0 where
   pub subset : IsSubset tokens depth font glyphs out
   pub clean : (e : Error) → ¬ (HasFault tokens depth font glyphs subset.keeps.order e)
@@ -19,4 +20,5 @@ HasNoAnswer tokens depth font glyphs = (out : List ℕ) → ¬ (IsAnswer tokens 
 
 -- whatever is answered for the same glyphs of a font, within these limits or others, is these bytes
 abbrev pub IsTheAnswer : Font → List ℕ → List ℕ → Type 0
-IsTheAnswer font glyphs out = (tokens depth : ℕ) (other : List ℕ) → IsAnswer tokens depth font glyphs other → out ≡ other
+IsTheAnswer font glyphs out =
+    (tokens depth : ℕ) (other : List ℕ) → IsAnswer tokens depth font glyphs other → out ≡ other

@@ -17,10 +17,13 @@ pub record IsBeyond (bound : Option ℕ) (tokens depth : ℕ) (font : Font) (gly
   pub longer : (out : List ℕ) → IsAnswer tokens depth font glyphs out → most < length out
 
 -- what can stand against a subset within a bound, under the name of the error
-pub data HasFaultWithin (bound : Option ℕ) (tokens depth : ℕ) (font : Font) (glyphs order : List ℕ) : Error → Type 0 where
-  in_font : {e : Error} → HasFault tokens depth font glyphs order e → HasFaultWithin bound tokens depth font glyphs order e
+pub data HasFaultWithin (bound : Option ℕ) (tokens depth : ℕ) (font : Font) (glyphs order : List ℕ)
+    : Error → Type 0 where
+  in_font : {e : Error} → HasFault tokens depth font glyphs order e
+      → HasFaultWithin bound tokens depth font glyphs order e
   beyond : IsBeyond bound tokens depth font glyphs → HasFaultWithin bound tokens depth font glyphs order OverflowError
 
 -- nothing within the bound is answered for these glyphs of a font
 abbrev pub HasNoAnswerWithin : Option ℕ → ℕ → ℕ → Font → List ℕ → Type 0
-HasNoAnswerWithin bound tokens depth font glyphs = (out : List ℕ) → IsWithin bound out → ¬ (IsAnswer tokens depth font glyphs out)
+HasNoAnswerWithin bound tokens depth font glyphs =
+    (out : List ℕ) → IsWithin bound out → ¬ (IsAnswer tokens depth font glyphs out)

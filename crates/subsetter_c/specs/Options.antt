@@ -1,5 +1,7 @@
--- What the words of `struct subsetter_options` ask for (bindings/c/subsetter.h): their size in bytes, the limits of a charstring, what is left out, and the most bytes of the font.
-use Rattle.std.specs.Prelude.{◌≡◌, ℕ, ◌*◌, ◌<◌, ◌≤◌, List, length, slice_index_or, Bool, Option, Some, None, ◌==◌, if◌then◌else◌}
+-- What the words of `struct subsetter_options` ask for (bindings/c/subsetter.h): their size in bytes, the limits of a
+-- charstring, what is left out, and the most bytes of the font.
+use Rattle.std.specs.Prelude.{◌≡◌, ℕ, ◌*◌, ◌<◌, ◌≤◌, List, length, slice_index_or, Bool, Option, Some, None, ◌==◌}
+use Rattle.std.specs.Prelude.{if◌then◌else◌}
 use Rattle.std.specs.Int.Bits.{bit_and}
 use Rattle.subsetter.specs.Limits.{token_limit, depth_limit}
 use Rattle.subsetter_sfnt.specs.declared.extras.Extras.{Extras}

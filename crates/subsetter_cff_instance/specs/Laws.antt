@@ -10,16 +10,30 @@ use Rattle.subsetter_cff_instance.specs.Plain.{cff_instance_of}
 
 -- the file that the plain way lays out is a static font, read afresh from its bytes
 abbrev pub IsCffReadAfresh : Type 0
-IsCffReadAfresh = (font : Font) (settings : List (Tag × ℤ)) (glyphs : List ℕ) (tokens depth : ℕ) (file : List ℕ) → IsBytes font.bytes → cff_instance_of font settings glyphs tokens depth ≡ Ok file → IsCffInstance font settings glyphs file
+IsCffReadAfresh =
+    (font : Font) (settings : List (Tag × ℤ)) (glyphs : List ℕ) (tokens depth : ℕ) (file : List ℕ) → IsBytes font.bytes
+    → cff_instance_of font settings glyphs tokens depth ≡ Ok file
+    → IsCffInstance font settings glyphs file
 
 -- the limits decide whether there is a file, and not which
 abbrev pub IsSameAtAnyLimits : Type 0
-IsSameAtAnyLimits = (font : Font) (settings : List (Tag × ℤ)) (glyphs : List ℕ) (tokens depth other_tokens other_depth : ℕ) (file other : List ℕ) → cff_instance_of font settings glyphs tokens depth ≡ Ok file → cff_instance_of font settings glyphs other_tokens other_depth ≡ Ok other → file ≡ other
+IsSameAtAnyLimits =
+    (font : Font) (settings : List (Tag × ℤ)) (glyphs : List ℕ)
+    (tokens depth other_tokens other_depth : ℕ) (file other : List ℕ)
+    → cff_instance_of font settings glyphs tokens depth ≡ Ok file
+    → cff_instance_of font settings glyphs other_tokens other_depth ≡ Ok other
+    → file ≡ other
 
 -- an error is the name of a fault that stands
 abbrev pub HasCffFaultWhereRefused : Type 0
-HasCffFaultWhereRefused = (font : Font) (settings : List (Tag × ℤ)) (glyphs : List ℕ) (tokens depth : ℕ) (e : Error) → cff_instance_of font settings glyphs tokens depth ≡ Err e → HasCffInstanceFault font settings glyphs tokens depth e
+HasCffFaultWhereRefused =
+    (font : Font) (settings : List (Tag × ℤ)) (glyphs : List ℕ) (tokens depth : ℕ) (e : Error)
+    → cff_instance_of font settings glyphs tokens depth ≡ Err e
+    → HasCffInstanceFault font settings glyphs tokens depth e
 
 -- where there is a file no fault stands
 abbrev pub HasNoCffFaultWhereAnswered : Type 0
-HasNoCffFaultWhereAnswered = (font : Font) (settings : List (Tag × ℤ)) (glyphs : List ℕ) (tokens depth : ℕ) (file : List ℕ) → cff_instance_of font settings glyphs tokens depth ≡ Ok file → (e : Error) → ¬ (HasCffInstanceFault font settings glyphs tokens depth e)
+HasNoCffFaultWhereAnswered =
+    (font : Font) (settings : List (Tag × ℤ)) (glyphs : List ℕ) (tokens depth : ℕ) (file : List ℕ)
+    → cff_instance_of font settings glyphs tokens depth ≡ Ok file → (e : Error)
+    → ¬ (HasCffInstanceFault font settings glyphs tokens depth e)

@@ -9,7 +9,8 @@ use Rattle.subsetter_instance.specs.Instance.{IsInstance}
 use Rattle.subsetter_instance.specs.Plain.{instance_of}
 
 -- an instance, where no fault stands in these steps
-pub record IsAnswer (font : Font) (settings : List (Tag × ℤ)) (glyphs : List ℕ) (steps : ℕ) (file : List ℕ) : Type 0 where
+pub record IsAnswer (font : Font) (settings : List (Tag × ℤ)) (glyphs : List ℕ) (steps : ℕ) (file : List ℕ)
+    : Type 0 where
   pub instance : IsInstance font settings glyphs file
   pub clean : (e : Error) → ¬ (HasInstanceFault font settings glyphs steps e)
 
@@ -19,9 +20,11 @@ HasNoAnswer font settings glyphs steps = (file : List ℕ) → ¬ (IsAnswer font
 
 -- whatever is answered for the same glyphs, in whatever number of steps, is these bytes
 abbrev pub IsTheAnswer : Font → List (Tag × ℤ) → List ℕ → List ℕ → Type 0
-IsTheAnswer font settings glyphs file = (steps : ℕ) (other : List ℕ) → IsAnswer font settings glyphs steps other → file ≡ other
+IsTheAnswer font settings glyphs file =
+    (steps : ℕ) (other : List ℕ) → IsAnswer font settings glyphs steps other → file ≡ other
 
 -- a font of which there is no instance, whatever is asked for, and not because memory ran out
 pub record IsClosed (font : Font) (e : Error) : Type 0 where
-  pub refused : (settings : List (Tag × ℤ)) (glyphs : List ℕ) (steps : ℕ) → instance_of font settings glyphs steps ≡ Err e
+  pub refused : (settings : List (Tag × ℤ)) (glyphs : List ℕ) (steps : ℕ)
+      → instance_of font settings glyphs steps ≡ Err e
   pub not_memory : e ≢ OutOfMemory

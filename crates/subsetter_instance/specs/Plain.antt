@@ -35,7 +35,8 @@ header find tag = ok_or (find tag) MalformedFont
 unfoldable pub laid : (List ℕ → Option (List ℕ)) → Lines → Source → List ℕ → List Drawn → Result (List ℕ) Error
 laid find lines s glyphs ds = do
   head ← header find (codes "head")
-  file_of (kind_word TrueType) (present (rows (tables (with_lines find lines) head lines.hhea s.count ds (by_glyph glyphs ds s.count))))
+  file_of (kind_word TrueType)
+      (present (rows (tables (with_lines find lines) head lines.hhea s.count ds (by_glyph glyphs ds s.count))))
 
 -- of the tables that a look-up finds
 unfoldable pub instance_in : (List ℕ → Option (List ℕ)) → List (Tag × ℤ) → List ℕ → ℕ → Result (List ℕ) Error

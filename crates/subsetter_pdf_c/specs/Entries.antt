@@ -1,4 +1,5 @@
--- How glyphs with their texts come from C: as 32-bit characters, and where the text of each glyph ends among them. It begins where the one before ends.
+-- How glyphs with their texts come from C: as 32-bit characters, and where the text of each glyph ends among them. It
+-- begins where the one before ends.
 use Rattle.std.specs.Prelude.{◌≡◌, ℕ, true, ◌-◌, ◌==◌, ◌&&◌, nat_le, Bool, List, [], ◌∷◌, length, take, drop}
 use Rattle.std.specs.List.{list_all}
 use Rattle.pdf_codes.specs.Codes.{Used}

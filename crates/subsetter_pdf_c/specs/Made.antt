@@ -51,7 +51,9 @@ pub record IsViewOf (made : PdfMade) (glyph_map : List ℕ) (w : FontView) : Typ
   pub widths : w.values.widths.now ≡ made.widths.now
   pub default_width : w.values.default_width ≡ made.numbers.default_width
   pub columns : option_map each_of w.values.columns ≡ unless_zero made.numbers.is_vertical made.columns.now
-  pub default_column : option_map default_of w.values.columns ≡ unless_zero made.numbers.is_vertical (record { y = default_y made.numbers; advance = default_advance made.numbers })
+  pub default_column : option_map default_of w.values.columns
+      ≡ unless_zero made.numbers.is_vertical
+      (record { y = default_y made.numbers; advance = default_advance made.numbers })
   pub program : w.values.program.now ≡ made.program.now
   pub cid_to_gid_map : option_copied w.values.cid_to_gid_map ≡ unless_empty glyph_map glyph_map
   pub to_unicode : w.values.to_unicode.now ≡ made.to_unicode.now

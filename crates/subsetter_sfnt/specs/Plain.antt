@@ -1,9 +1,11 @@
--- The plain way to open a font and to lay one out, with the error that is answered for each part that is missing and for a size past a limit.
+-- The plain way to open a font and to lay one out, with the error that is answered for each part that is missing and
+-- for a size past a limit.
 use Rattle.std.specs.Prelude.{ℕ, List, codes, Option, Result, Ok, Err, is_some, if◌then◌else◌}
 use Rattle.std.specs.Option.{ok_or}
 use Rattle.subsetter_base.specs.Bytes.{◌>>=◌}
 use Rattle.subsetter_base.specs.declared.error.Error.{Error}
-use Rattle.subsetter_base.specs.declared.error.Error.TheVariants.{UnknownKind, MalformedFont, Unimplemented, OverflowError}
+use Rattle.subsetter_base.specs.declared.error.Error.TheVariants.{UnknownKind, MalformedFont, Unimplemented}
+use Rattle.subsetter_base.specs.declared.error.Error.TheVariants.{OverflowError}
 use Rattle.subsetter_sfnt.specs.declared.face.FontKind.{FontKind}
 use Rattle.subsetter_sfnt.specs.declared.face.FontKind.TheVariants.{Collection, Single}
 use Rattle.subsetter_sfnt.specs.declared.flavor.FontFlavor.{FontFlavor}
@@ -32,7 +34,10 @@ opened font = do
 
 -- the kind of the outlines that are taken, among the tables that a look-up finds
 unfoldable pub flavored : (List ℕ → Option (List ℕ)) → Result FontFlavor Error
-flavored find = if is_some (find (codes "glyf")) then Ok TrueType else (if is_some (find (codes "CFF ")) then Ok Cff else (if is_some (find (codes "CFF2")) then Err Unimplemented else Err UnknownKind))
+flavored find =
+    if is_some (find (codes "glyf")) then Ok TrueType
+    else (if is_some (find (codes "CFF ")) then Ok Cff
+    else (if is_some (find (codes "CFF2")) then Err Unimplemented else Err UnknownKind))
 
 -- the file, where its records can say where its tables stand
 unfoldable pub file_of : ℕ → List Table → Result (List ℕ) Error

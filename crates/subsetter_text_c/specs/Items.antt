@@ -18,4 +18,12 @@ abbrev pub text_in : List ℕ → TextItem → Option (List ℕ)
 text_in cs i = if i.continues == 0 then Some (between cs i.start i.end) else None
 
 abbrev pub labelled_in : List ℕ → TextItem → Labelled
-labelled_in cs i = record { glyph = i.glyph; text = text_in cs i; x_advance = i.x_advance; y_advance = i.y_advance; x_offset = i.x_offset; y_offset = i.y_offset }
+labelled_in cs i =
+    record {
+      glyph = i.glyph;
+      text = text_in cs i;
+      x_advance = i.x_advance;
+      y_advance = i.y_advance;
+      x_offset = i.x_offset;
+      y_offset = i.y_offset;
+    }

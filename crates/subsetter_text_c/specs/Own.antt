@@ -1,5 +1,6 @@
 -- Own glyphs of a text, as C has them: of each one its advance, and how many parts there are up to the end of its own.
-use Rattle.std.specs.Prelude.{ℕ, ◌+◌, ◌-◌, ◌&&◌, nat_le, nat_lt, Bool, true, List, [], ◌∷◌, ◌++◌, length, map, take, drop, ℤ, pos, negsuc}
+use Rattle.std.specs.Prelude.{ℕ, ◌+◌, ◌-◌, ◌&&◌, nat_le, nat_lt, Bool, true, List, [], ◌∷◌, ◌++◌, length, map, take}
+use Rattle.std.specs.Prelude.{drop, ℤ, pos, negsuc}
 use Rattle.std.specs.List.{list_all}
 use Rattle.pdf_figures.specs.declared.ink.OwnInk.{OwnInk}
 use Rattle.pdf_figures.specs.declared.ink.Placed.{Placed}
@@ -35,7 +36,8 @@ are_own os ps = list_all is_part ps && are_ends 0 (length ps) os
 -- own glyphs whose parts, after so many, are the first of these
 abbrev pub own_in : ℕ → List TextOwn → List Placed → List Ink
 own_in before [] ps = []
-own_in before (o ∷ os) ps = own (map drawn_of (take (o.part_end - before) ps)) o.advance ∷ own_in o.part_end os (drop (o.part_end - before) ps)
+own_in before (o ∷ os) ps =
+    own (map drawn_of (take (o.part_end - before) ps)) o.advance ∷ own_in o.part_end os (drop (o.part_end - before) ps)
 
 abbrev pub inks_in : List TextOwn → List TextPart → List Ink
 inks_in os ps = own_in 0 os (map place_in ps)
@@ -51,4 +53,6 @@ parts_of (o ∷ os) = map part_of o.parts.items ++ parts_of os
 
 abbrev pub owns_of : ℕ → List OwnInk → List TextOwn
 owns_of before [] = []
-owns_of before (o ∷ os) = record { advance = o.advance; part_end = before + length o.parts.items } ∷ owns_of (before + length o.parts.items) os
+owns_of before (o ∷ os) =
+    record { advance = o.advance; part_end = before + length o.parts.items }
+    ∷ owns_of (before + length o.parts.items) os

@@ -43,4 +43,8 @@ text_metrics font settings steps = do
   records ← opened font
   count ← count_in (table_in font.bytes records)
   advances ← advances_of font settings steps (each_from (λ g. g) 0 count)
-  Ok (record { units = advances.units_per_em; metrics = map (metrics_of advances.units_per_em) advances.widths; inked = inked_in (table_in font.bytes records) count })
+  Ok (record {
+    units = advances.units_per_em;
+    metrics = map (metrics_of advances.units_per_em) advances.widths;
+    inked = inked_in (table_in font.bytes records) count;
+  })

@@ -1,5 +1,6 @@
 -- Where the codes of a font lead (ISO 32000-1, 9.7.5).
-use Rattle.std.specs.Prelude.{◌≡◌, ◌<◌, ℕ, zero, suc, ◌+◌, max, ◌==◌, ◌&&◌, if◌then◌else◌, List, [], ◌∷◌, ◌++◌, length, get_or, Option, Some, None, Bool, true}
+use Rattle.std.specs.Prelude.{◌≡◌, ◌<◌, ℕ, zero, suc, ◌+◌, max, ◌==◌, ◌&&◌, if◌then◌else◌, List, [], ◌∷◌, ◌++◌, length}
+use Rattle.std.specs.Prelude.{get_or, Option, Some, None, Bool, true}
 use Rattle.std.specs.Option.{option_and_then, option_map}
 use Rattle.pdf_text.specs.Cmaps.CmapName.{name_of_codes, named_text}
 use Rattle.pdf_text.specs.Cmaps.Encoding.{Pair, codes_in}

@@ -1,4 +1,5 @@
--- A CMap from codes to CIDs under a name that its lines determine (ISO 32000-1, 9.7.5.3): readers keep CMaps by their names.
+-- A CMap from codes to CIDs under a name that its lines determine (ISO 32000-1, 9.7.5.3): readers keep CMaps by their
+-- names.
 use Rattle.std.specs.Prelude.{◌≡◌, ℕ, Bool, true, false, List, ◌++◌, map, length, All, Some, codes}
 use Rattle.pdf_text.specs.Cmaps.Blocks.{blocks}
 use Rattle.pdf_text.specs.Cmaps.Cmap.{back}
@@ -7,7 +8,9 @@ use Rattle.pdf_text.specs.SubsetName.{tag_of}
 
 -- before the name
 unfoldable pub name_front : List ℕ
-name_front = codes "/CIDInit /ProcSet findresource begin\n12 dict begin\nbegincmap\n/CIDSystemInfo << /Registry (Adobe) /Ordering (Identity) /Supplement 0 >> def\n/CMapName /"
+name_front =
+    codes
+    "/CIDInit /ProcSet findresource begin\n12 dict begin\nbegincmap\n/CIDSystemInfo << /Registry (Adobe) /Ordering (Identity) /Supplement 0 >> def\n/CMapName /"
 
 -- after it
 unfoldable pub name_back : Bool → List ℕ

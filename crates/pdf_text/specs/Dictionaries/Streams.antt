@@ -17,7 +17,10 @@ mode_entry false = []
 
 -- of a CMap (Table 120)
 abbrev pub own_cmap_entries : List ℕ → Bool → List ℕ
-own_cmap_entries name vertical = entry (codes "Type") (codes "/CMap") ++ (entry (codes "CMapName") (codes "/" ++ name) ++ (entry (codes "CIDSystemInfo") system_info ++ mode_entry vertical))
+own_cmap_entries name vertical =
+    entry (codes "Type") (codes "/CMap")
+    ++ (entry (codes "CMapName") (codes "/" ++ name)
+    ++ (entry (codes "CIDSystemInfo") system_info ++ mode_entry vertical))
 
 -- of the CMap that a font has of its own
 abbrev pub cmap_entries : Option OwnCmap → Bool → List ℕ

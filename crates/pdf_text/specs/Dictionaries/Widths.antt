@@ -1,5 +1,6 @@
 -- The widths and the columns of a CIDFont (ISO 32000-1, 9.7.4.3), as texts.
-use Rattle.std.specs.Prelude.{◌≡◌, ◌<◌, ◌⊎◌, ℕ, ◌&&◌, nat_lt, if◌then◌else◌, List, [], ◌∷◌, ◌++◌, length, Option, Some, None, codes, decimal, ℤ, pos, neg_ℤ}
+use Rattle.std.specs.Prelude.{◌≡◌, ◌<◌, ◌⊎◌, ℕ, ◌&&◌, nat_lt, if◌then◌else◌, List, [], ◌∷◌, ◌++◌, length, Option, Some}
+use Rattle.std.specs.Prelude.{None, codes, decimal, ℤ, pos, neg_ℤ}
 use Rattle.std.specs.Ordering.{int_eq}
 use Rattle.subsetter_base.specs.declared.error.Error.{Error}
 use Rattle.subsetter_base.specs.declared.error.Error.TheVariants.{OutOfMemory, OverflowError}
@@ -22,7 +23,9 @@ w2_text (Some c) = columns_text (spans c.default c.each.now)
 -- DW2, if it isn't PDF's own: y, and advance
 abbrev pub default_column : Option FontColumns → Option (List ℤ)
 default_column None = None
-default_column (Some c) = if int_eq c.default.y (pos 880) && int_eq c.default.advance (neg_ℤ (pos 1000)) then None else Some (c.default.y ∷ c.default.advance ∷ [])
+default_column (Some c) =
+    if int_eq c.default.y (pos 880) && int_eq c.default.advance (neg_ℤ (pos 1000)) then None
+    else Some (c.default.y ∷ c.default.advance ∷ [])
 
 -- CIDs have 16 bits
 abbrev pub HasManyColumns : Option FontColumns → Type 0

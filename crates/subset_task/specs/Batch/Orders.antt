@@ -15,7 +15,9 @@ is_given_stream None = false
 
 -- a request that reads or writes a standard stream, by its name
 unfoldable pub uses_streams : Wanted → Bool
-uses_streams r = (is_stream r.input || lists_in_stream r.glyphs) || (is_given_stream r.output || is_given_stream (option_map (λ pdf. pdf.file) r.pdf))
+uses_streams r =
+    (is_stream r.input || lists_in_stream r.glyphs)
+    || (is_given_stream r.output || is_given_stream (option_map (λ pdf. pdf.file) r.pdf))
 
 -- its answer has the members of `--json`
 abbrev pub with_json : Switches → Switches

@@ -7,7 +7,8 @@ pub record Listed : Type 0 where
   pub hinting : Bool
   pub items : List (List ℕ)
 
--- the outlines: a borrowed one is a simple outline of the source and stands for itself as far as it is asked for; no bytes stand for the next of the others, which has the next of the sizes
+-- the outlines: a borrowed one is a simple outline of the source and stands for itself as far as it is asked for; no
+-- bytes stand for the next of the others, which has the next of the sizes
 abbrev pub woven : Bool → List (List ℕ) → List ℕ → List ℕ → List (List ℕ)
 woven hinting [] sizes bytes = []
 woven hinting ([] ∷ kept) [] bytes = []

@@ -25,5 +25,6 @@ pub record KeepsOutlines (font : Font) (order : List ℕ) (out : Font) : Type 0 
   -- each glyph draws as its source, to every depth
   pub drawing : (n i : ℕ) → i < length order → UnfoldAlike font out n (slice_index order i) i
   -- the new number of a component is the place of its glyph in the order
-  pub numbering : (i : ℕ) → i < length order → HaveSameParts font out (λ g h. index_of order g ≡ Some h) (slice_index order i) i
+  pub numbering : (i : ℕ) → i < length order
+      → HaveSameParts font out (λ g h. index_of order g ≡ Some h) (slice_index order i) i
   pub programs : KeepsPrograms font out

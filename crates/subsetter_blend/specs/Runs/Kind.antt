@@ -1,5 +1,6 @@
 -- The operators of a CFF2 charstring (OpenType, "CFF2 CharString Format"; Technical Note 5177, section 4).
-use Rattle.std.specs.Prelude.{ℕ, ◌%◌, Bool, false, [], ◌∷◌, Option, Some, None, nat_lt, nat_le, ◌==◌, ◌||◌, ◌&&◌, if◌then◌else◌}
+use Rattle.std.specs.Prelude.{ℕ, ◌%◌, Bool, false, [], ◌∷◌, Option, Some, None, nat_lt, nat_le, ◌==◌, ◌||◌, ◌&&◌}
+use Rattle.std.specs.Prelude.{if◌then◌else◌}
 use Rattle.subsetter_cffdata.specs.declared.dicts.operator.Operator.{Operator}
 use Rattle.subsetter_cffdata.specs.declared.dicts.operator.OperatorType.{OperatorType}
 use Rattle.subsetter_cffdata.specs.declared.dicts.operator.OperatorType.TheVariants.{OneByteOperator, TwoByteOperator}
@@ -7,7 +8,8 @@ use Rattle.subsetter_type2.specs.declared.token.Effect.{Effect}
 use Rattle.subsetter_type2.specs.declared.token.Effect.TheVariants as effect
 use Rattle.subsetter_type2.specs.Token.{one_byte_effect, two_byte_effect}
 use Rattle.subsetter_blend.specs.declared.runs.kind.Kind.{Kind}
-use Rattle.subsetter_blend.specs.declared.runs.kind.Kind.TheVariants.{ChoosesData, Blends, CountsStems, Draws, CallsLocal, CallsGlobal, Masks}
+use Rattle.subsetter_blend.specs.declared.runs.kind.Kind.TheVariants.{ChoosesData, Blends, CountsStems, Draws}
+use Rattle.subsetter_blend.specs.declared.runs.kind.Kind.TheVariants.{CallsLocal, CallsGlobal, Masks}
 
 -- what both kinds of charstrings have: CFF2 has no return and no endchar
 abbrev pub kind_of : Option Effect → Option Kind

@@ -32,8 +32,11 @@ IsFontMade Is Why = IsMade (λ made. (bytes : List ℕ) × Is bytes × (made ≡
 
 -- a subset
 abbrev pub IsSubsetMade : Option ℕ → ℕ → ℕ → Font → List ℕ → Buffers → ℕ → Type 0
-IsSubsetMade bound tokens depth font glyphs = IsFontMade (IsSoundSubset bound tokens depth font glyphs) (IsRefusal bound tokens depth font glyphs)
+IsSubsetMade bound tokens depth font glyphs =
+    IsFontMade (IsSoundSubset bound tokens depth font glyphs) (IsRefusal bound tokens depth font glyphs)
 
 -- a subset with its CIDs and widths
 abbrev pub IsEmbeddingMade : Option ℕ → ℕ → ℕ → Font → List ℕ → Buffers → ℕ → Type 0
-IsEmbeddingMade bound tokens depth font glyphs = IsMade (λ made. (e : Embedded) × IsSoundEmbedding bound tokens depth font glyphs e × (made ≡ lists_of e)) (IsEmbeddingRefusal bound tokens depth font glyphs)
+IsEmbeddingMade bound tokens depth font glyphs =
+    IsMade (λ made. (e : Embedded) × IsSoundEmbedding bound tokens depth font glyphs e × (made ≡ lists_of e))
+    (IsEmbeddingRefusal bound tokens depth font glyphs)

@@ -21,6 +21,7 @@ abbrev pub ArePartsAnswered : Result (Vec PdfPart Global) PartsError → List Pd
 ArePartsAnswered answer parts = (v : Vec PdfPart Global) × (answer ≡ Ok v) × (v.items ≡ parts)
 
 -- parts of which `Are` holds, or an error of which `Why` holds, are handed over
-pub data ArePartsHanded (Are : List PdfPart → Type 0) (Why : PartsError → Type 0) (made : PartsMade) (status : ℕ) : Type 0 where
+pub data ArePartsHanded (Are : List PdfPart → Type 0) (Why : PartsError → Type 0) (made : PartsMade) (status : ℕ)
+    : Type 0 where
   whole : Are made.parts.now → status ≡ 0 → ArePartsHanded Are Why made status
   refused : (e : PartsError) → Why e → AreNoParts made → status ≡ parts_status e → ArePartsHanded Are Why made status

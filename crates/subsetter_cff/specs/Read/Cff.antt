@@ -1,6 +1,7 @@
--- The parts of a CFF table (Technical Note 5176, section 2 "Data Layout"): header, Name INDEX, Top DICT INDEX, String INDEX,
--- Global Subr INDEX, one after the other; the rest is found by offsets from the table's start.
-use Rattle.std.specs.Prelude.{ℕ, ◌-◌, ◌==◌, if◌then◌else◌, Bool, List, ◌∷◌, take, drop, length, is_some, Option, Some, None}
+-- The parts of a CFF table (Technical Note 5176, section 2 "Data Layout"): header, Name INDEX, Top DICT INDEX, String
+-- INDEX, Global Subr INDEX, one after the other; the rest is found by offsets from the table's start.
+use Rattle.std.specs.Prelude.{ℕ, ◌-◌, ◌==◌, if◌then◌else◌, Bool, List, ◌∷◌, take, drop, length, is_some, Option, Some}
+use Rattle.std.specs.Prelude.{None}
 use Rattle.std.specs.Option.{option_map}
 use Rattle.subsetter_base.specs.Options.{◌>>=◌}
 use Rattle.subsetter_cffdata.specs.Indexes.Index.{index_at}
@@ -62,7 +63,9 @@ cff_parts bytes = do
   top ← top_dict bytes
   strings ← string_index bytes
   subroutines ← subroutine_index bytes
-  if version == 1 then Some (record { bytes = bytes; names = names; top = top; strings = strings.0; subroutines = subroutines.0 }) else None
+  if version == 1
+      then Some (record { bytes = bytes; names = names; top = top; strings = strings.0; subroutines = subroutines.0 })
+      else None
 
 -- ---- what the top dict leads to
 -- the bytes from the offset on that an operator of the top dict names

@@ -19,5 +19,6 @@ pub record IsSubsetLaidOut (bytes : List ℕ) (tokens depth : ℕ) (glyphs out :
 
 -- what is answered is a subset, for every list of numbers, a depth of 1 or more, and 1 to 65535 glyphs
 abbrev pub AnsweredIsSubset : Type 0
-AnsweredIsSubset = (bytes : List ℕ) (tokens depth : ℕ) (glyphs out : List ℕ) → 1 ≤ depth → 1 ≤ length glyphs → length glyphs ≤ 65535
+AnsweredIsSubset =
+    (bytes : List ℕ) (tokens depth : ℕ) (glyphs out : List ℕ) → 1 ≤ depth → 1 ≤ length glyphs → length glyphs ≤ 65535
     → cff_subset bytes tokens depth glyphs ≡ Ok out → IsSubsetTable bytes tokens depth glyphs out

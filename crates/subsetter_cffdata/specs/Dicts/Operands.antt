@@ -1,5 +1,7 @@
--- The operands that operators demand of a DICT's entry (Technical Note 5176, section 4 "DICT Data", table 6 "Operand Types").
-use Rattle.std.specs.Prelude.{ℕ, ◌+◌, ℤ, pos, negsuc, nat_lt, ◌==◌, if◌then◌else◌, List, [], ◌∷◌, take, length, Option, Some, None}
+-- The operands that operators demand of a DICT's entry (Technical Note 5176, section 4 "DICT Data", table 6 "Operand
+-- Types").
+use Rattle.std.specs.Prelude.{ℕ, ◌+◌, ℤ, pos, negsuc, nat_lt, ◌==◌, if◌then◌else◌, List, [], ◌∷◌, take, length, Option}
+use Rattle.std.specs.Prelude.{Some, None}
 use Rattle.std.specs.Option.{option_map}
 use Rattle.subsetter_base.specs.Options.{◌>>=◌}
 use Rattle.subsetter_cffdata.specs.Numerals.Numbers.{Number, as_i32, as_u32}

@@ -1,11 +1,13 @@
--- Entries of whole numbers that stand as they are written: each number in the first form that holds it (Technical Note 5176, section 4
--- "DICT Data", table 3 "Operand Encoding").
-use Rattle.std.specs.Prelude.{◌≡◌, ℕ, zero, suc, ◌+◌, ◌*◌, ◌≤◌, ℤ, FitsSigned, false, nat_lt, nat_le, ◌==◌, if◌then◌else◌, List, [], ◌∷◌, ◌++◌, length, map, Option, Some, None}
+-- Entries of whole numbers that stand as they are written: each number in the first form that holds it (Technical Note
+-- 5176, section 4 "DICT Data", table 3 "Operand Encoding").
+use Rattle.std.specs.Prelude.{◌≡◌, ℕ, zero, suc, ◌+◌, ◌*◌, ◌≤◌, ℤ, FitsSigned, false, nat_lt, nat_le, ◌==◌}
+use Rattle.std.specs.Prelude.{if◌then◌else◌, List, [], ◌∷◌, ◌++◌, length, map, Option, Some, None}
 use Rattle.std.specs.Int.{w32}
 use Rattle.std.specs.List.{list_any, AllByRecursion}
 use Rattle.std.specs.Option.{option_map_or}
 use Rattle.subsetter_cffdata.specs.Numerals.Numbers.{Number, integer, is_too_long}
-use Rattle.subsetter_cffdata.specs.Dicts.Dict.{Plain, NewEntry, entry_bytes, is_operator, operand_limit, IsOperator, FitsOperand}
+use Rattle.subsetter_cffdata.specs.Dicts.Dict.{Plain, NewEntry, entry_bytes, is_operator, operand_limit, IsOperator}
+use Rattle.subsetter_cffdata.specs.Dicts.Dict.{FitsOperand}
 
 -- ---- reading: each answers what follows
 -- two bytes after byte 28, whose number has no form of one or two bytes, and no byte is 256 or more

@@ -1,5 +1,6 @@
 -- The components of a composite glyph (OpenType, "glyf": "Composite glyph description").
-use Rattle.std.specs.Prelude.{ℕ, zero, suc, ◌+◌, List, [], ◌∷◌, Option, Some, None, Result, Ok, Err, if◌then◌else◌, ℤ, pos, map}
+use Rattle.std.specs.Prelude.{ℕ, zero, suc, ◌+◌, List, [], ◌∷◌, Option, Some, None, Result, Ok, Err, if◌then◌else◌, ℤ}
+use Rattle.std.specs.Prelude.{pos, map}
 use Rattle.std.specs.Int.{w8, w16, cast_signed}
 use Rattle.std.specs.Option.{ok_or, option_map}
 use Rattle.subsetter_base.specs.Bytes as bytes
@@ -46,7 +47,8 @@ word_points bytes = do
   child ← number bytes 6 2
   Some (Points parent child)
 
--- two words where the flags have ARG_1_AND_2_ARE_WORDS, else two bytes; an offset where they have ARGS_ARE_XY_VALUES, else two points
+-- two words where the flags have ARG_1_AND_2_ARE_WORDS, else two bytes; an offset where they have ARGS_ARE_XY_VALUES,
+-- else two points
 abbrev pub arguments_at : ℕ → List ℕ → Option Arguments
 arguments_at flags bytes =
     if has_flag flags 0x0001
@@ -91,7 +93,9 @@ matrix_at flags bytes at =
 
 -- where it ends
 abbrev pub matrix_end : ℕ → ℕ → ℕ
-matrix_end flags at = at + (if has_flag flags 0x0008 then 2 else if has_flag flags 0x0040 then 4 else if has_flag flags 0x0080 then 8 else 0)
+matrix_end flags at =
+    at
+    + (if has_flag flags 0x0008 then 2 else if has_flag flags 0x0040 then 4 else if has_flag flags 0x0080 then 8 else 0)
 
 -- ---- components
 
@@ -105,11 +109,13 @@ component_at bytes = do
   rest ← after (matrix_end flags (arguments_end flags)) bytes
   Some (record { flags = flags; glyph = glyph; arguments = arguments; matrix = matrix }, rest)
 
--- one after another, another one following exactly where the flags have MORE_COMPONENTS. Each takes a step before it is read
+-- one after another, another one following exactly where the flags have MORE_COMPONENTS. Each takes a step before it is
+-- read
 unfoldable pub components_at : ℕ → List ℕ → Result (List Component × ℕ) Error
 components_at zero rest = Err OverflowError
 components_at (suc steps) rest = bytes.◌>>=◌ (ok_or (component_at rest) MalformedFont) (λ c.
-    if has_flag c.0.flags 0x0020 then bytes.◌>>=◌ (components_at steps c.1) (λ more. Ok (c.0 ∷ more.0, more.1)) else Ok (c.0 ∷ [], steps))
+    if has_flag c.0.flags 0x0020 then bytes.◌>>=◌ (components_at steps c.1) (λ more. Ok (c.0 ∷ more.0, more.1))
+    else Ok (c.0 ∷ [], steps))
 
 -- ---- offsets, as gvar varies them: 0 and 0 where points are matched
 

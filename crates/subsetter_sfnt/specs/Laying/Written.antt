@@ -1,5 +1,6 @@
 -- How a font file is laid out (OpenType, "Organization of an OpenType Font").
-use Rattle.std.specs.Prelude.{ℕ, ◌+◌, ◌-◌, ◌*◌, ◌%◌, ◌^◌, List, [], ◌∷◌, ◌++◌, length, take, drop, map, codes, Bool, true, ◌&&◌, nat_lt, ◌≡◌, ◌≤◌, if◌then◌else◌}
+use Rattle.std.specs.Prelude.{ℕ, ◌+◌, ◌-◌, ◌*◌, ◌%◌, ◌^◌, List, [], ◌∷◌, ◌++◌, length, take, drop, map, codes, Bool}
+use Rattle.std.specs.Prelude.{true, ◌&&◌, nat_lt, ◌≡◌, ◌≤◌, if◌then◌else◌}
 use Rattle.std.specs.List.{flat_map}
 use Rattle.std.specs.Str.{bytes_eq}
 use Rattle.std.specs.Int.{w16, w32, to_be_bytes}
@@ -24,11 +25,14 @@ selector n = if nat_lt n 2 then 0 else (if nat_lt n 4 then 1 else (if nat_lt n 8
 
 -- kind, numTables, searchRange, entrySelector, rangeShift
 unfoldable pub header_bytes : ℕ → ℕ → List ℕ
-header_bytes kind n = to_be_bytes w32 kind ++ to_be_bytes w16 n ++ to_be_bytes w16 (16 * 2 ^ selector n) ++ to_be_bytes w16 (selector n) ++ to_be_bytes w16 (16 * n - 16 * 2 ^ selector n)
+header_bytes kind n =
+    to_be_bytes w32 kind ++ to_be_bytes w16 n ++ to_be_bytes w16 (16 * 2 ^ selector n) ++ to_be_bytes w16 (selector n)
+    ++ to_be_bytes w16 (16 * n - 16 * 2 ^ selector n)
 
 -- tag, checksum, offset and length
 abbrev pub record_bytes : ℕ → Table → List ℕ
-record_bytes at t = t.tag ++ to_be_bytes w32 (checksum t.bytes) ++ to_be_bytes w32 at ++ to_be_bytes w32 (length t.bytes)
+record_bytes at t =
+    t.tag ++ to_be_bytes w32 (checksum t.bytes) ++ to_be_bytes w32 at ++ to_be_bytes w32 (length t.bytes)
 
 -- the records of tables that stand from a place on, one after another
 abbrev pub directory_bytes : ℕ → List Table → List ℕ
@@ -48,7 +52,8 @@ abbrev pub with_adjustment : ℕ → List ℕ → List ℕ
 with_adjustment word bytes = take 8 bytes ++ to_be_bytes w32 word ++ drop 12 bytes
 
 abbrev pub adjusted : ℕ → Table → Table
-adjusted word t = if bytes_eq t.tag (codes "head") then record { tag = t.tag; bytes = with_adjustment word t.bytes } else t
+adjusted word t =
+    if bytes_eq t.tag (codes "head") then record { tag = t.tag; bytes = with_adjustment word t.bytes } else t
 
 -- what a sum lacks to 0xB1B0AFBA
 abbrev pub adjustment : ℕ → ℕ

@@ -1,5 +1,6 @@
 -- How the output holds what is written.
-use Rattle.std.specs.Prelude.{◌≡◌, ℕ, zero, suc, ◌+◌, ◌≤◌, List, [], ◌∷◌, ◌++◌, length, take, drop, Option, Some, None, MatchOption}
+use Rattle.std.specs.Prelude.{◌≡◌, ℕ, zero, suc, ◌+◌, ◌≤◌, List, [], ◌∷◌, ◌++◌, length, take, drop, Option, Some, None}
+use Rattle.std.specs.Prelude.{MatchOption}
 use Rattle.subsetter_cffdata.specs.declared.numerals.charstring_number.CharStringNumber.{CharStringNumber}
 use Rattle.subsetter_cffdata.specs.Numerals.CharStringNumber.{NumberFits, number_at}
 use Rattle.subsetter_type2.specs.declared.runs.last_number.LastNumber.{LastNumber}
@@ -22,7 +23,8 @@ numbers_of (suc count) bytes = first_and (number_at bytes) (numbers_of count)
 
 -- what is written, where so many operands begin at this place
 abbrev pub written_at : List ℕ → ℕ → ℕ → Written
-written_at bytes settled count = record { settled = take settled bytes; operands = numbers_of count (drop settled bytes) }
+written_at bytes settled count =
+    record { settled = take settled bytes; operands = numbers_of count (drop settled bytes) }
 
 -- the bytes are what is settled, and then so many operands, which begin at this place
 pub record IsOutput (bytes : List ℕ) (settled count : ℕ) (w : Written) : Type 0 where

@@ -1,5 +1,6 @@
 -- Where some of the names of `post` stand.
-use Rattle.std.specs.Prelude.{◌≡◌, ◌≤◌, ◌<◌, ◌+◌, ℕ, zero, suc, List, [], ◌∷◌, ◌++◌, length, drop, get_or, slice_index, Bool, if◌then◌else◌}
+use Rattle.std.specs.Prelude.{◌≡◌, ◌≤◌, ◌<◌, ◌+◌, ℕ, zero, suc, List, [], ◌∷◌, ◌++◌, length, drop, get_or, slice_index}
+use Rattle.std.specs.Prelude.{Bool, if◌then◌else◌}
 use Rattle.subsetter.specs.Common.Post.Read.{names_in, pascal_bytes}
 
 -- how many names there are from one mark to the next
@@ -9,7 +10,8 @@ step_of is_dense = if is_dense then 1 else 8
 -- the places of every name, or of every so manieth, in some bytes
 abbrev pub AreMarks : ℕ → List ℕ → List (List ℕ) → List ℕ → Type 0
 AreMarks step all names [] = Unit {0}
-AreMarks step all names (m ∷ marks) = (names_in (drop m all) ≡ names) × ((m ≤ length all) × AreMarks step all (drop step names) marks)
+AreMarks step all names (m ∷ marks) =
+    (names_in (drop m all) ≡ names) × ((m ≤ length all) × AreMarks step all (drop step names) marks)
 
 -- so many names from a number on, each after its length byte, an empty one where none is there
 abbrev pub run_bytes : List (List ℕ) → ℕ → ℕ → List ℕ

@@ -6,9 +6,11 @@ use Rattle.subsetter.specs.Glyf.BareOutlines.Bare.{requested_parts}
 use Rattle.subsetter.specs.Glyf.Parts.{outline_parts, parts_bytes}
 use Rattle.subsetter.specs.Glyf.Reaching.Reach.{IsReachableBy}
 
--- the bytes of an outline's parts, with instructions if they are asked for; 0 where it has no parts. New numbers of components take as many bytes as the old ones
+-- the bytes of an outline's parts, with instructions if they are asked for; 0 where it has no parts. New numbers of
+-- components take as many bytes as the old ones
 abbrev pub requested_size : Bool → Option (List ℕ) → ℕ
-requested_size hinting outline = length (unwrap_or (option_map parts_bytes (requested_parts hinting (option_and_then outline_parts outline))) [])
+requested_size hinting outline =
+    length (unwrap_or (option_map parts_bytes (requested_parts hinting (option_and_then outline_parts outline))) [])
 
 -- the outlines of glyphs together
 abbrev pub requested_sizes : Bool → (ℕ → Option (List ℕ)) → List ℕ → ℕ

@@ -9,7 +9,10 @@ use Rattle.subsetter_cffdata.specs.Views.{number_of}
 use Rattle.subsetter_cff.specs.declared.read.entries.top_dict.TopDictData.{TopDictData}
 use Rattle.subsetter_cff.specs.declared.read.fd_array.font_dict_entries.FontDictData.{FontDictData}
 use Rattle.subsetter_cff.specs.Read.Entries.Lookup.{last_of, first_of}
-use Rattle.subsetter_cff.specs.Read.Entries.Operators.{notice_operator, font_box_operator, charset_operator, char_strings_operator, private_operator, copyright_operator, font_matrix_operator, registry_operator, font_dicts_operator, font_dict_select_operator, font_name_operator}
+use Rattle.subsetter_cff.specs.Read.Entries.Operators.{notice_operator, font_box_operator, charset_operator}
+use Rattle.subsetter_cff.specs.Read.Entries.Operators.{char_strings_operator, private_operator, copyright_operator}
+use Rattle.subsetter_cff.specs.Read.Entries.Operators.{font_matrix_operator, registry_operator, font_dicts_operator}
+use Rattle.subsetter_cff.specs.Read.Entries.Operators.{font_dict_select_operator, font_name_operator}
 
 -- ---- what the last entry of an operator says
 abbrev pub last_string : List ℕ → List Entry → Option ℕ

@@ -7,7 +7,10 @@ use Rattle.subsetter_cffdata.specs.Numerals.Numbers.{Number}
 use Rattle.subsetter_cffdata.specs.Dicts.Operands.{string_operand, offset_operand, range_operands, just}
 use Rattle.subsetter_cffdata.specs.Views.{number_of}
 use Rattle.subsetter_cff.specs.declared.read.entries.top_dict.TopDictData.{TopDictData}
-use Rattle.subsetter_cff.specs.Read.Entries.Operators.{notice_operator, font_box_operator, charset_operator, char_strings_operator, private_operator, copyright_operator, font_matrix_operator, registry_operator, font_dicts_operator, font_dict_select_operator, font_name_operator}
+use Rattle.subsetter_cff.specs.Read.Entries.Operators.{notice_operator, font_box_operator, charset_operator}
+use Rattle.subsetter_cff.specs.Read.Entries.Operators.{char_strings_operator, private_operator, copyright_operator}
+use Rattle.subsetter_cff.specs.Read.Entries.Operators.{font_matrix_operator, registry_operator, font_dicts_operator}
+use Rattle.subsetter_cff.specs.Read.Entries.Operators.{font_dict_select_operator, font_name_operator}
 
 pub record DictValues : Type 0 where
   pub copyright : Option ℕ
@@ -59,4 +62,17 @@ values_after s [] = s
 values_after s (e ∷ es) = values_after (taken s e.operator e.operands) es
 
 abbrev pub no_values : DictValues
-no_values = record { copyright = None; notice = None; font_name = None; has_ros = false; font_matrix = None; font_bbox = None; charset = None; char_strings = None; fd_array = None; fd_select = None; private = None }
+no_values =
+    record {
+      copyright = None;
+      notice = None;
+      font_name = None;
+      has_ros = false;
+      font_matrix = None;
+      font_bbox = None;
+      charset = None;
+      char_strings = None;
+      fd_array = None;
+      fd_select = None;
+      private = None;
+    }

@@ -1,5 +1,6 @@
 -- What is checked while a new table is written: no real is too long, an offset has 31 bits, an INDEX has 32.
-use Rattle.std.specs.Prelude.{ℕ, ◌+◌, ◌^◌, ◌&&◌, nat_lt, if◌then◌else◌, Bool, true, false, List, [], ◌∷◌, length, Result, Ok}
+use Rattle.std.specs.Prelude.{ℕ, ◌+◌, ◌^◌, ◌&&◌, nat_lt, if◌then◌else◌, Bool, true, false, List, [], ◌∷◌, length}
+use Rattle.std.specs.Prelude.{Result, Ok}
 use Rattle.std.specs.List.{concat}
 use Rattle.subsetter_base.specs.Bytes.{◌>>=◌}
 use Rattle.subsetter_base.specs.declared.error.Error.{Error}
@@ -8,7 +9,8 @@ use Rattle.subsetter_cffdata.specs.Indexes.Index.{index}
 use Rattle.subsetter_cffdata.specs.Numerals.Numbers.{Number}
 use Rattle.subsetter_cff.specs.declared.write.laying.table.TableParts.{TableParts}
 use Rattle.subsetter_cff.specs.Write.Laying.FrontDraft.{named_bytes}
-use Rattle.subsetter_cff.specs.Write.Laying.Layout.{FontDict, charset_bytes, select_bytes, privates, private_bytes, font_dicts_from}
+use Rattle.subsetter_cff.specs.Write.Laying.Layout.{FontDict, charset_bytes, select_bytes, privates, private_bytes}
+use Rattle.subsetter_cff.specs.Write.Laying.Layout.{font_dicts_from}
 use Rattle.subsetter_cff.specs.Write.Laying.PartsView.{select_of_table, top_by}
 use Rattle.subsetter_cff.specs.Read.Opened.{check}
 use Rattle.subsetter_cff.specs.Write.NewDicts.WrittenNumbers.{any_long, entry_numbers}
