@@ -39,7 +39,7 @@ pub record HasDict (old new : Cff) (glyph i : ℕ) : Type 0 where
   pub matrices_kept : Keeps (matrices old glyph) (stated_matrices new i)
   pub font_dict_name_kept : Keeps (font_dict_name old glyph) (font_dict_name new i)
 
--- it is that glyph
+-- glyph i of the new table is the glyph of the old one: its dict, charstring, drawing and advance
 pub record IsAgain (old new : Cff) (glyph i : ℕ) : Type 0 where
   pub dict : HasDict old new glyph i
   pub charstring : Keeps (char_string old glyph) (char_string new i)

@@ -61,7 +61,7 @@ repeated cff figures = do
   parts ← limited counted
   Ok (cff_table parts)
 
--- 1 to 65535 glyphs
+-- a count of glyphs is 1 to 65535
 abbrev pub is_count : ℕ → Bool
 is_count count = nat_lt 0 count && nat_lt count 65536
 

@@ -44,7 +44,7 @@ measures_of find = do
   pairs ← ok_or (number_of_h_metrics hhea) MalformedFont
   Ok (record { hmtx = hmtx; number_of_h_metrics = pairs; units = units })
 
--- the widths of so many glyphs, from one on
+-- the widths of n glyphs, from glyph g on
 abbrev pub widths_from : Measures → ℕ → ℕ → Result (List ℕ) Error
 widths_from m g zero = Ok []
 widths_from m g (suc n) = do

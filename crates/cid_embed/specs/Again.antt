@@ -64,7 +64,7 @@ requests_less names glyph_names font =
     }
 
 -- what is left out of a subset of a subset is left out of the first font; so a subset without names of a subset is one
--- of the first font hinting isn't among it: an outline that had its padding in the first subset keeps it after what is
+-- of the first font. Hinting isn't among it: an outline that had its padding in the first subset keeps it after what is
 -- left out, where the first font's has none
 abbrev pub ComposesLessAfresh : Type 0
 ComposesLessAfresh =
@@ -114,7 +114,7 @@ KeepsAllCharStrings = (tokens depth : ℕ) (font : Font) (glyphs out all again :
     → IsSubset tokens depth (as_font out) all again
     → KeepsCffTable out again
 
--- no fault stands in the subset for them
+-- the subset has no fault for them
 abbrev pub HasNoFaultAgain : Type 0
 HasNoFaultAgain =
     (tokens depth : ℕ) (font : Font) (glyphs out all order : List ℕ) (e : Error) → IsBytes font.bytes → IsBytes out

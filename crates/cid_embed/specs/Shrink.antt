@@ -34,7 +34,7 @@ pub record IsGivenBack (given more again : List ℕ) : Type 0 where
   pub charstrings : OfEachSource given
       (λ source first. AreAll (length first) more → flavor source ≡ Some Cff → KeepsCffTable given again)
 
--- then no fault stands in the given font
+-- then the given font has no fault
 abbrev pub HasNoFaultForAll : List ℕ → List ℕ → Type 0
 HasNoFaultForAll given more =
     OfEachSource given (λ source first. AreAll (length first) more → IsTrueTypeOrCidKeyed source

@@ -26,7 +26,7 @@ has g c = nat_le g.start c && nat_le c g.end
 abbrev pub in_range : ℕ → Option ℕ
 in_range g = if nat_lt g (2 ^ 16) then Some g else None
 
--- the glyph of a character by at most so many groups from a place on, as far as they are there: that of the first group
+-- the glyph of a character by the next n groups from byte `at` on, as far as they are there: that of the first group
 -- that has the character
 unfoldable pub by_groups : List ℕ → ℕ → ℕ → ℕ → Option ℕ
 by_groups table zero at c = None
@@ -35,6 +35,6 @@ by_groups table (suc n) at c =
     let g = group_of bytes in if has g c then in_range (g.glyph + (c - g.start)) else by_groups table n (at + 12) c)
     (range table at 12)
 
--- the glyph of a character by a table of format 12: numGroups stands at byte 12, the groups after it
+-- the glyph of a character by a table of format 12: numGroups is at byte 12, the groups after it
 abbrev pub glyph_by_groups : List ℕ → ℕ → Option ℕ
 glyph_by_groups table c = option_and_then (λ n. by_groups table n 16 c) (number table 12 4)

@@ -13,8 +13,8 @@ pub record AreAll (table : List ℕ) (n : ℕ) (glyphs : List ℕ) : Type 0 wher
   pub count : length glyphs ≡ characters
   pub each : (q : ℕ) → q < characters → slice_index glyphs q ≡ unwrap_or (by_groups table n 16 q) 0
 
--- the same after so many of the groups: a character that one of these has is passed over, and an open one has no glyph
--- yet
+-- the same after the first i of the n groups: a character that one of these has is passed over, and an open one has no
+-- glyph yet
 pub record IsPainted (table : List ℕ) (n i : ℕ) (next glyphs : List ℕ) : Type 0 where
   pub leading : IsLeading next
   pub places : length next ≡ characters + 1

@@ -108,7 +108,7 @@ outlines_in find =
     else (if is_some (find (codes "CFF ")) then Ok Cff
     else (if is_some (find (codes "CFF2")) then Ok Cff2 else Err UnknownKind))
 
--- each glyph's, where a glyph of glyf may take so many steps; outlines of CFF don't move along axes
+-- each glyph's, where a glyph of glyf may take `steps` steps; outlines of CFF don't move along axes
 abbrev pub widths_of : Outlines → (List ℕ → Option (List ℕ)) → List (Tag × ℤ) → ℕ → List ℕ → Result (List ℕ) Error
 widths_of Glyf find settings steps glyphs = glyf_widths find settings steps glyphs
 widths_of Cff find settings steps glyphs = still_widths find glyphs

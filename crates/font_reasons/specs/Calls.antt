@@ -20,7 +20,7 @@ pub record Question : Type 0 where
   pub tokens : ℕ
   pub depth : ℕ
 
--- the face
+-- the face that a question asks about, with all its tables
 abbrev pub face_in : Question → List ℕ → Font
 face_in a bytes = record { bytes = bytes; index = a.index; extras = all_extras }
 

@@ -26,7 +26,7 @@ lost_string storage r = if is_kept r then lost_by r.name_id (string_of storage r
 abbrev pub lost_at : List ℕ → List ℕ → ℕ → Option Reason
 lost_at name storage at = option_and_then (λ bytes. lost_string storage (name_record_of bytes)) (range name at 12)
 
--- the first of so many names from an offset on
+-- the first of the next n name records from an offset on whose string isn't there
 unfoldable pub lost_from : List ℕ → List ℕ → ℕ → ℕ → Option Reason
 lost_from name storage zero at = None
 lost_from name storage (suc n) at = or_else (lost_at name storage at) (lost_from name storage n (at + 12))

@@ -82,7 +82,7 @@ abbrev pub walked_from : (List ℕ → Walked) → Option Component → Walked
 walked_from later None = record { glyphs = []; is_cut = true }
 walked_from later (Some c) = with_first c.glyph (if has_more c.flags then later c.after else no_components)
 
--- at most n
+-- the components of a description, at most n
 abbrev pub walked : ℕ → List ℕ → Walked
 walked zero bytes = no_components
 walked (suc n) bytes = walked_from (walked n) (component_at bytes)
@@ -191,7 +191,7 @@ outline_tables font =
     tables_by (stored font (codes "glyf")) (stored font (codes "loca"))
     (option_and_then (λ head. number head 50 2) (stored font (codes "head")))
 
--- these glyphs, and their components down to a depth, within so many steps
+-- these glyphs, and their components down to a depth, within this number of steps
 abbrev pub tree : Tables → ℕ → ℕ → List ℕ → List ℕ
 tree t steps depth glyphs = reached_below t.glyf t.loca t.format (depth + 1) 0 (record { steps = steps; seen = glyphs })
 
@@ -211,7 +211,7 @@ no_loca font = without_loca font (stored font (codes "glyf"))
 
 -- ---- components that are too deep for a static font
 
--- the components of n levels below these glyphs, glyph 0 apart, within so many steps
+-- the components of n levels below these glyphs, glyph 0 apart, within this number of steps
 unfoldable pub levels_below : List ℕ → List ℕ → ℕ → ℕ → Reach → List ℕ
 levels_below glyf loca format zero r = drop 1 r.seen
 levels_below glyf loca format (suc n) r =

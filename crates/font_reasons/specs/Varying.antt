@@ -128,7 +128,7 @@ first_unvaried o gvar at steps [] = None
 first_unvaried o gvar at steps (g ∷ glyphs) =
     or_else (unvaried_glyph o gvar at steps g) (first_unvaried o gvar at steps glyphs)
 
--- `gvar`, if it has so many axes
+-- `gvar`, if its axisCount is `axes`
 abbrev pub gvar_of : ℕ → Gvar → Option Gvar
 gvar_of axes t = if t.axis_count == axes then Some t else None
 

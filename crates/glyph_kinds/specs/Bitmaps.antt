@@ -7,7 +7,7 @@ use Rattle.subsetter_base.specs.Options.{◌>>=◌}
 use Rattle.text_glyphs.specs.Halves.{last_up_to}
 use Rattle.glyph_kinds.specs.Strikes.{any_strike}
 
--- how far a number of so many bytes is below the one at another place
+-- how far the number at one place is below the number at another; each has `width` bytes
 abbrev pub gap : List ℕ → ℕ → ℕ → ℕ → Option ℕ
 gap table at next width = do
   from ← number table at width

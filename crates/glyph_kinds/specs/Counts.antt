@@ -1,7 +1,7 @@
 -- How many glyphs have each kind of pictures.
 use Rattle.std.specs.Prelude.{ℕ, ◌+◌, ◌/◌, ◌%◌, ◌^◌, ◌==◌, Bool, if◌then◌else◌, List, [], ◌∷◌, map}
 
--- a kind, by its bit
+-- bit `kind` of a set of kinds is set
 abbrev pub has_kind : ℕ → ℕ → Bool
 has_kind kind kinds = kinds / 2 ^ kind % 2 == 1
 

@@ -32,7 +32,7 @@ is_type None type = not (is_known type)
 abbrev pub has_type : Option ℕ → Option ℕ → Bool
 has_type wanted type = option_map_or (is_type wanted) type false
 
--- whether a glyph, of so many, has a graphic of such a type in a strike
+-- whether a glyph, in a font of `count` glyphs, has a graphic of the wanted type in a strike
 abbrev pub has_graphic : Option (List ℕ) → ℕ → Option ℕ → ℕ → Bool
 has_graphic table count wanted g =
     option_map_or (λ bytes. any_strike (λ k. has_type wanted (graphic_type bytes count k g)) bytes) table false

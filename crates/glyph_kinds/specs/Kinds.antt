@@ -75,7 +75,7 @@ is_unseen kinds = nat_lt 0x10000 kinds
 abbrev pub unseen_by : Tables → List ℕ → List ℕ
 unseen_by t glyphs = filter (λ g. is_unseen (kind_bits t g)) glyphs
 
--- those among glyphs
+-- the unseen ones of some glyphs of a font
 unfoldable pub unseen_glyphs : Font → List ℕ → Result (List ℕ) Error
 unseen_glyphs font glyphs = do
   records ← opened font

@@ -22,11 +22,11 @@ run_at format bytes =
 abbrev pub take_one : Run → ℕ × Run
 take_one r = (r.first + r.taken, record r { taken = r.taken + 1 })
 
--- the next SID
+-- the next SID of a charset, and the run after it
 abbrev pub next_sid : ℕ → Run → Option (ℕ × Run)
 next_sid format r = if nat_le r.taken r.left then Some (take_one r) else option_map take_one (run_at format r.rest)
 
--- so many SIDs, as far as they are there
+-- the next n SIDs, as far as they are there
 unfoldable pub sids : ℕ → ℕ → Run → List ℕ
 sids format zero r = []
 sids format (suc n) r = option_map_or (λ s. s.0 ∷ sids format n s.1) (next_sid format r) []
@@ -37,7 +37,7 @@ sids_in count [] = []
 sids_in count (format ∷ bytes) =
     if nat_le format 2 then sids format count (record { first = 0; left = 0; taken = 0; rest = bytes }) else []
 
--- the SIDs of so many glyphs, by the offset of the charset: 0 is ISOAdobe, which has the SIDs 0 to 228 in a row. Expert
+-- the SIDs of `count` glyphs, by the offset of the charset: 0 is ISOAdobe, which has the SIDs 0 to 228 in a row. Expert
 -- (1) and ExpertSubset (2) aren't read
 abbrev pub sids_at : List ℕ → ℕ → ℕ → List ℕ
 sids_at cff count offset =

@@ -10,7 +10,7 @@ abbrev pub first_string : List ℕ → Option (List ℕ × List ℕ)
 first_string [] = None
 first_string (len ∷ bytes) = if nat_le len (length bytes) then Some (take len bytes, drop len bytes) else None
 
--- so many of these strings, as far as they are there
+-- the next n of these strings, as far as they are there
 unfoldable pub pascal_strings : ℕ → List ℕ → List (List ℕ)
 pascal_strings zero bytes = []
 pascal_strings (suc n) bytes = option_map_or (λ s. s.0 ∷ pascal_strings n s.1) (first_string bytes) []

@@ -30,7 +30,7 @@ chosen_seen c =
       is_still = c.is_still;
     }
 
--- of all glyphs of a font at settings of its user coordinates, where a glyph of `glyf` may take so many steps
+-- of all glyphs of a font at settings of its user coordinates, where a glyph of `glyf` may take `steps` steps
 unfoldable pub own_choice : Font → List (Tag × ℤ) → ℕ → Result Chosen Error
 own_choice font settings steps = do
   lines ← text_metrics font settings steps

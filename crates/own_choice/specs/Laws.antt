@@ -10,7 +10,7 @@ use Rattle.own_glyphs.specs.declared.profile.Limits.{Limits}
 use Rattle.pdf_figures.specs.Figures.{is_place}
 use Rattle.own_choice.specs.Parts.{has_small_outline, most_in}
 
--- `maxp` has limits with glyphs of so many parts
+-- `maxp` has limits for glyphs of `parts` parts
 pub record HasLimits (parts : ℕ) (maxp : List ℕ) : Type 0 where
   pub limits : Limits
   pub are : limits_of parts maxp ≡ Ok limits

@@ -61,7 +61,7 @@ may_move find (s ∷ settings) = is_some (find (codes "fvar"))
 abbrev pub reach_of : Bool → ℕ
 reach_of moves = if moves then 8192 else 16384
 
--- of so many glyphs of `glyf`
+-- of `count` glyphs of `glyf`
 abbrev pub parts_by : Option Outlines → ℕ → ℕ → List Bool
 parts_by None reach count = []
 parts_by (Some t) reach count = each_from (has_small_outline reach t) 0 count
@@ -75,11 +75,11 @@ parts_in find settings count =
 
 -- ---- how many parts
 
--- so many times a number has 16 bits
+-- how many times a number goes into 65535
 abbrev pub times_in : ℕ → ℕ
 times_in n = 65535 / max n 1
 
--- the points of a glyph of so many parts have 16 bits, its contours too, and so has its depth
+-- how many parts a glyph can have, with at most 65535 points and as many contours
 abbrev pub room_in : List ℕ → ℕ
 room_in maxp =
     min (times_in (max (field_at maxp 6) (field_at maxp 10))) (times_in (max (field_at maxp 8) (field_at maxp 12)))

@@ -99,7 +99,7 @@ own_box s parts = do
   found ← around None (part_boxes s parts)
   Ok (box_or_zero found)
 
--- those of own glyphs
+-- the boxes of own glyphs
 abbrev pub own_boxes : Source → List OwnGlyph → Result (List Bounds) Error
 own_boxes s [] = Ok []
 own_boxes s (o ∷ own) = do

@@ -21,8 +21,8 @@ limit n = if nat_lt n 65536 then Ok n else Err OverflowError
 abbrev pub field_at : List ℕ → ℕ → ℕ
 field_at maxp at = be (take 2 (drop at maxp))
 
--- With glyphs of so many parts, each of which is a glyph of the font: maxCompositePoints (byte 10) and
--- maxCompositeContours (12) are as many times the most points (6, 10) and contours (8, 12) of a glyph,
+-- With glyphs of `parts` parts, each of which is a glyph of the font: maxCompositePoints (byte 10) and
+-- maxCompositeContours (12) are this many times the most points (6, 10) and contours (8, 12) of a glyph,
 -- maxComponentElements (28) is at least the parts, and maxComponentDepth (30) is one more.
 unfoldable pub limits_of : ℕ → List ℕ → Result Limits Error
 limits_of parts maxp = do

@@ -1,4 +1,4 @@
--- Why a font gets no own glyphs, under the name of the error.
+-- Why a font gets no own glyphs, each reason with its error.
 use Rattle.std.specs.Prelude.{◌≡◌, ◌≢◌, ◌<◌, ◌≤◌, ℕ, ◌+◌, List, length, Option, Some, None, Ok, Err}
 use Rattle.subsetter_base.specs.declared.error.Error.{Error}
 use Rattle.subsetter_base.specs.declared.error.Error.TheVariants.{MalformedFont, OverflowError, OutOfMemory}

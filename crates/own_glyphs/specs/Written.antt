@@ -68,7 +68,7 @@ offsets_with s offsets more = offsets ++ ends_from (length s.glyf) more
 abbrev pub metrics_with : List LongHorMetric → List Further → List LongHorMetric
 metrics_with metrics more = metrics ++ map (λ (f : Further). f.metric) more
 
--- the tables of so many glyphs, each with a pair in hmtx; the other tables of a subset stay
+-- the tables of n glyphs, each with a longHorMetric in hmtx; the other tables of a subset stay
 abbrev pub tables_by : (List ℕ → Option (List ℕ)) → Source → List ℕ → List ℕ → List LongHorMetric → List ℕ → ℕ
     → FontTables
 tables_by find s glyf offsets metrics maxp n = record {

@@ -29,7 +29,7 @@ privates cff =
     if is_cid_keyed cff then map (λ d. private_of (private_at cff.bytes d)) (unwrap_or (font_dicts cff) [])
     else private_of (private_at cff.bytes cff.top) ∷ []
 
--- both
+-- the name and the stem width of a font
 pub record CffValues : Type 0 where
   pub name : Option (List ℕ)
   pub stem : Option ℕ

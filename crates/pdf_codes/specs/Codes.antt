@@ -20,7 +20,7 @@ used_of e = record { glyph = e.glyph; units = e.units.now }
 abbrev pub glyphs_of : List Used → List ℕ
 glyphs_of us = map (λ u. u.glyph) us
 
--- glyph 0 has no text
+-- a use of a glyph with its text; glyph 0 has none
 abbrev pub keyed : Used → Used
 keyed u = if u.glyph == 0 then record { glyph = 0; units = [] } else u
 

@@ -1,5 +1,5 @@
--- What stands for the glyphs of a run: glyphs of the font, and own ones, which are glyphs of it, each at a place, with
--- an advance.
+-- What draws the glyphs of a run: glyphs of the font, and own ones, which are glyphs of it, each at a place, with an
+-- advance.
 use Rattle.std.specs.Prelude.{ℕ, zero, suc, ◌+◌, ◌-◌, ◌*◌, ◌/◌, ◌==◌, ◌&&◌, ◌||◌, not, nat_lt, Bool, true, false}
 use Rattle.std.specs.Prelude.{if◌then◌else◌, List, [], ◌∷◌, ◌++◌, length, map, take, get_or, flat_map, Option, None, ℤ}
 use Rattle.std.specs.Prelude.{pos, negsuc, ◌-ℤ◌, unsigned_abs}
@@ -33,7 +33,7 @@ pub record Figured : Type 0 where
   pub x_offset : ℤ
   pub y_offset : ℤ
 
--- an item as it is
+-- an item as it is: one glyph of the font
 abbrev pub plain : Item → Figured
 plain i =
     record {
@@ -67,7 +67,7 @@ is_placed false p = is_place p.x && is_place p.y
 abbrev pub is_part : Choice → Drawn → Bool
 is_part c p = get_or c.can_be_part.now p.glyph false && is_placed c.is_still p
 
--- whether all are parts, of which there is room for so many
+-- whether all are parts, and no more than there is room for
 abbrev pub are_parts : Choice → ℕ → List Drawn → Bool
 are_parts c room [] = true
 are_parts c zero (p ∷ ps) = false
@@ -78,7 +78,7 @@ can_be_own c ps a = are_parts c c.most_parts ps && is_advance a
 
 -- ---- a cluster in one
 
--- it has an offset; one glyph that only stands to the side is kerned
+-- it has an offset; one glyph that is only moved to the side is kerned
 abbrev pub is_moved : Bool → Item → Bool
 is_moved alone i =
     not (int_eq i.y_offset (pos 0)) || (not (int_eq i.x_offset (pos 0)) && (not alone || int_eq i.x_advance (pos 0)))
@@ -189,13 +189,13 @@ abbrev pub wide_count : List ℕ → ℕ
 wide_count [] = 0
 wide_count (c ∷ cs) = if is_mark c then wide_count cs else suc (wide_count cs)
 
--- how far the pen goes on at a part, with so many after it: at the last one all the way
+-- how far the pen goes on at a part: at the last one all the way that is left
 abbrev pub going : ℕ → ℤ → ℕ → ℤ
 going zero way part = way
 going (suc more) way part = pos part
 
--- the part of a character that is no mark, with so many of these after it: the ink, and an equal part of what is left
--- of the advance
+-- the part of a character that is no mark, with `more` of these after it: the ink, and an equal part of what is left of
+-- the advance
 abbrev pub part_of : Figured → ℕ → ℕ → Figured
 part_of f width more =
     record {
@@ -270,7 +270,7 @@ is_across TopToBottom = false
 abbrev pub figures : Choice → List Item → List Figured
 figures c is = if wants_one is then (if is_whole c is then whole c is ∷ [] else map plain is) else map (beside c) is
 
--- the characters of the first of so many figures in reading order, as they are seen
+-- the characters of the first of `count` figures in reading order, as they are seen
 abbrev pub first_share : Direction → ℕ → List Item → List ℕ
 first_share d count is = visual d (take (first_count count (text_of is)) (text_of is))
 

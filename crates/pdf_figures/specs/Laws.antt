@@ -60,7 +60,7 @@ abbrev pub parts_at : Ink → ℤ → ℤ → List Drawn
 parts_at (glyph g) x y = record { glyph = g; x = x; y = y } ∷ []
 parts_at (own ps a) x y = map (moved_by x y) ps
 
--- of a font with so many glyphs and own ones after them
+-- of a font with `count` glyphs and own ones after them
 abbrev pub expanded : ℕ → List Ink → Drawn → List Drawn
 expanded count inks p = parts_at (ink_by count inks p.glyph) p.x p.y
 

@@ -12,7 +12,7 @@ as_own (own ps a) = own ps a
 abbrev pub own_by : List Ink → ℕ → Ink
 own_by inks k = as_own (get_or inks k (own [] 0))
 
--- with so many glyphs in the font, what a glyph of an item is
+-- with `count` glyphs in the font, what a glyph of an item is
 abbrev pub ink_by : ℕ → List Ink → ℕ → Ink
 ink_by count inks g = if nat_lt g count then glyph g else own_by inks (g - count)
 
@@ -27,7 +27,7 @@ figured_by count inks i =
       y_offset = i.y_offset;
     }
 
--- a glyph is one of so many
+-- a glyph is one of the font's `count` glyphs
 abbrev pub is_known_ink : ℕ → Ink → Bool
 is_known_ink count (glyph g) = nat_lt g count
 is_known_ink count (own ps a) = true

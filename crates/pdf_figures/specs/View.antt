@@ -56,7 +56,7 @@ pub record Extends (old new : List OwnInk) : Type 0 where
   pub further : List OwnInk
   pub are : new ≡ old ++ further
 
--- after so many glyphs of the font this is the number of an own glyph
+-- this is the number of an own glyph, after the `count` glyphs of the font
 pub record IsNumberOf (count : ℕ) (os : List OwnInk) (i : Ink) (n : ℕ) : Type 0 where
   pub above : count ≤ n
   pub below : n < count + length os

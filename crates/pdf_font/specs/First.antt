@@ -19,7 +19,7 @@ pub record IsFoundFirst (font : Font) (options : FontOptions) (us : List Used) (
     : Type 0 where
   -- that the face has no outlines
   pub bare : lacks_outlines font ≡ true → r ≡ Err BitmapsAlone
-  -- then a fault that stands against opening it, under its name
+  -- then a fault of opening it, with its error
   pub unopened : lacks_outlines font ≡ false → (e : Error) → HasOpeningFaultAt font e
       → (d : Error) × (r ≡ Err (Subset d)) × HasOpeningFaultAt font d
   -- then that `fsType` forbids it, and the caller holds no rights

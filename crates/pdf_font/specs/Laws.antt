@@ -23,7 +23,7 @@ use Rattle.pdf_source.specs.declared.choice.FontOptions.{FontOptions}
 use Rattle.pdf_font.specs.declared.error.FontError.{FontError}
 use Rattle.pdf_font.specs.declared.font.PdfFont.{PdfFont}
 
--- what is answered has no fault, whose sizes are judged for the order of its glyphs
+-- what is returned has no fault; sizes are judged for the order of its glyphs
 abbrev pub HaveNoFault : Type 0
 HaveNoFault =
     (font : Font) (settings : List (Tag × ℤ)) (options : FontOptions) (us : List Used)

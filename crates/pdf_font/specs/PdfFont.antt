@@ -81,7 +81,7 @@ AreColumns TopToBottom tables heights tops glyphs widths columns =
     × IfSome columns (λ c. (c.each.items ≡ columns_at tables heights tops (numbering glyphs) widths)
     × (c.default ≡ most_frequent c.each.items))
 
--- a CIDSet for so many CIDs, where it is requested
+-- a CIDSet for `count` CIDs, where it is requested
 abbrev pub IsCidSetIf : Bool → ℕ → Option (List ℕ) → Type 0
 IsCidSetIf false count bytes = bytes ≡ None
 IsCidSetIf true count bytes = IsSome bytes × IfSome bytes (IsCidSet count)
@@ -169,7 +169,7 @@ pub record IsPdfFont (font : Font) (settings : List (Tag × ℤ)) (options : Fon
 abbrev pub lacks_outlines : Font → Bool
 lacks_outlines font = is_some (records (whole font)) && not (has_outlines (stored (whole font)))
 
--- what can stand against it, under the name of the error; sizes are judged for an order of the new font's glyphs
+-- the faults that stop it, each with its error; sizes are judged for an order of the new font's glyphs
 pub data HasFontFault (font : Font) (settings : List (Tag × ℤ)) (options : FontOptions) (us : List Used)
     (order : List ℕ) : FontError → Type 0 where
   in_embedding : {e : Error}
@@ -190,6 +190,6 @@ pub data HasFontFault (font : Font) (settings : List (Tag × ℤ)) (options : Fo
   -- it has no outlines
   bare : lacks_outlines font ≡ true → HasFontFault font settings options us order BitmapsAlone
 
--- nothing is answered
+-- there is no such font
 abbrev pub HasNoPdfFont : Font → List (Tag × ℤ) → FontOptions → List Used → Type 0
 HasNoPdfFont font settings options us = (f : PdfFont) → ¬ (IsPdfFont font settings options us f)

@@ -56,7 +56,7 @@ joined None b = b
 joined (Some a) None = Some a
 joined (Some a) (Some b) = Some (around a b)
 
--- the least box around those of so many glyphs, from one on
+-- the least box around those of n glyphs, from one on
 abbrev pub boxes_from : Outlines → ℕ → ℕ → Option GlyphBox
 boxes_from t g zero = None
 boxes_from t g (suc n) = joined (glyph_box t g) (boxes_from t (g + 1) n)

@@ -24,7 +24,7 @@ most_from all n d (c ∷ cs) =
     if nat_lt n (count all c.y c.advance) then most_from all (count all c.y c.advance) (default_of c) cs
     else most_from all n d cs
 
--- PDF's own
+-- the default of DW2 (ISO 32000-1, Table 117): 880 and -1000
 abbrev pub own_default : DefaultColumn
 own_default = record { y = pos 880; advance = neg_ℤ (pos 1000) }
 

@@ -28,7 +28,8 @@ vertical_view t =
 
 -- ---- "vmtx"
 
--- numOfLongVerMetrics: for so many glyphs `vmtx` has an advance height and a top side bearing, for the others a bearing
+-- numOfLongVerMetrics: for this number of glyphs `vmtx` has an advance height and a top side bearing, for the others a
+-- bearing
 abbrev pub pair_count : Vertical → ℕ
 pair_count t = unwrap_or (field t.vhea 34 2) 0
 
@@ -36,7 +37,7 @@ pair_count t = unwrap_or (field t.vhea 34 2) 0
 abbrev pub advance_of : Vertical → ℕ → Option ℕ
 advance_of t g = if pair_count t == 0 then None else field t.vmtx (4 * min g (pair_count t - 1)) 2
 
--- the top side bearing
+-- topSideBearing of a glyph in `vmtx`: after its advance height, or alone
 abbrev pub bearing_of : Vertical → ℕ → Option ℤ
 bearing_of t g = signed_field t.vmtx (if nat_lt g (pair_count t) then 4 * g + 2 else 2 * (pair_count t + g))
 
@@ -58,7 +59,7 @@ abbrev pub by_record : Option Origin → ℕ → Option ℤ → Option ℤ
 by_record None g later = later
 by_record (Some o) g later = if o.glyph == g then Some o.y else later
 
--- the y of a glyph by so many records, from one on
+-- the y of a glyph by the next n records, from record k on
 abbrev pub origin_from : Option (List ℕ) → ℕ → ℕ → ℕ → Option ℤ
 origin_from vorg k zero g = None
 origin_from vorg k (suc n) g = by_record (origin_at vorg k) g (origin_from vorg (k + 1) n g)
@@ -67,7 +68,7 @@ origin_from vorg k (suc n) g = by_record (origin_at vorg k) g (origin_from vorg 
 abbrev pub record_count : Option (List ℕ) → ℕ
 record_count vorg = unwrap_or (field vorg 6 2) 0
 
--- by all records
+-- vertOriginY of a glyph by all records of `VORG`
 abbrev pub origin_of : Option (List ℕ) → ℕ → Option ℤ
 origin_of vorg g = origin_from vorg 0 (record_count vorg) g
 

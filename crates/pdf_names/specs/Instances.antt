@@ -29,7 +29,7 @@ after_coordinates (a ∷ axes) settings bytes =
 abbrev pub past_flags : List Axis → List (Tag × ℤ) → List ℕ → Option (List ℕ)
 past_flags axes settings bytes = after_coordinates axes settings (drop 4 bytes)
 
--- the first of so many records of one size, from a place on, that has the font's coordinates
+-- the first of the next n records of one size, from a place on, that has the font's coordinates
 abbrev pub record_from : List Axis → List (Tag × ℤ) → List ℕ → ℕ → ℕ → ℕ → Option (List ℕ)
 record_from axes settings fvar size zero at = None
 record_from axes settings fvar size (suc n) at =
@@ -37,8 +37,8 @@ record_from axes settings fvar size (suc n) at =
     if is_some (past_flags axes settings bytes) then Some bytes else record_from axes settings fvar size n (at + size))
     (range fvar at size)
 
--- axesArrayOffset, axisCount, axisSize, instanceCount and instanceSize; the records of instances stand after those of
--- the axes
+-- axesArrayOffset, axisCount, axisSize, instanceCount and instanceSize; the records of instances are after those of the
+-- axes
 unfoldable pub record_in : List Axis → List (Tag × ℤ) → List ℕ → Option (List ℕ)
 record_in axes settings fvar = do
   at ← number fvar 4 2

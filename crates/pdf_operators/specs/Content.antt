@@ -96,7 +96,7 @@ said_by t operands =
     else if bytes_eq t (codes "EMC") then ended ∷ []
     else []
 
--- operands stand before their operator
+-- operands come before their operator
 abbrev pub said_from : List (List ℕ) → List (List ℕ) → List Mark
 said_from operands [] = []
 said_from operands (t ∷ ts) =
@@ -111,7 +111,7 @@ said_in text = said_from [] (tokens_in text)
 abbrev pub numbers : ℤ → List Mark
 numbers z = if int_eq z (pos 0) then [] else number z ∷ []
 
--- so many millionths, with the sign of a number
+-- n millionths, with the sign of a number
 abbrev pub sized : ℤ → ℕ → ℤ
 sized (pos k) n = pos n
 sized (negsuc k) n = neg_ℤ (pos n)

@@ -39,18 +39,18 @@ units_of cs = flat_map utf16 cs
 abbrev pub three_digits : ℕ → List ℕ
 three_digits n = (48 + n / 100 % 10) ∷ (48 + n / 10 % 10) ∷ (48 + n % 10) ∷ []
 
--- so many millionths, with six digits after the point, or three, or none and no point, as few as say them
+-- n millionths, with six digits after the point, or three, or none and no point, as few as say them
 abbrev pub fraction : ℕ → List ℕ
 fraction n =
     if n == 0 then []
     else if n % 1000 == 0 then 46 ∷ three_digits (n / 1000)
     else 46 ∷ (three_digits (n / 1000) ++ three_digits n)
 
--- so many millionths, and their sign
+-- the sign of a number, and n millionths
 abbrev pub millionths : ℤ → ℕ → List ℕ
 millionths z n = sign z ++ (decimal (n / 1000000) ++ fraction (n % 1000000))
 
--- so many thousandths of the em, at a size of so many thousandths
+-- the rise of z thousandths of the em, at a font size of `size` thousandths
 abbrev pub rise_text : ℕ → ℤ → List ℕ
 rise_text size z = millionths z (unsigned_abs z * size)
 
@@ -75,7 +75,7 @@ acts_of ops = map act_of ops
 
 -- ---- one of them, after what is open
 
--- nothing
+-- no array is open
 abbrev pub shut : OpenArray
 shut = record { strings = 0; codes = 0 }
 

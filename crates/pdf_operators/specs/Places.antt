@@ -18,7 +18,7 @@ use Rattle.pdf_operators.specs.Operators.{Act, raise, show}
 
 -- ---- lengths
 
--- along the line
+-- the coordinate along the line: x, or y from top to bottom
 abbrev pub along : Direction → ℤ → ℤ → ℤ
 along LeftToRight x y = x
 along RightToLeft x y = x

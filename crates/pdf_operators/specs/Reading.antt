@@ -103,7 +103,7 @@ abbrev pub origins : Font → List Pair → List Placed → List Origin
 origins f pairs [] = []
 origins f pairs (p ∷ ps) = origin_of f (figure_in pairs p.code) p ++ origins f pairs ps
 
--- so many thousandths of the em, at a size of so many thousandths
+-- the rise of z thousandths of the em, at a font size of `size` thousandths
 abbrev pub risen : ℕ → ℤ → ℤ
 risen size z = sized z (unsigned_abs z * size)
 

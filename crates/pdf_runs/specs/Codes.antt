@@ -45,11 +45,11 @@ with_pairs pairs (p ∷ ps) = with_pairs (with_value same pairs (pair_of p)) ps
 abbrev pub AreCodes : List Pair → List Piece → List ℕ → Type 0
 AreCodes pairs ps codes = map Some codes ≡ map (λ (p : Piece). index_by same pairs (pair_of p)) ps
 
--- no code is left
+-- there would be more than 65535 pairs, so that no code is left
 abbrev pub IsOverfull : List Pair → List Piece → Type 0
 IsOverfull pairs ps = 65535 < length (with_pairs pairs ps)
 
--- pairs with those of the first pieces, so many
+-- pairs with those of the first `count` pieces
 pub record HasFirst (pairs new : List Pair) (ps : List Piece) : Type 0 where
   pub count : ℕ
   pub first : new ≡ with_pairs pairs (take count ps)

@@ -1,4 +1,4 @@
--- What stands for the glyphs of a run: figures that each say at most one character.
+-- What draws the glyphs of a run: figures that each say at most one character.
 use Rattle.std.specs.Prelude.{ℕ, ◌+◌, Bool, true, not, ◌&&◌, if◌then◌else◌, nat_lt, List, [], ◌∷◌, ◌++◌, length, get_or}
 use Rattle.std.specs.Prelude.{map, take, drop, slice_get, flat_map, Option, Some, pos}
 use Rattle.std.specs.List.{position_or_len}

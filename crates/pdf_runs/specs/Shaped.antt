@@ -58,7 +58,7 @@ are_ordered d before (p ∷ ps) = follows d before p && are_ordered d (Some p) p
 
 -- ---- the text of a cluster
 
--- the next place of so many that is another one, or the end
+-- the next place, of `count` places, that is another one, or the end
 abbrev pub next_place : ℕ → ℕ → List ℕ → ℕ
 next_place count p [] = count
 next_place count p (q ∷ qs) = if q == p then next_place count p qs else q

@@ -22,13 +22,13 @@ abbrev pub shown_text : SheetGlyph → List ℕ
 shown_text g =
     if g.is_said then code_text g.code else span_begin (units_of g.text.now) ++ (code_text g.code ++ codes "EMC\n")
 
--- ---- where it stands, in points
+-- ---- where it is, in points
 
 -- the pen is set to a point
 abbrev pub position_text : ℕ → ℕ → List ℕ
 position_text x y = codes "1 0 0 1 " ++ (decimal x ++ (codes " " ++ (decimal y ++ codes " Tm\n")))
 
--- cells of 44 by 48 points, of which 12 stand in a row, in 16 rows from above
+-- cells of 44 by 48 points, of which 12 are in a row, in 16 rows from above
 abbrev pub cell_x : ℕ → ℕ
 cell_x k = 34 + 44 * (k % 12)
 
@@ -40,7 +40,7 @@ abbrev pub line_position : Bool → ℕ → List ℕ
 line_position false height = position_text 36 54
 line_position true height = position_text 72 (height - 36)
 
--- before a glyph with so many before it: each glyph of a grid has its own place, and a line begins with one
+-- before glyph k: each glyph of a grid has its own place, and a line begins with one
 abbrev pub glyph_position : Layout → Bool → ℕ → ℕ → List ℕ
 glyph_position Grid false height k = position_text (cell_x k) (cell_y k)
 glyph_position Grid true height k = position_text (cell_x k + 18) (cell_y k + 32)
@@ -68,7 +68,7 @@ abbrev pub frame_of : Layout → Bool → List SheetGlyph → Frame
 frame_of Grid vertical gs = record { layout = Grid; vertical = vertical; width = 595; height = 842 }
 frame_of Line vertical gs = line_frame vertical (advance_of gs)
 
--- glyphs with so many before them
+-- glyphs from glyph k on
 abbrev pub glyphs_text : Frame → ℕ → List SheetGlyph → List ℕ
 glyphs_text frame k [] = []
 glyphs_text frame k (g ∷ gs) =

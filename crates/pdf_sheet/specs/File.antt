@@ -19,7 +19,7 @@ offsets_of values = offsets_from (length header) (objects_from 1 values)
 
 -- ---- the cross-reference table (7.5.4)
 
--- so many digits of a number
+-- the last n digits of a number
 abbrev pub digits : ℕ → ℕ → List ℕ
 digits zero n = []
 digits (suc count) n = digits count (n / 10) ++ ((48 + n % 10) ∷ [])
@@ -54,13 +54,12 @@ file_of values = body_of values ++ table_and_trailer (offsets_of values) (length
 
 -- ---- the law
 
--- what the entry of an object says, in a table that begins at an offset, of so many objects: an entry has 20 bytes
+-- what the entry of an object says, in a table that begins at an offset, of `count` objects: an entry has 20 bytes
 abbrev pub listed_offset : List ℕ → ℕ → ℕ → ℕ → ℕ
 listed_offset file start count n =
     digits_value 10 (take 10 (drop (20 * n) (drop (start + length (table_front (count + 1))) file)))
 
--- the entry of each object says where it begins, from there on stands the object, and it goes on to the next one, or to
--- the table
+-- the entry of each object says where it begins, the object is there, and it goes on to the next one, or to the table
 abbrev pub AreInTable : List ℕ → ℕ → List (List ℕ) → Type 0
 AreInTable file start values =
     (k : ℕ) → k < length values

@@ -36,7 +36,7 @@ line_objects vertical font n l =
 
 -- ---- all lines
 
--- the root of so many pages
+-- the root of `count` pages
 abbrev pub lines_root : ℕ → List ℕ
 lines_root count =
     (codes "<< /Type /Pages /Count " ++ (decimal count ++ (codes " /Kids [" ++ kids 3 count))) ++ codes "] >>"
@@ -46,7 +46,7 @@ abbrev pub line_pages : Bool → ℕ → ℕ → List SheetLine → List (List �
 line_pages vertical font n [] = []
 line_pages vertical font n (l ∷ ls) = line_objects vertical font n l ++ line_pages vertical font (n + 2) ls
 
--- what stands before the font
+-- the objects before the font
 abbrev pub lines_front : Bool → List SheetLine → List (List ℕ)
 lines_front vertical ls = catalog_value ∷ lines_root (length ls) ∷ line_pages vertical (font_number (length ls)) 3 ls
 

@@ -12,9 +12,9 @@ use Rattle.pdf_sheet.specs.declared.frame.Frame.{Frame}
 use Rattle.pdf_sheet.specs.Content.{content, frame_of}
 use Rattle.pdf_sheet.specs.File.{body_of}
 
--- ---- which glyphs stand on which page
+-- ---- which glyphs are on which page
 
--- so many pages of at most 192 glyphs
+-- n pages of at most 192 glyphs
 abbrev pub pages_by : ℕ → List SheetGlyph → List (List SheetGlyph)
 pages_by zero gs = []
 pages_by (suc count) gs = take 192 gs ∷ pages_by count (drop 192 gs)
@@ -64,7 +64,7 @@ page_values frame font n (p ∷ ps) =
 abbrev pub font_number : ℕ → ℕ
 font_number count = 3 + 2 * count
 
--- what stands before the font
+-- the objects before the font
 abbrev pub front_values : Layout → Frame → List SheetGlyph → List (List ℕ)
 front_values layout frame gs =
     catalog_value ∷ pages_value frame (page_count layout (length gs))

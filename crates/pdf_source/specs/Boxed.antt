@@ -97,7 +97,7 @@ boxed_at p box file = if is_in p (length file) then settled p (summed p (blank p
 abbrev pub one_if : Bool → ℕ
 one_if there = if there then 1 else 0
 
--- tags ascend: the record of `head` stands after those of `CFF `, `cvt `, `fpgm` and `glyf`
+-- tags ascend: the record of `head` is after those of `CFF `, `cvt `, `fpgm` and `glyf`
 abbrev pub records_before : (List ℕ → Option (List ℕ)) → ℕ
 records_before find =
     one_if (is_some (find (codes "CFF ")))

@@ -55,8 +55,8 @@ can_move None None cff2 = is_some cff2
 abbrev pub moves : (List ℕ → Option (List ℕ)) → Bool
 moves find = can_move (find (codes "glyf")) (find (codes "CFF ")) (find (codes "CFF2"))
 
--- the least box around so many glyphs of the new font: by the headers of its `glyf`, or by the charstrings of its `CFF
--- ` where they were made of `CFF2`; of other outlines it isn't known
+-- the least box around the first `count` glyphs of the new font: by the headers of its `glyf`, or by the charstrings of
+-- its `CFF ` where they were made of `CFF2`; of other outlines it isn't known
 abbrev pub kept_by : Option (List ℕ) → Bool → (List ℕ → Option (List ℕ)) → ℕ → Option GlyphBox
 kept_by (Some glyf) moving new count = boxes_from (outlines_of new) 0 count
 kept_by None true new count = cff_box (new (codes "CFF ")) count

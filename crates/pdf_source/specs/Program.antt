@@ -45,7 +45,7 @@ count_in TrueType find requested = do
   maxp ← ok_or (find (codes "maxp")) MalformedFont
   ok_or (number maxp 4 2) MalformedFont
 
--- the `CFF ` of a file
+-- the bytes of `CFF ` in an OpenType file
 unfoldable pub bare_cff : List ℕ → Result (List ℕ) Error
 bare_cff file = do
   directory ← opened (as_font file)

@@ -20,6 +20,6 @@ fraction n =
 abbrev pub sign : ℤ → List ℕ
 sign z = if is_negative z then codes "-" else []
 
--- so many thousandths
+-- z thousandths, as a number
 abbrev pub thousandths : ℤ → List ℕ
 thousandths z = sign z ++ (decimal (unsigned_abs z / 1000) ++ fraction (unsigned_abs z % 1000))

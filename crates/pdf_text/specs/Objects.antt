@@ -78,7 +78,7 @@ objects_of v = objects_by (is_some v.cid_to_gid_map) (is_some v.cid_set) (is_som
 abbrev pub most_objects : FontValues → ℕ
 most_objects v = 7 + length (when (is_some v.cid_to_gid_map) CidToGidMap)
 
--- how many objects stand before a CIDSet, and before a CMap
+-- how many objects are before a CIDSet, and before a CMap
 abbrev pub before_set : Bool → ℕ
 before_set has_map = 5 + length (when has_map CidToGidMap)
 
@@ -111,7 +111,7 @@ number_of first r CidToGidMap = r.cid_to_gid_map
 number_of first r CidSet = r.cid_set
 number_of first r Cmap = r.encoding
 
--- the numbers of objects, of which so many stand before
+-- the numbers of objects, after `before` others
 abbrev pub numbers : ℕ → ℕ → List Object → List ℕ
 numbers first before [] = []
 numbers first before (o ∷ os) = (first + before) ∷ numbers first (before + 1) os
@@ -129,7 +129,7 @@ abbrev pub objects_from : ℕ → List (List ℕ) → List (List ℕ)
 objects_from n [] = []
 objects_from n (value ∷ values) = object_text n value ∷ objects_from (n + 1) values
 
--- where each of some texts begins, of which so many bytes stand before
+-- where each of some texts begins, after `before` bytes
 abbrev pub offsets_from : ℕ → List (List ℕ) → List ℕ
 offsets_from before [] = []
 offsets_from before (t ∷ ts) = before ∷ offsets_from (before + length t) ts
@@ -143,7 +143,7 @@ font_objects first v = objects_from first (values_of v (references_from first v)
 
 -- ---- the law
 
--- from one offset of a text to another stands an object: its number, its value, and nothing else
+-- from one offset of a text to another there is an object: its number, its value, and nothing else
 pub record IsObjectAt (text : List ℕ) (offset end n : ℕ) (value : List ℕ) : Type 0 where
   pub before : List ℕ
   pub after : List ℕ
@@ -151,7 +151,7 @@ pub record IsObjectAt (text : List ℕ) (offset end n : ℕ) (value : List ℕ) 
   pub begins : length before ≡ offset
   pub ends : offset + length (object_text n value) ≡ end
 
--- each object stands from its offset to that of the next, or to the end of the text
+-- each object goes from its offset to that of the next, or to the end of the text
 abbrev pub AreAt : Type 0
 AreAt =
     (first : ℕ) (values : List (List ℕ)) (k : ℕ) → k < length values
@@ -159,7 +159,7 @@ AreAt =
     IsObjectAt (concat ts) (get_or (offsets_from 0 ts) k 0)
     (get_or (offsets_from 0 ts) (k + 1) (length (concat ts))) (first + k) (get_or values k [])
 
--- at the offsets stand the objects of a font
+-- the objects of a font are at the offsets
 abbrev pub AreFontObjectsAt : ℕ → FontValues → List ℕ → List ℕ → Type 0
 AreFontObjectsAt first v text offsets =
     (k : ℕ) → k < length (objects_of v)

@@ -27,7 +27,7 @@ abbrev pub are_distinct : List ℕ → Bool
 are_distinct [] = true
 are_distinct (n ∷ ns) = nat_lt 0 n && (not (is_listed ns n) && are_distinct ns)
 
--- numbers for so many objects (7.3.10)
+-- numbers for `count` objects (7.3.10)
 abbrev pub are_numbers : ℕ → List ℕ → Bool
 are_numbers count ns = length ns == count && are_distinct ns
 

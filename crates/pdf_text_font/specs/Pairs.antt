@@ -19,7 +19,7 @@ by_code pairs = zeroth ∷ drop 1 pairs
 abbrev pub use_of : ℕ → Used
 use_of g = record { glyph = g; units = [] }
 
--- the glyph that a figure wants in the subset, of a source with so many glyphs; an own one and a blank want glyph 0,
+-- the glyph that a figure wants in the subset, of a source with `count` glyphs; an own one and a blank want glyph 0,
 -- which each subset has
 abbrev pub glyph_of : ℕ → Figure → ℕ
 glyph_of count (Source g) = if nat_lt g count then g else 0
@@ -37,7 +37,7 @@ uses_of count ps parts = map (code_use count) ps ++ map part_use parts
 
 -- ---- by code
 
--- the own glyph with this number, of so many, or nothing
+-- the own glyph with this number, of `owns`, or nothing
 abbrev pub own_or_nothing : ℕ → ℕ → Drawing
 own_or_nothing owns k = if nat_lt k owns then Own k else Nothing
 

@@ -26,7 +26,7 @@ abbrev pub lines_from : ℕ → List Pair → List Line
 lines_from code [] = []
 lines_from code (p ∷ ps) = line_of code p ∷ lines_from (code + 1) ps
 
--- code 0 has none
+-- the lines of all codes but 0, which has no text
 abbrev pub lines_of : List Pair → List Line
 lines_of ps = lines_from 1 (drop 1 ps)
 

@@ -19,7 +19,7 @@ is_of Windows r = r.platform_id == 3
 is_of Unicode r = r.platform_id == 0
 is_of MacintoshRoman r = r.platform_id == 1 && r.encoding_id == 0
 
--- the string of the record at a place, if it is a name of a kind with this ID; strings stand in the storage
+-- the string of the record at a place, if it is a name of a kind with this ID; strings are in the storage
 abbrev pub string_at : Kind → ℕ → List ℕ → ℕ → ℕ → Option (List ℕ)
 string_at kind id name storage at =
     option_and_then (λ bytes. let r = name_record_of bytes in
@@ -32,7 +32,7 @@ string_from kind id name storage zero at = None
 string_from kind id name storage (suc n) at =
     option_or (string_at kind id name storage at) (string_from kind id name storage n (at + 12))
 
--- count stands at byte 2, storageOffset at byte 4, and the records after it
+-- count is at byte 2, storageOffset at byte 4, and the records after it
 abbrev pub string_of : Kind → ℕ → List ℕ → Option (List ℕ)
 string_of kind id name = do
   count ← number name 2 2
@@ -74,7 +74,7 @@ postscript_name name cff = or_else (table_name 6 name) (option_map_or plain_text
 abbrev pub IsNameText : List ℕ → Type 0
 IsNameText text = All (λ b. is_name_character b ≡ true) text
 
--- the string of one of so many records from a place on, and of none before it
+-- the string of one of the n records from a place on, and none before it has such a string
 pub record IsFirstString (kind : Kind) (id : ℕ) (name : List ℕ) (storage n at : ℕ) (string : List ℕ) : Type 0 where
   pub index : ℕ
   pub inside : index < n

@@ -22,7 +22,7 @@ abbrev pub here_or_after : Option FirstOperator → (List ℕ → Option FirstOp
 here_or_after here following None = here
 here_or_after here following (Some r) = following r.1
 
--- after so many numbers, and fewer than so many more
+-- the first operator, after `operands` numbers, and fewer than n more
 unfoldable pub first_operator : ℕ → ℕ → List ℕ → Option FirstOperator
 first_operator zero operands bytes = None
 first_operator (suc left) operands bytes =

@@ -61,7 +61,7 @@ below_zero word = option_and_then (λ d. fixed (neg_ℤ (pos (d.count * 65536)))
 abbrev pub above_zero : List ℕ → Option ℤ
 above_zero word = option_and_then (λ d. fixed (pos (d.count * 65536)) d.parts) (size_in word)
 
--- a minus may stand first, and nowhere else
+-- a minus may be first, and nowhere else
 abbrev pub with_minus : List ℕ → List ℕ → Option ℤ
 with_minus front following = if length front == 0 then below_zero following else None
 

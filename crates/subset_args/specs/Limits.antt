@@ -5,7 +5,7 @@ use Rattle.std.specs.List.{before_first, after_first, list_any}
 use Rattle.subset_args.specs.Words.{number_in_bits}
 use Rattle.subset_args.specs.declared.limits.RunLimits.{RunLimits}
 
--- so many tokens, and so deep; and so many bytes, if these have a bound
+-- the limits on tokens and on depth; and the bound on bytes, if there is one
 pub record Bounds : Type 0 where
   pub tokens : ℕ
   pub depth : ℕ

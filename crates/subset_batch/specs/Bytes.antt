@@ -31,7 +31,7 @@ following b (x ∷ bytes) = if x == b then Some bytes else None
 
 -- ---- escapes (section 7)
 
--- what a letter after a backslash stands for: \" \\ \/ \b \f \n \r \t
+-- the byte that a letter after a backslash means: \" \\ \/ \b \f \n \r \t
 unfoldable pub escaped : ℕ → Option ℕ
 escaped e =
     if e == 34 then Some 34

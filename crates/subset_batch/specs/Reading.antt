@@ -12,7 +12,8 @@ use Rattle.subset_batch.specs.Numbers.{is_number}
 use Rattle.subset_batch.specs.Words.{request_words}
 use Rattle.subset_batch.specs.Members.{Value, absent, present, text, texts, Member, kind_of, fits, repeated}
 
--- what is wrong: something else is expected or a name isn't known, with so many bytes left, or two members have a name
+-- what is wrong: something else is expected or a name isn't known, with the number of bytes left, or two members have a
+-- name
 pub data Fault : Type 0 where
   expected : Wanted → ℕ → Fault
   unknown : List ℕ → ℕ → Fault

@@ -3,7 +3,7 @@ use Rattle.std.specs.Prelude.{ℕ, ◌+◌, ◌*◌, ◌/◌, ◌%◌, ◌^◌, 
 use Rattle.std.specs.Prelude.{decimal, ℤ, pos, int_lt, unsigned_abs}
 use Rattle.std.specs.Fmt.{digits, padded_integral, format_spec}
 
--- at least so many digits
+-- at least `width` digits
 abbrev pub padded : ℕ → ℕ → List ℕ
 padded width n = padded_integral (format_spec 32 0 4 width (2 ^ 64 - 1)) false [] (digits 10 false n)
 

@@ -1,4 +1,4 @@
--- What a value of the code stands for.
+-- What a value of the code means.
 use Rattle.std.specs.Prelude.{map}
 use Rattle.subset_lines.specs.Text.{Numbers}
 use Rattle.subset_lines.specs.declared.entry.Numbering.{Numbering}

@@ -45,7 +45,7 @@ fault_of TextTooLong = TooLong
 
 -- ---- glyphs in use by their codes
 
--- what `pdf_font` answers
+-- what `pdf_font` returns
 abbrev pub IsFontFor : List ℕ → PdfRequest → List Shown → PdfFont → Type 0
 IsFontFor bytes request shown font =
     IsPdfFont (font_of bytes request.index (options_of request))
@@ -56,7 +56,7 @@ pub record IsCodedSheet (bytes : List ℕ) (request : PdfRequest) (shown : List 
   pub font : IsFontFor bytes request shown sheet.font
   pub file : IsSheetOfFont sheet.font shown request.layout sheet.file.items
 
--- a fault for which `pdf_font` answers nothing
+-- a fault for which `pdf_font` returns no font
 abbrev pub HasFaultFor : List ℕ → PdfRequest → List Shown → SheetError → Type 0
 HasFaultFor bytes request shown why =
     (order : List ℕ)
@@ -74,7 +74,7 @@ pub data HasCodedFault (bytes : List ℕ) (request : PdfRequest) (shown : List S
 
 -- ---- glyphs as the line of a text
 
--- what `text_font` answers for a line, without own glyphs
+-- what `text_font` returns for a line, without own glyphs
 abbrev pub IsTextFor : List ℕ → PdfRequest → Line → TextFont → Type 0
 IsTextFor bytes request line text =
     IsTextFont (font_of bytes request.index (options_of request)) request.at.now

@@ -1,4 +1,4 @@
--- What can stand against a subset, under the name of the error that it is answered by.
+-- The faults that stop a subset, each with its error.
 use Rattle.std.specs.Prelude.{◌≡◌, ◌≤◌, ◌^◌, ℕ, List, codes, length, false, Some, Ok}
 use Rattle.subsetter_base.specs.declared.error.Error.{Error}
 use Rattle.subsetter_base.specs.declared.error.Error.TheVariants.{OverflowError}
@@ -19,7 +19,7 @@ use Rattle.subsetter.specs.Glyf.Plain.{kept_all}
 use Rattle.subsetter.specs.Glyf.Reaching.Reach.{IsReachable, IsGlyphOrder}
 use Rattle.subsetter.specs.Glyf.Written.{is_long, glyf_bytes}
 
--- a fault stands in a font, for a list of glyphs; the size limits are judged for an order of the new font's glyphs, and
+-- a fault of a font, for a list of glyphs; the size limits are judged for an order of the new font's glyphs, and
 -- charstrings are run within two limits
 pub data HasFault (tokens depth : ℕ) (font : Font) (glyphs order : List ℕ) : Error → Type 0 where
   -- no known kind, a bad collection, a cut directory, or no outlines that are known

@@ -9,8 +9,8 @@ use Rattle.subsetter.specs.Bound.{IsWithin, HasFaultWithin, HasNoAnswerWithin}
 use Rattle.subsetter.specs.Fault.{HasFault}
 use Rattle.subsetter.specs.Subset.{IsSubset}
 
--- for these glyphs of a font, where a run has so many tokens and goes so deep, and the new font has at most so many
--- bytes; `file` gives the bytes of what is returned
+-- for these glyphs of a font, where a run takes at most `tokens` tokens and goes at most `depth` deep, and the new font
+-- has at most `bound` bytes; `file` gives the bytes of what is returned
 pub record IsPromised {X : Type 0} (file : X → List ℕ) (bound : Option ℕ)
     (tokens depth : ℕ) (font : Font) (glyphs : List ℕ)
     (result : Result X Error) : Type 0 where
@@ -19,7 +19,7 @@ pub record IsPromised {X : Type 0} (file : X → List ℕ) (bound : Option ℕ)
   pub exact : IfOk result (λ x. IsAnswer tokens depth font glyphs (file x))
   -- and has no more bytes than it may have
   pub within : IfOk result (λ x. IsWithin bound (file x))
-  -- what is refused has a fault of that name, or the bound is set and every answer passes it
+  -- what is refused has a fault with that error, or the bound is set and every answer passes it
   pub err :
       IfErr result (λ e. (e ≡ OutOfMemory) ⊎ ((order : List ℕ) × HasFaultWithin bound tokens depth font glyphs order e))
   -- and, unless memory ran out, there is no answer within these limits

@@ -1,4 +1,4 @@
--- What the code's tables of a new font stand for.
+-- What the code's tables of a new font mean.
 use Rattle.std.specs.Prelude.{ℕ, List}
 use Rattle.subsetter_cff.specs.Write.Laying.TableBy.{table_bytes as piece_bytes}
 use Rattle.subsetter.specs.declared.tables.TableData.{TableData}

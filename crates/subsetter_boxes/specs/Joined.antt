@@ -4,7 +4,7 @@ use Rattle.std.specs.Int.{int_max, int_min}
 use Rattle.std.specs.List.{fold}
 use Rattle.subsetter_points.specs.declared.bounds.Bounds.{Bounds}
 
--- around two
+-- the least box around two
 abbrev pub around : Bounds → Bounds → Bounds
 around a b =
     record {

@@ -62,6 +62,6 @@ abbrev pub explained_text : Call → ℕ → List ℕ → ℕ → List (Tag × �
 explained_text call status font index settings glyphs words =
     text_of (reason_by status (question call index settings glyphs words) index font)
 
--- the bytes of a text that is answered
+-- the bytes of a text that is returned
 abbrev pub IsTextAnswered : Result (String Global) Error → List ℕ → Type 0
 IsTextAnswered answer bytes = (text : String Global) × (answer ≡ Ok text) × (string_bytes text ≡ bytes)

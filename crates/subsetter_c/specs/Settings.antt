@@ -28,13 +28,13 @@ setting coordinate = (record { 0 = to_be_bytes w32 coordinate.tag }, coordinate.
 abbrev pub settings_of : List Coordinate → List (Tag × ℤ)
 settings_of coordinates = map setting coordinates
 
--- what is answered for glyph 0 and the given glyphs, as they are at these settings
+-- what is returned for glyph 0 and the given glyphs, as they are at these settings
 pub record IsSoundSubsetAt (bound : Option ℕ) (tokens depth : ℕ) (font : Font) (settings : List (Tag × ℤ))
     (glyphs out : List ℕ) : Type 0 where
   -- a subset of the font as it is, at its default, or else of its instance, or of the font with outlines in `CFF ` that
-  -- is made of outlines in CFF2, where no fault stands in them
+  -- is made of outlines in CFF2, where they have no fault
   pub answer : IsAnswerAt tokens depth font settings (numbering glyphs) out
-  -- whatever is answered for the same settings and glyphs, within these limits or others, is these bytes
+  -- any answer for the same settings and glyphs, within these limits or others, is these bytes
   pub same : IsTheAnswerAt font settings (numbering glyphs) out
   -- elsewhere than at its default it has these glyphs and no other, each as it is drawn there, read afresh
   pub drawn : ¬ (IsAtDefault (whole font) settings) → HasGlyphsDrawn (whole font) settings (numbering glyphs) out
@@ -44,7 +44,7 @@ pub record IsSoundSubsetAt (bound : Option ℕ) (tokens depth : ℕ) (font : Fon
   -- no longer than it may be
   pub within : IsWithin bound out
 
--- what can stand against it within a bound, but for want of memory
+-- its faults within a bound, but for want of memory
 pub data HasCallFaultAt (bound : Option ℕ) (tokens depth : ℕ) (font : Font) (settings : List (Tag × ℤ))
     (glyphs : List ℕ) : Error → Type 0 where
   -- the glyphs leave no number for glyph 0
@@ -52,7 +52,7 @@ pub data HasCallFaultAt (bound : Option ℕ) (tokens depth : ℕ) (font : Font) 
   in_subset : {e : Error} → (order : List ℕ) → HasFaultAt bound tokens depth font settings (numbering glyphs) order e
       → HasCallFaultAt bound tokens depth font settings glyphs e
 
--- why no subset is answered: memory ran out, or a fault stands, and then no call answers one
+-- why no subset is returned: memory ran out, or there is a fault, and then no call returns one
 abbrev pub IsRefusalAt : Option ℕ → ℕ → ℕ → Font → List (Tag × ℤ) → List ℕ → Error → Type 0
 IsRefusalAt bound tokens depth font settings glyphs e =
     IsOutOfMemory (HasOpeningFaultAt font) e
@@ -73,13 +73,13 @@ IsSubsetMadeAt bound tokens depth font settings glyphs =
 
 -- ---- with CIDs and widths
 
--- what is answered, as it is at these settings
+-- what is returned, as it is at these settings
 pub record IsSoundEmbeddingAt (bound : Option ℕ) (tokens depth : ℕ) (font : Font) (settings : List (Tag × ℤ))
     (glyphs : List ℕ) (e : Embedded) : Type 0 where
   -- an embedding of the font as it is, at its default, or else of its instance, or of the font with outlines in `CFF `
-  -- that is made of outlines in CFF2, where no fault stands in them
+  -- that is made of outlines in CFF2, where they have no fault
   pub answer : IsEmbeddingAnswerAt tokens depth font settings glyphs e
-  -- whatever is answered for the same settings and glyphs, within these limits or others, is these three lists
+  -- any answer for the same settings and glyphs, within these limits or others, is these three lists
   pub same : (more deeper : ℕ) (other : Embedded) → IsEmbeddingAnswerAt more deeper font settings glyphs other
       → lists_of e ≡ lists_of other
   -- elsewhere than at its default its font has these glyphs and no other, each as it is drawn there, read afresh
@@ -91,7 +91,7 @@ pub record IsSoundEmbeddingAt (bound : Option ℕ) (tokens depth : ℕ) (font : 
   -- its font is no longer than it may be
   pub within : IsWithin bound e.font.items
 
--- why nothing is answered: memory ran out, or a fault stands, and then no call answers anything
+-- why nothing is returned: memory ran out, or there is a fault, and then no call returns anything
 abbrev pub IsEmbeddingRefusalAt : Option ℕ → ℕ → ℕ → Font → List (Tag × ℤ) → List ℕ → Error → Type 0
 IsEmbeddingRefusalAt bound tokens depth font settings glyphs why =
     IsOutOfMemory (HasOpeningFaultAt font) why

@@ -1,4 +1,4 @@
--- What can stand against a table at coordinates, under the name of the error that it is answered by (OpenType, "CFF2").
+-- The faults that stop a table at coordinates, each with its error (OpenType, "CFF2").
 use Rattle.std.specs.Prelude.{◌≡◌, ◌<◌, ◌≤◌, ◌+◌, ◌^◌, ℕ, pos, true, List, length, slice_get, Option, Some, None, Ok}
 use Rattle.std.specs.Prelude.{Err}
 use Rattle.std.specs.List.{concat}
@@ -120,13 +120,13 @@ pub data HasFault (bytes : List ℕ) (r : Request) (tokens depth : ℕ) : Error 
   in_limits : {e : Error} (o : Opened) → opened bytes r ≡ Ok o → HasLimitFault o.cff o.variation r tokens depth e
       → HasFault bytes r tokens depth e
 
--- what is refused has a fault of that name
+-- what is refused has a fault with that error
 abbrev pub RefusedHasFault : Type 0
 RefusedHasFault =
     (bytes : List ℕ) (r : Request) (tokens depth : ℕ) (e : Error) → made_table bytes r tokens depth ≡ Err e
     → HasFault bytes r tokens depth e
 
--- where a table is made, no fault stands
+-- where a table is made, there is no fault
 abbrev pub MadeExcludes : Type 0
 MadeExcludes =
     (bytes : List ℕ) (r : Request) (tokens depth : ℕ) (out : List ℕ) (e : Error)

@@ -1,4 +1,4 @@
--- The plain way to make a CFF table of a CFF2 table at coordinates: its parts, with the error that is answered where
+-- The plain way to make a CFF table of a CFF2 table at coordinates: its parts, with the error that is returned where
 -- they can't be made.
 use Rattle.std.specs.Prelude.{ℕ, ◌+◌, nat_lt, min, Bool, is_some, ℤ, pos, List, [], ◌∷◌, length, map, slice_get}
 use Rattle.std.specs.Prelude.{unwrap_or, Option, Some, None, Result, Ok}

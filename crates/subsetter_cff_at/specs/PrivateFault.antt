@@ -1,5 +1,4 @@
--- What can stand against a private dict at coordinates, under the name of the error that it is answered by (OpenType,
--- "CFF2": "Private DICT Data").
+-- The faults of a private dict at coordinates, each with its error (OpenType, "CFF2": "Private DICT Data").
 use Rattle.std.specs.Prelude.{◌≡◌, ℕ, ◌<◌, ◌+◌, ◌-◌, ◌*◌, ℤ, true, List, ◌∷◌, length, take, Option, Some, None, Ok}
 use Rattle.std.specs.List.{list_any}
 use Rattle.subsetter_base.specs.declared.error.Error.{Error}

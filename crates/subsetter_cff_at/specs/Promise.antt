@@ -45,7 +45,7 @@ pub record DrawsGlyph (cff : Cff2) (v : Option Variation) (tokens depth glyph ad
   pub trace_is : (n deep : ℕ) → 1 ≤ deep → cost (written_events drawn.written.whole) ≤ n
       → glyph_trace out n deep glyph ≡ Some (record { events = written_events drawn.written.whole; left = [] })
 
--- the new table
+-- the new CFF table, of a CFF2 table at coordinates
 pub record IsTableAt (bytes : List ℕ) (r : Request) (tokens depth : ℕ) (out : List ℕ) : Type 0 where
   pub source : Cff2
   pub source_is : cff2_parts bytes (length r.at) ≡ Some source

@@ -1,5 +1,5 @@
--- What can stop a glyph's charstring, under the name of the error that it is answered by (OpenType, "CFF2 CharString
--- Format"; Technical Note 5177, sections 3 and 4).
+-- What can stop a glyph's charstring, each fault with its error (OpenType, "CFF2 CharString Format"; Technical Note
+-- 5177, sections 3 and 4).
 use Rattle.std.specs.Prelude.{◌≡◌, ◌≢◌, ℕ, zero, suc, ◌<◌, ◌≤◌, ◌+◌, ◌*◌, ◌/◌, ℤ, true, false, List, [], ◌∷◌, length}
 use Rattle.std.specs.Prelude.{Option, Some, None, Ok}
 use Rattle.std.specs.Option.{option_and_then}
@@ -24,7 +24,7 @@ use Rattle.subsetter_blend.specs.Writing.Taking.{Event}
 use Rattle.subsetter_blend.specs.Writing.Written.{Fitted, fitted, fitted_piece, fitted_start, start_point, may_begin}
 use Rattle.subsetter_blend.specs.Writing.Written.{width}
 
--- ---- an operator, where these bytes stand after it
+-- ---- an operator, with the bytes after it
 pub data HasOperatorFault (setting : Setting) (operator : Operator) (rest : List ℕ) (r : Registers)
     : Error → Type 0 where
   -- CFF2 has no such operator, as return and endchar
@@ -106,7 +106,7 @@ pub data HasEventFault (event : Event) (f : Fitted) : Error → Type 0 where
   far : may_begin f.pen.advance event.operator.0 ≡ true → IsFar (split (length (width f.pen.advance)) (opened event)) f
       → HasEventFault event f OverflowError
 
--- ---- the run, from a state in which so many tokens are left
+-- ---- the run, from a state, with the number of tokens that are left
 pub data HasRunFault (setting : Setting) (depth : ℕ) : ℕ → Fitted → State → Error → Type 0 where
   -- an operand is left at the end
   left_operand : (tokens : ℕ) (f : Fitted) (state : State) → unended state.rests ≡ []

@@ -49,12 +49,12 @@ pub record IsPut (old new : Texts) (text : Option (List ℕ)) : Type 0 where
   pub boxes : new.boxes.items ≡ old.boxes.items ++ charstring_box (filled text) ∷ []
   pub requested : new.requested ≡ counted_with old.requested text
 
--- texts before what is answered
+-- texts before those of a result
 abbrev pub with_texts : List (Option (List ℕ)) → Result (List (Option (List ℕ))) Error
     → Result (List (Option (List ℕ))) Error
 with_texts front read = read >>= λ more. Ok (front ++ more)
 
--- numbers before what is answered
+-- numbers before those of a result
 abbrev pub with_numbers : List (Option ℕ) → Result (List (Option ℕ)) Error → Result (List (Option ℕ)) Error
 with_numbers front read = read >>= λ more. Ok (front ++ more)
 

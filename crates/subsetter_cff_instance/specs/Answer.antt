@@ -1,4 +1,4 @@
--- What is answered for a font, settings of its user coordinates, glyphs and limits.
+-- The answer for a font, settings of its user coordinates, glyphs and limits.
 use Rattle.std.specs.Prelude.{◌≡◌, ◌≢◌, ◌⊎◌, ℕ, List, Option, Ok, Err, ℤ}
 use Rattle.subsetter_base.specs.Gives.{Fails}
 use Rattle.subsetter_base.specs.Within.{IsTooLong}
@@ -13,18 +13,18 @@ use Rattle.subsetter_cff_instance.specs.Fault.{HasCffInstanceFault}
 use Rattle.subsetter_cff_instance.specs.Plain.{Prepared, prepared, request_at, cff_instance_in, cff_instance_of}
 use Rattle.subsetter_cff_instance.specs.Plain.{charstrings_in, charstrings_of}
 
--- a static font, where no fault stands within these limits
+-- a static font, where there is no fault within these limits
 pub record IsCffAnswer (font : Font) (settings : List (Tag × ℤ)) (glyphs : List ℕ) (tokens depth : ℕ) (file : List ℕ)
     : Type 0 where
   pub instance : IsCffInstance font settings glyphs file
   pub clean : (e : Error) → ¬ (HasCffInstanceFault font settings glyphs tokens depth e)
 
--- nothing is answered for these glyphs within these limits
+-- there is no answer for these glyphs within these limits
 abbrev pub HasNoCffAnswer : Font → List (Tag × ℤ) → List ℕ → ℕ → ℕ → Type 0
 HasNoCffAnswer font settings glyphs tokens depth =
     (file : List ℕ) → ¬ (IsCffAnswer font settings glyphs tokens depth file)
 
--- whatever is answered for the same glyphs, within whatever limits, is these bytes
+-- any answer for the same glyphs, within whatever limits, is these bytes
 abbrev pub IsTheCffAnswer : Font → List (Tag × ℤ) → List ℕ → List ℕ → Type 0
 IsTheCffAnswer font settings glyphs file =
     (tokens depth : ℕ) (other : List ℕ) → IsCffAnswer font settings glyphs tokens depth other → file ≡ other
@@ -34,15 +34,15 @@ abbrev pub PassesBound : Font → List (Tag × ℤ) → List ℕ → ℕ → ℕ
 PassesBound font settings glyphs tokens depth bound e =
     (e ≡ OverflowError) × IsTooLong bound drawn_size (charstrings_of font settings glyphs tokens depth)
 
--- a fault of the new `CFF ` stands, of the tables that a look-up finds
+-- there is a fault of the new `CFF `, of the tables that a look-up finds
 pub record HasTableFault (find : List ℕ → Option (List ℕ)) (cff2 : List ℕ) (settings : List (Tag × ℤ)) (glyphs : List ℕ)
     (tokens depth : ℕ) (e : Error) : Type 0 where
   pub p : Prepared
   pub prepared_is : prepared find settings glyphs ≡ Ok p
   pub fault : HasFault cff2 (request_at glyphs p) tokens depth e
 
--- why the static font of these tables isn't made: memory ran out, the plain way says so, a fault of the new `CFF `
--- stands, or its charstrings pass the bound on bytes
+-- why the static font of these tables isn't made: memory ran out, the plain way says so, there is a fault of the new
+-- `CFF `, or its charstrings pass the bound on bytes
 abbrev pub FailsInstance : (List ℕ → Option (List ℕ)) → List ℕ → List (Tag × ℤ) → List ℕ → ℕ → ℕ → Option ℕ → Error
     → Type 0
 FailsInstance find cff2 settings glyphs tokens depth bound e =

@@ -1,4 +1,4 @@
--- What can stand against a static font, under the name of the error that it is answered by.
+-- The faults that stop a static font, each with its error.
 use Rattle.std.specs.Prelude.{◌≡◌, ◌≤◌, ◌<◌, ℕ, List, length, codes, false, Contains, Option, None, IsSome, Ok, Some, ℤ}
 use Rattle.std.specs.Prelude.{pos}
 use Rattle.subsetter_base.specs.declared.tag.Tag.{Tag}
@@ -49,7 +49,7 @@ pub data HasGlyphFault (s : Source) (at : List ℤ) (g : ℕ) : Error → Type 0
       → HasAdvanceFault s.hvar at g m.advance_width (pos 0) e
       → HasGlyphFault s at g e
 
--- a fault stands in a font, for settings and glyphs, each of whose charstrings may take so many tokens and go so deep
+-- a fault of a font, for settings and glyphs, each of whose charstrings may take `tokens` tokens and go `depth` deep
 pub data HasCffInstanceFault (font : Font) (settings : List (Tag × ℤ)) (glyphs : List ℕ) (tokens depth : ℕ)
     : Error → Type 0 where
   -- the directory, or the kind of the outlines

@@ -60,6 +60,6 @@ no_metric = record { advance_width = 0; lsb = 0 }
 abbrev pub filled : List (Option LongHorMetric) → List LongHorMetric
 filled all = map (λ m. unwrap_or m no_metric) all
 
--- the greatest advance
+-- advanceWidthMax: the greatest advance
 abbrev pub widest : List LongHorMetric → ℕ
 widest metrics = fold max 0 (map (λ m. m.advance_width) metrics)

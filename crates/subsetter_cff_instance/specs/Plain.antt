@@ -1,4 +1,4 @@
--- The plain way to a static font, with the error that is answered where something stands against it.
+-- The plain way to a static font, with the error that is returned where it is refused.
 use Rattle.std.specs.Prelude.{ℕ, List, Option, Result, Ok, ℤ}
 use Rattle.subsetter_base.specs.Bytes.{◌>>=◌}
 use Rattle.subsetter_base.specs.declared.tag.Tag.{Tag}
@@ -56,7 +56,7 @@ charstrings_in find cff2 settings glyphs tokens depth =
     prepared find settings glyphs >>= λ p. drawn_of cff2 (request_at glyphs p) tokens depth
 
 -- ---- of a font at settings of its user coordinates, for glyphs, each of whose charstrings
--- may take so many tokens and go so deep
+-- may take `tokens` tokens and go `depth` deep
 
 unfoldable pub cff_instance_of : Font → List (Tag × ℤ) → List ℕ → ℕ → ℕ → Result (List ℕ) Error
 cff_instance_of font settings glyphs tokens depth = do

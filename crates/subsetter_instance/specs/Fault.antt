@@ -1,4 +1,4 @@
--- What can stand against an instance, under the name of the error that it is answered by.
+-- The faults that stop an instance, each with its error.
 use Rattle.std.specs.Prelude.{◌≡◌, ◌≤◌, ℕ, List, length, codes, false, Contains, None, IsSome, Ok, Some, ℤ, ◌-ℤ◌}
 use Rattle.subsetter_base.specs.declared.tag.Tag.{Tag}
 use Rattle.subsetter_base.specs.declared.error.Error.{Error}
@@ -23,7 +23,7 @@ use Rattle.subsetter_instance.specs.Plain.{drawn_all}
 use Rattle.subsetter_instance.specs.Tables.Lines.{Lines, lines_of, with_lines}
 use Rattle.subsetter_instance.specs.Tables.Written.{by_glyph, tables}
 
--- a fault of one glyph of the tables at a place, in so many steps
+-- a fault of one glyph of the tables at a place, in `steps` steps
 pub data HasGlyphFault (s : Source) (at : List ℤ) (steps g : ℕ) : Error → Type 0 where
   -- maxp has fewer glyphs
   no_glyph : s.count ≤ g → HasGlyphFault s at steps g MalformedFont
@@ -44,7 +44,7 @@ pub data HasGlyphFault (s : Source) (at : List ℤ) (steps g : ℕ) : Error → 
       → points_or_fault u.0.left u.0.on u.0.xs u.0.ys ≡ Ok points → parts_fit u.0.ends points ≡ false
       → HasGlyphFault s at steps g OverflowError
 
--- a fault stands in a font, for settings, glyphs and steps
+-- a fault of a font, for settings, glyphs and steps
 pub data HasInstanceFault (font : Font) (settings : List (Tag × ℤ)) (glyphs : List ℕ) (steps : ℕ) : Error → Type 0 where
   in_opening : {e : Error} → HasOpeningFault font e → HasInstanceFault font settings glyphs steps e
   -- outlines of CFF

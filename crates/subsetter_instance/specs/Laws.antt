@@ -1,4 +1,4 @@
--- What is answered is an instance, and the only one; what is refused has a fault. The box of its header is the least
+-- What is returned is an instance, and the only one; what is refused has a fault. The box of its header is the least
 -- one.
 use Rattle.std.specs.Prelude.{◌≡◌, ℕ, List, ◌∷◌, length, Some, None, Ok, Err, All, ℤ, pos, ◌↔◌}
 use Rattle.std.specs.List.{flat_map}
@@ -34,21 +34,21 @@ IsSameAtAnySteps =
     → instance_of font settings glyphs steps ≡ Ok file → instance_of font settings glyphs more ≡ Ok other
     → file ≡ other
 
--- an error is the name of a fault that stands
+-- an error is that of a fault
 abbrev pub HasFaultWhereRefused : Type 0
 HasFaultWhereRefused =
     (font : Font) (settings : List (Tag × ℤ)) (glyphs : List ℕ) (steps : ℕ) (e : Error)
     → instance_of font settings glyphs steps ≡ Err e
     → HasInstanceFault font settings glyphs steps e
 
--- where there is a file no fault stands
+-- where there is a file, there is no fault
 abbrev pub HasNoneWhereAnswered : Type 0
 HasNoneWhereAnswered =
     (font : Font) (settings : List (Tag × ℤ)) (glyphs : List ℕ) (steps : ℕ) (file : List ℕ)
     → instance_of font settings glyphs steps ≡ Ok file → (e : Error)
     → ¬ (HasInstanceFault font settings glyphs steps e)
 
--- a glyph with its components isn't unfolded exactly where it has a fault, under its name
+-- a glyph with its components isn't unfolded exactly where it has a fault, with the fault's error
 abbrev pub AreFaultsNamed : Type 0
 AreFaultsNamed =
     (s : Source) (at : List ℤ) (depth steps g : ℕ) (e : Error)
@@ -58,8 +58,8 @@ AreFaultsNamed =
 abbrev pub unvaried : Source → Source
 unvaried s = record s { gvar = None }
 
--- at the default a glyph, its components unrolled, is as it stands in the source: as without variations, if each tuple
--- has an axis that isn't ignored
+-- at the default a glyph, its components unrolled, is as it is in the source: as without variations, if each tuple has
+-- an axis that isn't ignored
 abbrev pub IsDrawnAsInSource : Type 0
 IsDrawnAsInSource =
     (s : Source) (at : List ℤ) (depth steps more g : ℕ) (u v : Unfolded × ℕ) → All (λ c. c ≡ pos 0) at

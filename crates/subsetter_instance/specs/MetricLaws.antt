@@ -25,7 +25,7 @@ pub record IsRow (s : Store) (index : ℕ × ℕ) (r : Row) : Type 0 where
   pub varies : (index.0 == 65535 && index.1 == 65535) ≡ false
   pub row_is : item_row s index.0 index.1 ≡ Some r
 
--- in HVAR, in a font of so many axes, the row of a glyph's advance
+-- in HVAR, in a font with `axes` axes, the row of a glyph's advance
 pub record IsAdvanceRow (hvar : List ℕ) (axes g : ℕ) (s : Store) (r : Row) : Type 0 where
   pub store_is : store_of hvar axes ≡ Some s
   pub index : ℕ × ℕ
@@ -81,7 +81,7 @@ IsMetricAtDefault =
     → varied mvar at tag before ≡ Ok v
     → v ≡ before
 
--- at the default hhea, which isn't cut, and post are as they stand in the source
+-- at the default hhea, which isn't cut, and post are as they are in the source
 abbrev pub AreLinesAtDefault : Type 0
 AreLinesAtDefault =
     (find : List ℕ → Option (List ℕ)) (settings : List (Tag × ℤ)) (at : List ℤ) (l : Lines)

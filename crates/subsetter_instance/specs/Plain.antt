@@ -1,4 +1,4 @@
--- The plain way to an instance, with the error that is answered where something stands against it.
+-- The plain way to an instance, with the error that is returned where it is refused.
 use Rattle.std.specs.Prelude.{ℕ, List, [], ◌∷◌, length, codes, Option, Result, Ok, Err, nat_lt, if◌then◌else◌, ℤ}
 use Rattle.std.specs.Option.{ok_or}
 use Rattle.subsetter_base.specs.Bytes.{◌>>=◌}
@@ -52,7 +52,7 @@ abbrev pub by_flavor : FontFlavor → (List ℕ → Option (List ℕ)) → List 
 by_flavor TrueType find settings glyphs steps = instance_in find settings glyphs steps
 by_flavor Cff find settings glyphs steps = Err Unimplemented
 
--- the instance of a font at settings of its user coordinates, for glyphs and in so many steps for each
+-- the instance of a font at settings of its user coordinates, for glyphs and in at most `steps` steps for each
 unfoldable pub instance_of : Font → List (Tag × ℤ) → List ℕ → ℕ → Result (List ℕ) Error
 instance_of font settings glyphs steps = do
   records ← opened font

@@ -46,7 +46,7 @@ variations_in (Some bytes) axes = do
   t ← gvar_table bytes
   if t.axis_count == axes then Some (Some t) else None
 
--- the tables that a look-up finds, for so many axes: loca is long where indexToLocFormat isn't 0
+-- the tables that a look-up finds, for `axes` axes: loca is long where indexToLocFormat isn't 0
 unfoldable pub source_in : (List ℕ → Option (List ℕ)) → ℕ → Option Source
 source_in find axes = do
   glyf ← find (codes "glyf")
@@ -81,13 +81,13 @@ abbrev pub source_or_fault : (List ℕ → Option (List ℕ)) → ℕ → Result
 source_or_fault find axes =
     if has_other_version find then Err Unimplemented else ok_or (source_in find axes) MalformedFont
 
--- gvar, if there is one, has so many axes
+-- gvar, if there is one, has `axes` axes
 abbrev pub HasAxes : Option Gvar → ℕ → Type 0
 HasAxes gvar axes = IfSome gvar (λ t. axes ≡ t.axis_count)
 
 -- ---- a glyph
 
--- an offset of loca
+-- the offset of loca with this number
 abbrev pub offset : Source → ℕ → Option ℕ
 offset s g = loca_offset s.loca s.long g
 

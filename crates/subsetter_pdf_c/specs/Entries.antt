@@ -14,7 +14,7 @@ abbrev pub are_ascending : ℕ → List ℕ → ℕ → Bool
 are_ascending last [] bound = nat_le last bound
 are_ascending last (end ∷ ends) bound = nat_le last end && are_ascending end ends bound
 
--- so many glyphs have texts
+-- `count` glyphs have texts
 abbrev pub are_texts : ℕ → List ℕ → List ℕ → Bool
 are_texts count text ends = count == length ends && (are_scalars text && are_ascending 0 ends (length text))
 

@@ -13,7 +13,7 @@ use Rattle.subsetter_pdf_c.specs.declared.made.PdfNumbers.{PdfNumbers}
 abbrev pub kind_of : ℕ → ProgramKind
 kind_of n = if n == 0 then TrueType else if n == 1 then BareCff else OpenType
 
--- 0 stands for no value
+-- 0 means no value
 abbrev pub unless_zero : {A : Type 0} → ℕ → A → Option A
 unless_zero n value = if n == 0 then None else Some value
 

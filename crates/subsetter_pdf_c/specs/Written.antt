@@ -90,7 +90,7 @@ laid_view p =
       stream = p.stream.now;
     }
 
--- how many there are
+-- how many objects a font has
 pub record IsPartCount (made : PdfMade) (glyph_map : List ℕ) (count : ℕ) : Type 0 where
   pub view : FontView
   pub is : IsViewOf made glyph_map view
@@ -102,7 +102,7 @@ pub record ArePartsOf (made : PdfMade) (glyph_map numbers : List ℕ) (ps : List
   pub is : IsViewOf made glyph_map view
   pub parts : map laid_view ps ≡ map laid_out (parts_of_values view.values numbers)
 
--- why there are none
+-- why there are no objects
 pub record HasNoPartsOf (made : PdfMade) (glyph_map numbers : List ℕ) (e : PartsError) : Type 0 where
   pub view : FontView
   pub is : IsViewOf made glyph_map view

@@ -29,19 +29,19 @@ has_16_bits (negsuc n) = nat_lt n 0x8000
 
 -- ---- what bytes begin with, and the bytes after it
 
--- uint8
+-- the next uint8, and the bytes after it
 abbrev pub byte : List ℕ → Option (ℕ × List ℕ)
 byte bytes = do
   n ← number bytes 0 1
   Some (n, drop 1 bytes)
 
--- uint16
+-- the next uint16, and the bytes after it
 abbrev pub word : List ℕ → Option (ℕ × List ℕ)
 word bytes = do
   n ← number bytes 0 2
   Some (n, drop 2 bytes)
 
--- the bytes after so many, if these are there
+-- the bytes after the first `size`, if these are there
 abbrev pub after : ℕ → List ℕ → Option (List ℕ)
 after size bytes = if nat_le size (length bytes) then Some (drop size bytes) else None
 
@@ -53,8 +53,8 @@ end_at from bytes = do
   end ← word bytes
   if nat_le from end.0 then Some end else None
 
--- the last points of so many contours, in increasing order: the first point of each contour follows the last one of
--- the contour before it
+-- the last points of n contours, in increasing order: the first point of each contour follows the last one of the
+-- contour before it
 unfoldable pub ends : ℕ → ℕ → List ℕ → Option (List ℕ × List ℕ)
 ends zero from bytes = Some ([], bytes)
 ends (suc n) from bytes = do
@@ -91,7 +91,7 @@ abbrev pub next : Run → List ℕ → Option (Run × List ℕ)
 next run bytes =
     if run.repeats == 0 then run_at bytes else Some (record { flag = run.flag; repeats = run.repeats - 1 }, bytes)
 
--- the flags of so many points; none is repeated past the last point
+-- the flags of n points; none is repeated past the last point
 unfoldable pub flags : ℕ → Run → List ℕ → Option (List ℕ × List ℕ)
 flags zero run bytes = if run.repeats == 0 then Some ([], bytes) else None
 flags (suc n) run bytes = do
@@ -243,7 +243,7 @@ unfoldable pub delta_bytes : ℤ → List ℤ → List ℕ
 delta_bytes v [] = []
 delta_bytes v (x ∷ xs) = encoded_delta (shortest_encoding (x -ℤ v)) (x -ℤ v) ++ delta_bytes x xs
 
--- int16
+-- the two bytes of an int16
 abbrev pub signed_word : ℤ → List ℕ
 signed_word v = to_be_bytes w16 (cast_unsigned w16 v)
 
@@ -267,7 +267,7 @@ box p points =
     signed_word (fold int_min p.x (xs_of points)) ++ signed_word (fold int_min p.y (ys_of points))
     ++ signed_word (fold int_max p.x (xs_of points)) ++ signed_word (fold int_max p.y (ys_of points))
 
--- endPtsOfContours
+-- the bytes of endPtsOfContours, uint16 each
 abbrev pub end_bytes : List ℕ → List ℕ
 end_bytes ends = flat_map (to_be_bytes w16) ends
 
@@ -309,8 +309,8 @@ abbrev pub fits : Outline → Bool
 fits outline =
     nat_lt (length outline) 0x8000 && (list_all (λ c. nat_lt 0 (length c)) outline && points_fit (all_points outline))
 
--- the last points of contours that have so many points in all: none is before the first point of its contour, and the
--- last one is the last point
+-- the last points of contours that have n points in all: none is before the first point of its contour, and the last
+-- one is the last point
 unfoldable pub are_ends : ℕ → List ℕ → ℕ → Bool
 are_ends from [] n = from == n
 are_ends from (end ∷ ends) n = nat_le from end && are_ends (end + 1) ends n

@@ -4,7 +4,7 @@ use Rattle.std.specs.Prelude.{ℕ, ◌&&◌, ◌||◌, Bool, is_some, if◌then�
 use Rattle.subsetter_base.specs.declared.tag.Tag.{Tag}
 use Rattle.subsetter_sfnt.specs.Read.{Font, stored}
 
--- a table of outlines
+-- a font has a table of outlines: glyf, `CFF ` or CFF2
 abbrev pub has_outlines : (List ℕ → Option (List ℕ)) → Bool
 has_outlines find = is_some (find (codes "glyf")) || (is_some (find (codes "CFF ")) || is_some (find (codes "CFF2")))
 

@@ -6,7 +6,7 @@ use Rattle.std.specs.Str.{bytes_eq}
 use Rattle.std.specs.Int.{w32, to_be_bytes}
 use Rattle.subsetter_sfnt.specs.declared.extras.Extras.{Extras}
 
--- all of it
+-- hints, names and glyph names
 abbrev pub all_extras : Extras
 all_extras = record { hinting = true; names = true; glyph_names = true }
 
@@ -42,7 +42,7 @@ by_hinting false tag found =
     else if bytes_eq tag (codes "maxp") then option_map without_instructions found
     else found
 
--- and names
+-- `name` only where names are asked for
 abbrev pub by_names : Bool → List ℕ → Option (List ℕ) → Option (List ℕ)
 by_names true tag found = found
 by_names false tag found = if bytes_eq tag (codes "name") then None else found

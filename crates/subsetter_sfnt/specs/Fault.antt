@@ -1,4 +1,4 @@
--- What can stand in a font against opening it (OpenType, "Organization of an OpenType Font", "Font Collections").
+-- Why a font can't be opened (OpenType, "Organization of an OpenType Font", "Font Collections").
 use Rattle.std.specs.Prelude.{◌≡◌, ℕ, ◌<◌, codes, length, Some, None, IsSome}
 use Rattle.subsetter_base.specs.declared.error.Error.{Error}
 use Rattle.subsetter_base.specs.declared.error.Error.TheVariants.{UnknownKind, MalformedFont, Unimplemented}

@@ -1,4 +1,4 @@
--- The plain way to open a font and to lay one out, with the error that is answered for each part that is missing and
+-- The plain way to open a font and to lay one out, with the error that is returned for each part that is missing and
 -- for a size past a limit.
 use Rattle.std.specs.Prelude.{ℕ, List, codes, Option, Result, Ok, Err, is_some, if◌then◌else◌}
 use Rattle.std.specs.Option.{ok_or}
@@ -20,7 +20,7 @@ opened_by_kind Collection font = do
   kind ← ok_or (kind_at font.bytes at) MalformedFont
   ok_or (if_single kind at) MalformedFont
 
--- where the font's header stands
+-- where the font's header is
 unfoldable pub opened_header : Font → Result ℕ Error
 opened_header font = do
   kind ← ok_or (kind_at font.bytes 0) UnknownKind
@@ -39,6 +39,6 @@ flavored find =
     else (if is_some (find (codes "CFF ")) then Ok Cff
     else (if is_some (find (codes "CFF2")) then Err Unimplemented else Err UnknownKind))
 
--- the file, where its records can say where its tables stand
+-- the file, where its records can say where its tables are
 unfoldable pub file_of : ℕ → List Table → Result (List ℕ) Error
 file_of kind ts = if fits (start_of ts) ts then Ok (file kind ts) else Err OverflowError

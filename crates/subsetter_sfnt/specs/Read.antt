@@ -50,7 +50,7 @@ header_by_kind Collection font = do
   kind ← kind_at font.bytes at
   if_single kind at
 
--- where the font's header stands: at the start, or in a collection where the entry of the index says
+-- where the font's header is: at the start, or in a collection where the entry of the index says
 unfoldable pub header_offset : Font → Option ℕ
 header_offset font = do
   kind ← kind_at font.bytes 0
@@ -66,7 +66,7 @@ record_of bytes =
       length = be (take 4 (drop 12 bytes));
     }
 
--- that many records
+-- the next n table records, of 16 bytes each
 abbrev pub directory_records : ℕ → List ℕ → List TableRecord
 directory_records zero bytes = []
 directory_records (suc n) bytes = record_of bytes ∷ directory_records n (drop 16 bytes)

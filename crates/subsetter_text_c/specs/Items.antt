@@ -4,7 +4,7 @@ use Rattle.std.specs.List.{list_all}
 use Rattle.pdf_runs.specs.Shaped.{Labelled, between}
 use Rattle.subsetter_text_c.specs.declared.items.TextItem.{TextItem}
 
--- the text that begins at a glyph, if any does, is among so many characters
+-- the text that begins at a glyph, if any does, is among `count` characters
 abbrev pub is_ranged : ℕ → TextItem → Bool
 is_ranged count i = not (i.continues == 0) || (nat_le i.start i.end && nat_le i.end count)
 

@@ -22,7 +22,7 @@ is_part p = nat_lt p.glyph 65536 && (is_short p.x && is_short p.y)
 abbrev pub place_in : TextPart → Placed
 place_in p = record { glyph = p.glyph; x = p.x; y = p.y }
 
--- the parts of an own glyph, after so many, are the first of so many that are left
+-- the parts of an own glyph, after `before` parts of others, are the first of the `left` that are left
 abbrev pub is_own : ℕ → ℕ → TextOwn → Bool
 is_own before left o = nat_lt o.advance 65536 && (nat_le before o.part_end && nat_le (o.part_end - before) left)
 
@@ -33,7 +33,7 @@ are_ends before left (o ∷ os) = is_own before left o && are_ends o.part_end (l
 abbrev pub are_own : List TextOwn → List TextPart → Bool
 are_own os ps = list_all is_part ps && are_ends 0 (length ps) os
 
--- own glyphs whose parts, after so many, are the first of these
+-- own glyphs whose parts, after `before` parts of others, are the first of these
 abbrev pub own_in : ℕ → List TextOwn → List Placed → List Ink
 own_in before [] ps = []
 own_in before (o ∷ os) ps =

@@ -1,5 +1,4 @@
--- Where a font stands on its axes, for settings of its user coordinates (OpenType, "Coordinate Scales and
--- Normalization").
+-- Where a font is on its axes, for settings of its user coordinates (OpenType, "Coordinate Scales and Normalization").
 use Rattle.std.specs.Prelude.{◌≡◌, ◌⊎◌, ℕ, Bool, not, ◌&&◌, List, codes, All, None, IsSome, Ok, ℤ, pos}
 use Rattle.subsetter_base.specs.declared.tag.Tag.{Tag}
 use Rattle.subsetter_base.specs.declared.error.Error.{Error}
@@ -44,7 +43,8 @@ IsStaticFile font settings glyphs file =
     (¬ (IsAtDefault font settings) × IsInstance font settings glyphs file)
     ⊎ (IsCff2Font font × IsCffInstance font settings glyphs file)
 
--- what it has against it, where a glyph may take so many steps, and a charstring as many tokens, and go so deep
+-- the faults of the static font, where a glyph may take `tokens` steps, and a charstring as many tokens, and go `depth`
+-- deep
 abbrev pub HasStaticFault : Font → List (Tag × ℤ) → List ℕ → ℕ → ℕ → Error → Type 0
 HasStaticFault font settings glyphs tokens depth e =
     (¬ (IsAtDefault font settings) × HasInstanceFault font settings glyphs tokens e)

@@ -8,15 +8,15 @@ use Rattle.subsetter.specs.Bound.{IsWithin}
 use Rattle.subsetter_variable.specs.Subset.{HasOpeningFaultAt, IsSubsetAt, HasFaultAt, IsAnswerAt, HasNoAnswerAt}
 use Rattle.subsetter_variable.specs.Subset.{IsTheAnswerAt}
 
--- for these glyphs of a font, where a run has so many tokens and goes so deep, and the new font has at most so many
--- bytes; `file` gives the bytes of what is returned
+-- for these glyphs of a font, where a run takes at most `tokens` tokens and goes at most `depth` deep, and the new font
+-- has at most `bound` bytes; `file` gives the bytes of what is returned
 pub record IsPromisedAt {X : Type 0} (file : X → List ℕ) (bound : Option ℕ) (tokens depth : ℕ) (font : Font)
     (settings : List (Tag × ℤ)) (glyphs : List ℕ) (result : Result X Error) : Type 0 where
   -- a font that is returned is the answer: a subset of the static font
   pub exact : IfOk result (λ x. IsAnswerAt tokens depth font settings glyphs (file x))
   -- and has no more bytes than it may have
   pub within : IfOk result (λ x. IsWithin bound (file x))
-  -- what is refused has a fault of that name, or the bound is set and every answer passes it
+  -- what is refused has a fault with that error, or the bound is set and every answer passes it
   pub err : IfErr result
       (λ e. (e ≡ OutOfMemory) ⊎ ((order : List ℕ) × HasFaultAt bound tokens depth font settings glyphs order e))
   -- and, unless memory ran out, there is no answer within these limits

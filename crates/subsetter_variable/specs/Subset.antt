@@ -19,7 +19,7 @@ use Rattle.subsetter_variable.specs.DefaultLocation.{IsAtDefault, IsCff2Font}
 abbrev pub whole : Font → Font
 whole font = font_at font.bytes font.index all_extras
 
--- what can stand against opening it, where outlines of CFF2 are taken too
+-- the faults for which it can't be opened, where outlines of CFF2 are taken too
 pub record HasOpeningFaultAt (font : Font) (e : Error) : Type 0 where
   pub fault : HasOpeningFault font e
   pub not_cff2 : ¬ (IsCff2Font (whole font))
@@ -40,9 +40,8 @@ pub record IsSubsetAt (tokens depth : ℕ) (font : Font) (settings : List (Tag �
   pub is_static : IsStatic font settings glyphs static
   pub subset : IsSubset tokens depth static glyphs out
 
--- What can stand against it, under the name of the error that it is answered by; sizes are judged for an order of the
--- new font's glyphs, and within a bound on its bytes. The outline of a glyph may take as many steps as a charstring may
--- have tokens.
+-- The faults that stop it, each with its error; sizes are judged for an order of the new font's glyphs, and within a
+-- bound on its bytes. The outline of a glyph may take as many steps as a charstring may have tokens.
 pub data HasFaultAt (bound : Option ℕ) (tokens depth : ℕ) (font : Font) (settings : List (Tag × ℤ))
     (glyphs order : List ℕ) : Error → Type 0 where
   -- elsewhere than at its default, against the instance
@@ -70,12 +69,12 @@ pub record IsAnswerAt (tokens depth : ℕ) (font : Font) (settings : List (Tag �
       → ¬ (HasCffInstanceFault (whole font) settings glyphs tokens depth e)
   pub answer : IsAnswer tokens depth static glyphs out
 
--- nothing within the bound is answered for these glyphs of a font
+-- there is no answer within the bound for these glyphs of a font
 abbrev pub HasNoAnswerAt : Option ℕ → ℕ → ℕ → Font → List (Tag × ℤ) → List ℕ → Type 0
 HasNoAnswerAt bound tokens depth font settings glyphs =
     (out : List ℕ) → IsWithin bound out → ¬ (IsAnswerAt tokens depth font settings glyphs out)
 
--- whatever is answered for the same settings and glyphs of a font, within these limits or others, is these bytes
+-- any answer for the same settings and glyphs of a font, within these limits or others, is these bytes
 abbrev pub IsTheAnswerAt : Font → List (Tag × ℤ) → List ℕ → List ℕ → Type 0
 IsTheAnswerAt font settings glyphs out =
     (tokens depth : ℕ) (other : List ℕ) → IsAnswerAt tokens depth font settings glyphs other → out ≡ other

@@ -37,7 +37,7 @@ IsPassedOver =
 abbrev pub HasAxis : List RegionAxis → Type 0
 HasAxis region = (k : ℕ) × (t : RegionAxis) × (slice_get region k ≡ Some t) × (is_ignored t ≡ false)
 
--- each of the next n tuples has a region on so many axes, one of which isn't ignored
+-- each of the next n tuples has a region on `axes` axes, one of which isn't ignored
 abbrev pub HaveAxes : Gvar → ℕ → ℕ → TupleHeaders → Type 0
 HaveAxes t axes zero r = Unit {0}
 HaveAxes t axes (suc n) r =
@@ -83,7 +83,7 @@ AreAscending =
     (limit : ℕ) (bytes rest numbers : List ℕ) → point_numbers limit bytes ≡ Some (Some numbers, rest)
     → Ascends 0 numbers
 
--- points don't move exactly where the variations of their glyph have a fault, under its name
+-- points don't move exactly where the variations of their glyph have a fault, with the fault's error
 abbrev pub AreFaultsNamed : Type 0
 AreFaultsNamed =
     (t : Gvar) (g : ℕ) (o : Outline) (at : List ℤ) (steps : ℕ) (e : Error)

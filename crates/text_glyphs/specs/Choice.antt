@@ -18,7 +18,7 @@ abbrev pub if_read : List ℕ → Option (List ℕ)
 if_read table = option_and_then (λ format. if is_read format then Some table else None) (number table 0 2)
 
 -- the table that the encoding record at a place leads to, if the record is of an encoding: platformID, encodingID, and
--- where the table stands
+-- the offset of the table
 abbrev pub encoded_table : Encoding → List ℕ → ℕ → Option (List ℕ)
 encoded_table encoding cmap at =
     option_and_then (λ platform.
@@ -33,7 +33,7 @@ encoded_from encoding cmap zero at = None
 encoded_from encoding cmap (suc n) at =
     first_of (encoded_table encoding cmap at) (encoded_from encoding cmap n (at + 8))
 
--- the first such table of a `cmap`: numTables stands at byte 2, the encoding records after it
+-- the first such table of a `cmap`: numTables is at byte 2, the encoding records after it
 abbrev pub encoded : Encoding → List ℕ → Option (List ℕ)
 encoded encoding cmap = option_and_then (λ n. encoded_from encoding cmap n 4) (number cmap 2 2)
 

@@ -7,11 +7,11 @@ use Rattle.cmap.specs.Groups.{in_range}
 use Rattle.cmap.specs.Subtable.{groups, segments, glyph_of}
 use Rattle.text_glyphs.specs.Halves.{last_up_to}
 
--- format 0: glyphIdArray, 256 bytes, stands at byte 6
+-- format 0: glyphIdArray, 256 bytes, is at byte 6
 abbrev pub glyph_by_bytes : List ℕ → ℕ → Option ℕ
 glyph_by_bytes table code = if nat_lt code 256 then number table (6 + code) 1 else None
 
--- format 6: firstCode and entryCount stand at bytes 6 and 8, glyphIdArray at byte 10
+-- format 6: firstCode and entryCount are at bytes 6 and 8, glyphIdArray at byte 10
 abbrev pub trimmed : List ℕ → ℕ → ℕ → ℕ → Option ℕ
 trimmed table first count code =
     if nat_lt code first then None
@@ -22,8 +22,8 @@ glyph_by_trimmed table code =
     option_and_then (λ first. option_and_then (λ count. trimmed table first count code) (number table 8 2))
     (number table 6 2)
 
--- format 13: numGroups stands at byte 12, the groups at byte 16, which ascend; of each endCharCode and glyphID stand at
--- bytes 4 and 8, and all of its characters have that glyph
+-- format 13: numGroups is at byte 12, the groups at byte 16, which ascend; of each endCharCode and glyphID are at bytes
+-- 4 and 8, and all of its characters have that glyph
 abbrev pub group_glyph : List ℕ → ℕ → ℕ → Option ℕ
 group_glyph table at code =
     option_and_then (λ end.

@@ -17,11 +17,11 @@ halves key c (suc steps) low high =
     else halves key c steps low (low + (high - low) / 2))
     else low
 
--- the keys of records of so many bytes each, from an offset on, which they begin with
+-- the keys, of `width` bytes, with which records of `size` bytes each begin, from an offset on
 abbrev pub key_at : List ℕ → ℕ → ℕ → ℕ → ℕ → Option ℕ
 key_at table at size width k = number table (at + size * k) width
 
--- the place before so many
+-- the place before place k
 abbrev pub before : ℕ → Option ℕ
 before k = if k == 0 then None else Some (k - 1)
 

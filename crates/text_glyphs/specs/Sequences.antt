@@ -30,8 +30,8 @@ sequences_from cmap (suc n) at = first_of (sequences_table cmap at) (sequences_f
 abbrev pub sequences_of : List ℕ → Option (List ℕ)
 sequences_of cmap = option_and_then (λ n. sequences_from cmap n 4) (number cmap 2 2)
 
--- where the record of a selector stands: numVarSelectorRecords stands at byte 6, the records at byte 10, of eleven
--- bytes, which ascend by varSelector
+-- where the record of a selector is: numVarSelectorRecords is at byte 6, the records at byte 10, of eleven bytes, which
+-- ascend by varSelector
 abbrev pub if_selects : List ℕ → ℕ → ℕ → Option ℕ
 if_selects table at selector =
     option_and_then (λ found. if found == selector then Some at else None) (number table at 3)
@@ -42,14 +42,14 @@ selector_record table selector =
     option_and_then (λ k. if_selects table (10 + 11 * k) selector) (last_up_to table 10 11 3 n selector))
     (number table 6 4)
 
--- the table that an offset of a record leads to; 0 stands for none
+-- the table that an offset of a record leads to; 0 means none
 abbrev pub part : List ℕ → ℕ → Option (List ℕ)
 part table offset = if offset == 0 then None else from_offset table offset
 
 abbrev pub part_at : List ℕ → ℕ → Option (List ℕ)
 part_at table at = option_and_then (part table) (number table at 4)
 
--- "Default UVS table": numUnicodeValueRanges stands at byte 0, the ranges at byte 4, of four bytes, which ascend:
+-- "Default UVS table": numUnicodeValueRanges is at byte 0, the ranges at byte 4, of four bytes, which ascend:
 -- startUnicodeValue, and additionalCount at byte 3
 abbrev pub range_has : List ℕ → ℕ → ℕ → Option Bool
 range_has defaults at c =
@@ -64,7 +64,7 @@ last_has defaults c =
 abbrev pub has_default : List ℕ → ℕ → Bool
 has_default defaults c = unwrap_or (last_has defaults c) false
 
--- "Non-Default UVS table": numUVSMappings stands at byte 0, the mappings at byte 4, of five bytes, which ascend:
+-- "Non-Default UVS table": numUVSMappings is at byte 0, the mappings at byte 4, of five bytes, which ascend:
 -- unicodeValue, and glyphID at byte 3
 abbrev pub mapping_glyph : List ℕ → ℕ → ℕ → Option ℕ
 mapping_glyph others at c =

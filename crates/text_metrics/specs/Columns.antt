@@ -21,7 +21,7 @@ use Rattle.text_metrics.specs.Metrics.{Metrics, count_in, text_metrics}
 abbrev pub metrics_of : Column → GlyphMetrics
 metrics_of c = record { displacement = c.advance; position = c.y }
 
--- glyph 0 and the first glyphs, so many
+-- glyph 0 and the first `count` glyphs
 abbrev pub numbered : ℕ → List ℕ
 numbered count = with_glyphs (0 ∷ []) (each_from (λ g. g) 0 count)
 

@@ -37,7 +37,7 @@ count_in find = do
   maxp ← ok_or (find (codes "maxp")) MalformedFont
   ok_or (num_glyphs maxp) MalformedFont
 
--- of all glyphs of a font at settings of its user coordinates, where a glyph of `glyf` may take so many steps
+-- of all glyphs of a font at settings of its user coordinates, where a glyph of `glyf` may take `steps` steps
 unfoldable pub text_metrics : Font → List (Tag × ℤ) → ℕ → Result Metrics Error
 text_metrics font settings steps = do
   records ← opened font

@@ -16,7 +16,7 @@ abbrev pub pair_of : ℕ → Option ℕ → List Pair
 pair_of k None = []
 pair_of k (Some cid) = record { code = k; cid = cid } ∷ []
 
--- the pairs of so many codes, in their order, from one on
+-- the pairs of the next n codes, in their order, from code k on
 abbrev pub pairs_from : List Pair → ℕ → ℕ → List Pair
 pairs_from ps k zero = []
 pairs_from ps k (suc n) = pair_of k (cid_of ps k) ++ pairs_from ps (k + 1) n

@@ -16,7 +16,7 @@ abbrev pub line_of : ℕ → List ℕ → List Line
 line_of k [] = []
 line_of k (u ∷ us) = record { code = k; units = u ∷ us } ∷ []
 
--- the lines of so many codes, in their order, from one on
+-- the lines of the next n codes, in their order, from code k on
 abbrev pub lines_from : List Line → ℕ → ℕ → List Line
 lines_from ls k zero = []
 lines_from ls k (suc n) = line_of k (first_text ls k) ++ lines_from ls (k + 1) n

@@ -52,7 +52,7 @@ abbrev pub map_value : Bool → ℕ → List ℕ
 map_value true n = reference n
 map_value false n = codes "/Identity"
 
--- of TrueType outlines
+-- CIDToGIDMap, which only a CIDFont with TrueType outlines has
 abbrev pub glyph_map : ProgramKind → Bool → ℕ → List ℕ
 glyph_map TrueType has_map n = entry (codes "CIDToGIDMap") (map_value has_map n)
 glyph_map BareCff has_map n = []

@@ -1,4 +1,4 @@
--- What stands in the dictionaries of a font program and of a CMap (ISO 32000-1, 9.9 and 9.7.5.3), as texts.
+-- What is in the dictionaries of a font program and of a CMap (ISO 32000-1, 9.9 and 9.7.5.3), as texts.
 use Rattle.std.specs.Prelude.{ℕ, Bool, true, false, List, [], ◌++◌, Option, Some, None, codes, decimal}
 use Rattle.pdf_text.specs.declared.values.ProgramKind.{ProgramKind}
 use Rattle.pdf_text.specs.declared.values.ProgramKind.TheVariants.{TrueType, BareCff, OpenType}

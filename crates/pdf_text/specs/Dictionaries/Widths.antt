@@ -27,7 +27,7 @@ default_column (Some c) =
     if int_eq c.default.y (pos 880) && int_eq c.default.advance (neg_ℤ (pos 1000)) then None
     else Some (c.default.y ∷ c.default.advance ∷ [])
 
--- CIDs have 16 bits
+-- there are more columns than CIDs, which have 16 bits
 abbrev pub HasManyColumns : Option FontColumns → Type 0
 HasManyColumns None = ⊥
 HasManyColumns (Some c) = 65536 < length c.each.now
@@ -46,7 +46,7 @@ abbrev pub column_entry : Option (List ℤ) → List ℕ
 column_entry (Some zs) = entry (codes "DW2") (array zs)
 column_entry None = []
 
--- DW, W, DW2 and W2
+-- the entries DW, W, DW2 and W2 of a CIDFont
 abbrev pub metric_entries : FontValues → List ℕ
 metric_entries v = entry (codes "DW") (decimal v.default_width) ++ (array_entry (codes "W") (w_text v)
     ++ (column_entry (default_column v.columns) ++ array_entry (codes "W2") (w2_text v.columns)))

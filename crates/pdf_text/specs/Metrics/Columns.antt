@@ -98,7 +98,7 @@ integer_in [] = None
 integer_in (b ∷ t) =
     if b == 45 then option_map (λ n. neg_ℤ (pos n)) (number_in t) else option_map pos (number_in (b ∷ t))
 
--- where a reader stands: between two parts, after a first CID, after a last one and up to two numbers, or on a list
+-- where a reader is: between two parts, after a first CID, after a last one and up to two numbers, or on a list
 pub data State : Type 0 where
   between_spans : State
   past_first : ℕ → State
@@ -109,7 +109,7 @@ pub data State : Type 0 where
   on_advance : ℕ → List Column → ℤ → State
   on_x : ℕ → List Column → ℤ → ℤ → State
 
--- nothing stands after the array
+-- nothing is after the array
 abbrev pub at_end : List (List ℕ) → Option (List Span)
 at_end [] = Some []
 at_end (t ∷ ts) = None
@@ -155,7 +155,7 @@ column_found d n c = if is_default d c then n else c
 abbrev pub column_read : DefaultColumn → List Column → Column → ℕ → Column
 column_read d cs n k = if leaves_out d cs then column_found d n (get_or cs k n) else get_or cs k n
 
--- numbers of 32 bits
+-- the numbers of a column are at most 2 ^ 31
 pub record IsColumn (c : Column) : Type 0 where
   pub advance : unsigned_abs c.advance ≤ 2 ^ 31
   pub x : unsigned_abs c.x ≤ 2 ^ 31

@@ -34,7 +34,7 @@ is_script_face os2 = passes (λ n. n == 3) (b_family_type os2)
 abbrev pub has_serifs : Option (List ℕ) → Bool
 has_serifs os2 = passes (λ c. is_serif_class c || (c == 0 && is_serif_face os2)) (family_class os2)
 
--- class 10 is scripts
+-- sFamilyClass 10 is scripts
 abbrev pub is_script : Option (List ℕ) → Bool
 is_script os2 = passes (λ c. c == 10 || (c == 0 && is_script_face os2)) (family_class os2)
 

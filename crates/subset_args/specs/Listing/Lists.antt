@@ -14,7 +14,7 @@ is_blank b = b == 32 || (b == 9 || (b == 10 || b == 13))
 abbrev pub as_comma : ℕ → ℕ
 as_comma b = if is_blank b then 44 else b
 
--- so many numbers, from one on
+-- n numbers, from the first on
 abbrev pub counting : ℕ → ℕ → List ℕ
 counting first zero = []
 counting first (suc n) = first ∷ counting (first + 1) n
@@ -27,7 +27,7 @@ pub record Ends : Type 0 where
 abbrev pub is_dash : ℕ → Bool
 is_dash b = b == 45
 
--- ends that stand in order
+-- ends that are in order
 abbrev pub in_order : ℕ → ℕ → Option Ends
 in_order first last = if nat_le first last then Some (record { first = first; last = last }) else None
 
@@ -76,7 +76,7 @@ abbrev pub size : Option Ends → ℕ
 size None = 0
 size (Some ends) = ends.last + 1 - ends.first
 
--- whether the ends of parts have at most so many numbers between them
+-- whether the ranges of parts have at most `most` numbers in all
 abbrev pub fits : (List ℕ → Option Ends) → ℕ → List (List ℕ) → Bool
 fits ends most [] = true
 fits ends most (part ∷ parts) = nat_le (size (ends part)) most && fits ends (most - size (ends part)) parts

@@ -42,7 +42,7 @@ pub record IsRefusedJob (bytes : List ℕ) (job : Job) (failure : Failure) : Typ
   pub is_plan : IsPlanOf job (kept_by_each job.glyphs.items lists) plan
   pub why : IsFailureOf plan (Some bytes) failure
 
--- or it has no list of glyphs, or more than 64 MiB would be answered, or a file can't be written
+-- or it has no list of glyphs, or the answer would have more than 64 MiB, or a file can't be written
 abbrev pub IsUndone : List ℕ → Job → Failure → Type 0
 IsUndone bytes job failure =
     IsUnlisted job.glyphs.items failure

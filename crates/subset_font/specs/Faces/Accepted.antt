@@ -93,7 +93,7 @@ pub record IsRefusedAs (font : Font) (refusal : List ℕ) (reason : Option (List
   pub is_text : refusal ≡ failure_text failure
   pub is_cause : IsCause font failure reason
 
--- what `subset` answers for all glyphs, by these texts, or that they take more than the limits
+-- what `subset` returns for all glyphs, by these texts, or that they take more than the limits
 abbrev pub IsAnswer : Font → Option (List ℕ) → Option (List ℕ) → Type 0
 IsAnswer font None reason = IsAccepted font × (reason ≡ None)
 IsAnswer font (Some refusal) reason =

@@ -26,7 +26,7 @@ use Rattle.subset_font.specs.declared.making.subset.Made.{Made}
 use Rattle.subset_task.specs.declared.refusals.failure.Failure.{Failure}
 use Rattle.subset_task.specs.declared.refusals.failure.Failure.TheVariants.{Error}
 
--- the face that is read, with all that stands in it
+-- the face that is read, with all that it has
 abbrev pub face_of : Task → List ℕ → Font
 face_of task bytes = record { bytes = bytes; index = task.index; extras = all_extras }
 
@@ -34,14 +34,14 @@ face_of task bytes = record { bytes = bytes; index = task.index; extras = all_ex
 abbrev pub font_of : Task → List ℕ → Font
 font_of task bytes = record { bytes = bytes; index = task.index; extras = task.options.extras }
 
--- a subset of a font in which no fault stands, within two limits on the run of a charstring, the size limits being
--- judged for the subset's order of glyphs
+-- a subset of a font that has no fault, within two limits on the run of a charstring, the size limits being judged for
+-- the subset's order of glyphs
 abbrev pub IsFaultless : ℕ → ℕ → Font → List ℕ → List ℕ → Type 0
 IsFaultless tokens depth font glyphs out =
     (s : IsSubset tokens depth font (numbering glyphs) out)
     × ((e : Refusal) → ¬ (HasFault tokens depth font (numbering glyphs) s.keeps.order e))
 
--- a subset of a font in which nothing stands against it or the widths of the asked glyphs
+-- a subset of a font that has no fault, nor one of the widths of the asked glyphs
 abbrev pub IsFaultlessWithWidths : ℕ → ℕ → Font → List ℕ → List ℕ → Type 0
 IsFaultlessWithWidths tokens depth font glyphs out =
     (s : IsSubset tokens depth font (numbering glyphs) out)
@@ -91,8 +91,7 @@ pub record IsMade (task : Task) (bytes : List ℕ) (made : Made) : Type 0 where
   pub taken : IsTaken task bytes made.picked.glyphs.items font
   pub is_made : IsMadeOf task font made.picked.glyphs.items made
 
--- the given glyphs leave no number for glyph 0, or a fault stands in the font, or a bound is set that every subset
--- passes
+-- the given glyphs leave no number for glyph 0, or the font has a fault, or a bound is set that every subset passes
 abbrev pub IsRefusal : Option ℕ → ℕ → ℕ → Font → List ℕ → Refusal → Type 0
 IsRefusal bound tokens depth font glyphs why =
     ((why ≡ OverflowError) × HasAllAboveZero glyphs)
@@ -110,8 +109,7 @@ IsRefused task font glyphs why =
     (IsRefusalOfWidths task.options.limits.bytes task.options.limits.tokens task.options.limits.depth font glyphs why)
     (IsRefusal task.options.limits.bytes task.options.limits.tokens task.options.limits.depth font glyphs why)
 
--- why no font is taken: at user coordinates the glyphs leave no number for glyph 0, or a fault stands against the
--- static font
+-- why no font is taken: at user coordinates the glyphs leave no number for glyph 0, or the static font has a fault
 pub data IsUntaken (task : Task) (bytes glyphs : List ℕ) : Refusal → Type 0 where
   unnumbered : HasAllAboveZero glyphs → IsUntaken task bytes glyphs OverflowError
   unplaced : {why : Refusal} (at : List (Tag × ℤ)) → option_copied task.at ≡ Some at

@@ -34,14 +34,14 @@ axis_lines (a ∷ axes) = axis_line a ++ axis_lines axes
 
 -- ---- named instances
 
--- so many records of one size each, one after the other
+-- n records of `size` bytes each, one after the other
 abbrev pub records_at : ℕ → ℕ → List ℕ → ℕ → Option (List (List ℕ))
 records_at zero size fvar at = Some []
 records_at (suc n) size fvar at =
     option_and_then (λ record_bytes. option_map (λ more. record_bytes ∷ more) (records_at n size fvar (at + size)))
     (range fvar at size)
 
--- they stand after the axes; each has a name, flags, and a coordinate for each axis
+-- they are after the axes; each has a name, flags, and a coordinate for each axis
 abbrev pub instances_of : ℕ → ℕ → ℕ → ℕ → ℕ → List ℕ → Option (List (List ℕ))
 instances_of at axes axis_size count size fvar =
     if count == 0 then Some []

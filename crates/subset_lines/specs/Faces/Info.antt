@@ -59,7 +59,7 @@ abbrev pub if_any : List ℕ → Option (List ℕ) → List ℕ
 if_any front None = []
 if_any front (Some text) = front ++ text ++ codes "\n"
 
--- what `subset` answers for every glyph
+-- what `subset` returns for all glyphs
 abbrev pub refusal_lines : Option (List ℕ) → Option (List ℕ) → List ℕ
 refusal_lines None reason = codes "subset accepts every glyph\n"
 refusal_lines (Some refusal) reason =

@@ -31,7 +31,7 @@ serves Unicode bytes = word bytes 0 == 0
 abbrev pub is_name : Kind → ℕ → List ℕ → Bool
 is_name kind id bytes = word bytes 6 == id && serves kind bytes
 
--- the first of so many records that has a name of a kind
+-- the first of the next n records that has a name of a kind
 abbrev pub first_name : Kind → ℕ → ℕ → List ℕ → ℕ → Option (List ℕ)
 first_name kind id zero table at = None
 first_name kind id (suc n) table at =
@@ -81,7 +81,7 @@ name_of table id = option_and_then (string_for table) id
 abbrev pub is_text : ℕ → Bool
 is_text unit = is_plain unit && (nat_lt unit 0xD800 || nat_le 0xE000 unit)
 
--- for these U+FFFD stands, so that a line stays one
+-- these are shown as U+FFFD, so that a line stays one
 abbrev pub character_of : ℕ → ℕ
 character_of unit = if is_text unit then unit else 0xFFFD
 

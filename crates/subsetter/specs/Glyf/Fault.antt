@@ -1,4 +1,4 @@
--- What can stand against the outlines of a subset, under the name of the error (OpenType, "glyf", "loca", "head").
+-- The faults of the outlines of a subset, each with its error (OpenType, "glyf", "loca", "head").
 use Rattle.std.specs.Prelude.{◌≡◌, ℕ, ◌<◌, ◌≤◌, List, [], ◌∷◌, length, codes, Some, None, IsSome}
 use Rattle.subsetter_base.specs.declared.error.Error.{Error}
 use Rattle.subsetter_base.specs.declared.error.Error.TheVariants.{MalformedFont, OverflowError}

@@ -1,4 +1,4 @@
--- The plain way to take the outlines of the kept glyphs, with the error that is answered where one can't be taken.
+-- The plain way to take the outlines of the kept glyphs, with the error that is returned where one can't be taken.
 use Rattle.std.specs.Prelude.{ℕ, Bool, List, [], ◌∷◌, ◌++◌, map, Option, Result, Ok}
 use Rattle.std.specs.Option.{option_map, ok_or}
 use Rattle.subsetter_base.specs.Bytes.{◌>>=◌}

@@ -12,7 +12,7 @@ use Rattle.subsetter_sfnt.specs.Plain.{file_of}
 use Rattle.subsetter.specs.Glyf.Plain.{outlines_read}
 use Rattle.subsetter.specs.Glyf.Reaching.Reach.{IsGlyphOrderBy}
 
--- the steps to a file
+-- a TrueType subset, by the steps to its file
 pub record IsAnswered (hinting : Bool) (find : List ℕ → Option (List ℕ)) (glyphs out : List ℕ) : Type 0 where
   pub source : Outlines
   pub read : outlines_read hinting find ≡ Ok source

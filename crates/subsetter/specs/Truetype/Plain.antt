@@ -1,4 +1,4 @@
--- The plain way to a TrueType subset: its tables for an order of the glyphs, with the error that is answered where one
+-- The plain way to a TrueType subset: its tables for an order of the glyphs, with the error that is returned where one
 -- can't be made.
 use Rattle.std.specs.Prelude.{ℕ, ◌^◌, List, length, codes, Option, Some, Result, Ok, Err, nat_lt, if◌then◌else◌}
 use Rattle.subsetter_base.specs.Bytes.{◌>>=◌}

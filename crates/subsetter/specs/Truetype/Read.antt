@@ -18,7 +18,7 @@ pub record KeepsPrograms (font out : Font) : Type 0 where
   pub control_program : table out (codes "prep") ≡ table font (codes "prep")
 
 pub record KeepsOutlines (font : Font) (order : List ℕ) (out : Font) : Type 0 where
-  -- the format of loca stands in head
+  -- the format of loca is in head
   pub has_head : IsSome (table font (codes "head"))
   -- there are exactly as many glyphs as in the order
   pub count : HasGlyphCount out (length order)

@@ -22,7 +22,7 @@ kind_of (Some effect.Returns) = None
 kind_of (Some effect.Ends) = None
 kind_of (Some effect.Masks) = Some Masks
 
--- vsindex, blend
+-- vsindex is 15 and blend 16; the others are those of Type 2
 abbrev pub one_byte_kind : ℕ → Option Kind
 one_byte_kind b = if b == 15 then Some ChoosesData else if b == 16 then Some Blends else kind_of (one_byte_effect b)
 
@@ -36,7 +36,7 @@ type_kind (TwoByteOperator _) = None
 unfoldable pub operator_kind : Operator → Option Kind
 operator_kind operator = type_kind operator.0
 
--- an operator of one byte takes so many operands
+-- an operator of one byte takes n operands
 abbrev pub one_byte_accepts : ℕ → ℕ → Bool
 one_byte_accepts b n =
     -- hstem, vstem, hstemhm, vstemhm; rlineto
@@ -74,6 +74,6 @@ type_accepts (OneByteOperator _) n = false
 type_accepts (TwoByteOperator (mark ∷ second ∷ [])) n = two_byte_accepts second n
 type_accepts (TwoByteOperator _) n = false
 
--- an operator takes so many operands
+-- an operator takes n operands
 unfoldable pub accepts : Operator → ℕ → Bool
 accepts operator n = type_accepts operator.0 n

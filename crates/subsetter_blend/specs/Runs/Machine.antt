@@ -214,7 +214,7 @@ abbrev pub ended : {S : Type 0} → S → List ℤ → Result S Error
 ended s [] = Ok s
 ended s (z ∷ zs) = Err CFFError
 
--- a run from a state, with so many tokens at most
+-- a run from a state, with at most n tokens
 unfoldable pub run : {S : Type 0} → (Event → S → Result S Error) → Setting → ℕ → ℕ → S → State → Result S Error
 run take setting depth zero s state =
     ended_or (unended state.rests) (ended s state.registers.operands) (λ bytes callers. Err CFFError)

@@ -13,7 +13,7 @@ abbrev pub in_parts : CharStringNumber → ℤ
 in_parts (Integer v) = v *ℤ pos 1073741824
 in_parts (Fixed k) = k *ℤ pos 16384
 
--- within 32768 units
+-- within 32768 units, in parts of 2^30
 abbrev pub IsWithin : ℤ → Type 0
 IsWithin z = unsigned_abs z ≤ 2 ^ 45
 

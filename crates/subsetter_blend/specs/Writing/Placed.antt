@@ -40,7 +40,7 @@ step old new = if is_within new then (if is_short (whole new) then short (whole 
 unfoldable pub whole_operand : ℤ → Option CharStringNumber
 whole_operand v = if is_within v then short (whole v) else None
 
--- where a move by so many parts goes
+-- where a move by v parts along an axis goes
 abbrev pub position_after : Along → ℤ → Position → Position
 position_after X v at = record { x = at.x +ℤ v; y = at.y }
 position_after Y v at = record { x = at.x; y = at.y +ℤ v }

@@ -61,7 +61,7 @@ rest_of k e =
 abbrev pub next_cut : Event → ℕ
 next_cut e = cut e.operator.0 (length e.operands)
 
--- at most 48 operands each, of which so many are before the first piece's; so many further pieces at most
+-- at most 48 operands each, with `width` numbers before those of the first piece; at most `more` further pieces
 unfoldable pub pieces : ℕ → ℕ → Event → List Event
 pieces zero width e = e ∷ []
 pieces (suc more) width e =

@@ -5,7 +5,7 @@ use Rattle.subsetter_cffdata.specs.declared.dicts.operator.OperatorType.{Operato
 use Rattle.subsetter_cffdata.specs.declared.dicts.operator.OperatorType.TheVariants.{OneByteOperator, TwoByteOperator}
 use Rattle.subsetter_blend.specs.Writing.Taking.{Event}
 
--- at most 48 operands each, so many numbers standing before the first one's
+-- at most 48 operands each, with `width` numbers before those of the first one
 abbrev pub AreFew : ℕ → List Event → Type 0
 AreFew width [] = Unit {0}
 AreFew width (e ∷ es) = (width + length e.operands ≤ 48) × AreFew 0 es

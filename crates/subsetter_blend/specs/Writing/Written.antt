@@ -60,7 +60,7 @@ whole_piece e pen =
     inked e pen (placed e.operator (length e.operands) 0 e.operands
     (record { at = start_point (is_hint e.operator.0) pen.at; numbers = width pen.advance }))
 
--- something takes an event's pieces, one after the other, where it may stand
+-- something takes an event's pieces, one after the other, where it may be
 abbrev pub in_pieces : {S : Type 0} → (Event → S → Result S Error) → Pen → Event → S → Result S Error
 in_pieces take pen e s =
     if may_begin pen.advance e.operator.0 then all_taken take (split (length (width pen.advance)) (opened e)) s

@@ -21,7 +21,7 @@ pub record Fits (e : Embedded) (before : Buffers) : Type 0 where
   pub cids : length e.cids.items ≤ length before.cids
   pub widths : length e.widths.items ≤ length before.widths
 
--- each list stands at the front of its buffer
+-- each list is at the front of its buffer
 abbrev pub all_begun : Embedded → Buffers → Buffers
 all_begun e before =
     record {
@@ -40,7 +40,7 @@ no_sizes = record { font = 0; cids = 0; widths = 0 }
 -- that are told, and the status
 pub data AreHandedOver (Is : Embedded → Type 0) (Why : Error → Type 0) (before after : Buffers) (told : Sizes)
     (status : ℕ) : Type 0 where
-  -- each list stands at the front of its buffer
+  -- each list is at the front of its buffer
   whole : (e : Embedded) → Is e → Fits e before → after ≡ all_begun e before → told ≡ sizes_of e → status ≡ 0
       → AreHandedOver Is Why before after told status
   -- a buffer is too small, all are unchanged, and the exact sizes are told
@@ -53,18 +53,18 @@ pub data AreHandedOver (Is : Embedded → Type 0) (Why : Error → Type 0) (befo
 abbrev pub lists_of : Embedded → Buffers
 lists_of e = record { font = e.font.items; cids = e.cids.items; widths = e.widths.items }
 
--- what is answered
+-- what is returned
 pub record IsSoundEmbedding (bound : Option ℕ) (tokens depth : ℕ) (font : Font) (glyphs : List ℕ) (e : Embedded)
     : Type 0 where
   pub answer : IsEmbeddingAnswer tokens depth font glyphs e
-  -- whatever is answered for the same glyphs of the font, within these limits or others, is these three lists: so is
-  -- what a second call answers
+  -- any answer for the same glyphs of the font, within these limits or others, is these three lists: so is what a
+  -- second call returns
   pub same : (more deeper : ℕ) (other : Embedded) → IsEmbeddingAnswer more deeper font glyphs other
       → lists_of e ≡ lists_of other
   -- its font is no longer than it may be
   pub within : IsWithin bound e.font.items
 
--- why nothing is answered: memory ran out, or a fault stands, and then no call answers anything
+-- why nothing is returned: memory ran out, or there is a fault, and then no call returns anything
 abbrev pub IsEmbeddingRefusal : Option ℕ → ℕ → ℕ → Font → List ℕ → Error → Type 0
 IsEmbeddingRefusal bound tokens depth font glyphs why =
     IsOutOfMemory (HasOpeningFault font) why

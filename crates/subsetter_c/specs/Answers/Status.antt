@@ -1,4 +1,4 @@
--- What the calls answer to C: a number.
+-- What the calls return to C: a number.
 use Rattle.std.specs.Prelude.{ℕ, List, codes, ◌==◌, if◌then◌else◌}
 use Rattle.subsetter_base.specs.Texts.{error_text}
 use Rattle.subsetter_base.specs.declared.error.Error.{Error}
@@ -55,7 +55,7 @@ overfull = 15
 abbrev pub invalid_numbers : ℕ
 invalid_numbers = 16
 
--- what a status says
+-- the text of a status
 unfoldable pub status_text : ℕ → List ℕ
 status_text status =
     if status == 0 then codes "all done"

@@ -16,7 +16,7 @@ abbrev pub parts_status : PartsError → ℕ
 parts_status InvalidNumbers = invalid_numbers
 parts_status (Subset e) = status_of e
 
--- a call has answered these parts
+-- a call has returned these parts
 abbrev pub ArePartsAnswered : Result (Vec PdfPart Global) PartsError → List PdfPart → Type 0
 ArePartsAnswered answer parts = (v : Vec PdfPart Global) × (answer ≡ Ok v) × (v.items ≡ parts)
 

@@ -166,7 +166,7 @@ refusal_status BitmapsAlone = bitmaps_alone
 -- why there is no font
 pub record IsFontRefused (font : Font) (settings : List (Tag × ℤ)) (options : FontOptions) (us : List Used)
     (e : FontError) : Type 0 where
-  -- memory ran out, or the font or the request has a fault of that name, and then no call answers a font
+  -- memory ran out, or the font or the request has a fault with that error, and then no call returns a font
   pub why : (e ≡ Subset OutOfMemory)
       ⊎ (((order : List ℕ) × HasFontFault font settings options us order e) × HasNoPdfFont font settings options us)
   -- a face without outlines is refused for that, also without memory

@@ -20,7 +20,7 @@ pub record ReadFits (r : ReadText) (before : ReadBuffers) : Type 0 where
   pub entries : length r.entries.items ≤ length before.entries
   pub missing : length r.missing.items ≤ length before.missing
 
--- each list stands at the front of its buffer
+-- each list is at the front of its buffer
 abbrev pub read_begun : ReadText → ReadBuffers → ReadBuffers
 read_begun r before =
     record { entries = begun_with r.entries.items before.entries; missing = begun_with r.missing.items before.missing }

@@ -1,5 +1,4 @@
--- What can stand against a subset in a CFF table, under the name of the error that it is answered by (Technical Note
--- 5176).
+-- The faults that stop a subset in a CFF table, each with its error (Technical Note 5176).
 use Rattle.std.specs.Prelude.{◌≡◌, ◌≢◌, ◌<◌, ◌-◌, ℕ, Contains, true, false, List, [], drop, length, Option, Some, None}
 use Rattle.std.specs.Str.{bytes_eq}
 use Rattle.subsetter_base.specs.declared.error.Error.{Error}
@@ -89,7 +88,7 @@ pub record NamesNoString (strings : List (Option (List ℕ))) (operator : List �
   pub number_is : string_operand operands ≡ Some number
   pub no_string : string_of strings number ≡ None
 
--- of a kept glyph
+-- the faults of a kept glyph
 pub data HasGlyphFault (cff : Cff) (tokens depth glyph : ℕ) : Error → Type 0 where
   -- in a CID-keyed font, no font dict number, or no font dict of that number
   no_number : is_cid_keyed cff ≡ true → font_dict_number cff glyph ≡ None
@@ -112,7 +111,7 @@ pub data HasStringFault (cff : Cff) : Error → Type 0 where
   bad_notice : NamesNoString cff.strings notice_operator cff.top → HasStringFault cff SubsetError
   bad_font_name : NamesNoString cff.strings font_name_operator cff.top → HasStringFault cff SubsetError
 
--- a fault stands in a table that can't be opened
+-- the faults of a table that can't be opened
 pub data HasOpeningFault (bytes : List ℕ) : Error → Type 0 where
   in_front : {e : Error} → HasFrontFault bytes e → HasOpeningFault bytes e
   in_top : {e : Error} (cff : Cff) → cff_parts bytes ≡ Some cff → HasTopFault cff e → HasOpeningFault bytes e

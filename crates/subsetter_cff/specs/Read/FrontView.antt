@@ -21,7 +21,7 @@ front_of f =
       subroutines = items f.subroutines;
     }
 
--- the parts that stand one after the other from after the header on
+-- the parts that follow one another from after the header on
 unfoldable pub front_at : List ℕ → List ℕ → Option Cff
 front_at bytes start =
     option_and_then (λ names. option_and_then (λ tops. option_and_then
@@ -35,7 +35,7 @@ front_at bytes start =
     }))
     (index_at strings.1)) (index_at tops.1)) (entry_at tops.0 0)) (index_at names.1)) (index_at start)
 
--- the front of a table of major version 1, or the error that is answered
+-- the front of a table of major version 1, or the error
 unfoldable pub front_read : List ℕ → Result Cff Error
 front_read bytes = ok_or (first_number bytes) MalformedFont >>= λ version.
     if version == 1 then ok_or (option_and_then (front_at bytes) (past_header bytes)) MalformedFont else Err CFFError

@@ -1,5 +1,5 @@
--- A CFF table that can be taken as a source, or the error that is answered. A demanded operator has just its operands
--- (Technical Note 5176, section 9 "Top DICT Data" and section 18 "CID-keyed Fonts").
+-- A CFF table that can be taken as a source, or the error. A demanded operator has just its operands (Technical Note
+-- 5176, section 9 "Top DICT Data" and section 18 "CID-keyed Fonts").
 use Rattle.std.specs.Prelude.{ℕ, ◌==◌, ◌&&◌, nat_lt, if◌then◌else◌, Bool, true, List, [], ◌∷◌, length, is_some, Some}
 use Rattle.std.specs.Prelude.{Result, Ok, Err}
 use Rattle.std.specs.Option.{ok_or}

@@ -60,7 +60,7 @@ TablesKeepAllCharStrings =
     → AreAll (length first) all → IsSubsetTable out tokens depth all again
     → HaveSameCharStrings out again
 
--- ---- the table that is answered, of a CID-keyed font
+-- ---- the table that is returned, of a CID-keyed font
 -- 1 to 65535 glyphs, and a depth of 1 or more
 pub record IsRequested (depth : ℕ) (glyphs : List ℕ) : Type 0 where
   pub deep : 1 ≤ depth
@@ -83,7 +83,7 @@ IsGivenBack =
     → cff_subset bytes tokens depth first ≡ Ok out → AreAll (length first) all
     → cff_subset out tokens depth all ≡ Ok out
 
--- no fault stands in the table, for all its glyphs
+-- the table has no fault, for all its glyphs
 abbrev pub HasNoFaultAgain : Type 0
 HasNoFaultAgain =
     (bytes : List ℕ) (cff : Cff) (tokens depth : ℕ) (first all out : List ℕ) (e : Error) → IsRequested depth first
@@ -91,14 +91,14 @@ HasNoFaultAgain =
     → cff_subset bytes tokens depth first ≡ Ok out → AreAll (length first) all → HasCffFault out tokens depth all e → ⊥
 
 -- ---- of any font, so also of one that isn't CID-keyed
--- what is answered for all glyphs of a subset is given back from then on
+-- what is returned for all glyphs of a subset is given back from then on
 abbrev pub StaysFromThenOn : Type 0
 StaysFromThenOn = (bytes : List ℕ) (tokens depth : ℕ) (first all out again : List ℕ) → IsRequested depth first
     → cff_subset bytes tokens depth first ≡ Ok out → AreAll (length first) all
     → cff_subset out tokens depth all ≡ Ok again
     → cff_subset again tokens depth all ≡ Ok again
 
--- what is answered for all glyphs of a subset has its charstrings, and is given back from then on
+-- what is returned for all glyphs of a subset has its charstrings, and is given back from then on
 abbrev pub AnsweredAgain : Type 0
 AnsweredAgain = (bytes : List ℕ) (tokens depth : ℕ) (first all out again : List ℕ) → IsRequested depth first
     → cff_subset bytes tokens depth first ≡ Ok out → AreAll (length first) all

@@ -1,4 +1,4 @@
--- The plain way to subset a CFF table (Technical Note 5176): the parts of the new one, with the error that is answered
+-- The plain way to subset a CFF table (Technical Note 5176): the parts of the new one, with the error that is returned
 -- where they can't be made.
 use Rattle.std.specs.Prelude.{ℕ, ◌+◌, ◌^◌, ◌==◌, nat_lt, if◌then◌else◌, true, false, List, [], ◌∷◌, length, map}
 use Rattle.std.specs.Prelude.{slice_get, unwrap_or, Option, Some, None, Result, Ok}

@@ -30,7 +30,7 @@ pub record KeepsGlyph (source out : Cff) (tokens depth old new : ℕ) : Type 0 w
   pub private_dict : Private
   pub private_dict_is : private_of out new ≡ Some private_dict
   pub no_subroutines : first_of subroutines_operator private_dict.entries ≡ None
-  -- both matrices stand in the new table: a source without one in its top dict gives 0.001 0 0 0.001 0 0 and a font
+  -- both matrices are in the new table: a source without one in its top dict gives 0.001 0 0 0.001 0 0 and a font
   -- dict's own, scaled
   pub matrices_kept : Keeps (matrices source old) (stated_matrices out new)
   pub font_dict_name_kept : Keeps (font_dict_name source old) (font_dict_name out new)

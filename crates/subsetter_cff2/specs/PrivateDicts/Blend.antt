@@ -35,7 +35,7 @@ abbrev pub held : Option ℤ → Option ℤ
 held None = None
 held (Some z) = if is_within z then Some z else None
 
--- the result numbered i: after all defaults stand the deltas of the first one, then those of the second one, and so on
+-- the result numbered i: after all defaults come the deltas of the first one, then those of the second one, and so on
 unfoldable pub result_at : List ℤ → List (Option ℤ) → List (Option ℤ) → ℕ → Option ℤ
 result_at scalars defaults deltas i =
     held (varied (slice_index_or defaults i None) scalars (drop (i * length scalars) deltas))

@@ -52,7 +52,7 @@ chosen (Some v) r = if r.settled then None else do
 unfoldable pub last_natural : List Number → Option ℕ
 last_natural xs = slice_get xs (length xs - 1) >>= as_u32
 
--- blend: the last operand says how many results there are; they stand where their defaults stood
+-- blend: the last operand says how many results there are; they take the place of their defaults
 unfoldable pub blended_by : Option Variation → Registers → Option Registers
 blended_by None r = None
 blended_by (Some v) r = do

@@ -31,7 +31,7 @@ step_text_of s = entry_text s.said >>= λ text. Ok (record { text = text; next =
 abbrev pub operator_text : Option Variation → Registers → List ℕ → Result TextStep Error
 operator_text v r operator = ok_or (step_by (kind_by operator) v operator r) MalformedFont >>= step_text_of
 
--- an entry
+-- the text of an entry
 unfoldable pub step_text : Option Variation → Registers → List ℕ → List Number → Result TextStep Error
 step_text v r operator xs = ok_or (pushed r xs) MalformedFont >>= λ here. operator_text v here operator
 

@@ -31,7 +31,7 @@ unfoldable pub range_operands : List Number → Option (ℕ × ℕ)
 range_operands (size ∷ offset ∷ []) = as_u32 size >>= λ n. as_u32 offset >>= λ start. Some (start, start + n)
 range_operands _ = None
 
--- just so many numbers
+-- just `count` numbers
 unfoldable pub just : ℕ → List Number → Option (List Number)
 just count xs = if length xs == count then Some xs else None
 

@@ -14,7 +14,7 @@ pub data Number : Type 0 where
   Fixed : ℤ → Number
 
 -- ---- reading: the number whose first byte is b
--- 32 to 246 stand for themselves less 139; 247 to 250 and 251 to 254 have one more byte, and no byte is 256 or more
+-- 32 to 246 mean themselves less 139; 247 to 250 and 251 to 254 have one more byte, and no byte is 256 or more
 unfoldable pub short_integer : ℕ → List ℕ → Option (ℤ × List ℕ)
 short_integer b bytes =
     if nat_lt b 32 then None else

@@ -1,5 +1,4 @@
--- What can stand in a font against the coordinates of an instance, under the name of the error that it is answered by
--- (OpenType, "fvar" and "avar").
+-- The faults of a font in the coordinates of an instance, each with its error (OpenType, "fvar" and "avar").
 use Rattle.std.specs.Prelude.{◌≡◌, ◌≢◌, ◌<◌, ℕ, suc, ◌+◌, ◌*◌, List, length, codes, Option, Some, IsSome}
 use Rattle.subsetter_base.specs.Bytes.{number}
 use Rattle.subsetter_base.specs.declared.error.Error.{Error}
@@ -35,7 +34,7 @@ pub data HasSegmentFault (avar : List ℕ) : ℕ → ℕ → Type 0 where
   later_map : (n at count : ℕ) → number avar at 2 ≡ Some count → HasSegmentFault avar n (at + 2 + count * 4)
       → HasSegmentFault avar (suc n) at
 
--- of the segment maps in avar, for so many axes of fvar; axisCount is its bytes 6 and 7
+-- of the segment maps in avar, for `axis_count` axes of fvar; axisCount is its bytes 6 and 7
 pub data HasAvarFault (axis_count : ℕ) (avar : List ℕ) : Type 0 where
   -- it ends before the end of axisCount
   cut_avar : length avar < 8 → HasAvarFault axis_count avar

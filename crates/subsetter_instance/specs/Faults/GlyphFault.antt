@@ -1,5 +1,5 @@
--- What can stand against the description of a glyph and against its metric (OpenType, "maxp", "loca", "glyf", "hhea"
--- and "hmtx"). Each is answered by `MalformedFont`.
+-- The faults of the description of a glyph and of its metric (OpenType, "maxp", "loca", "glyf", "hhea" and "hmtx").
+-- Each has the error `MalformedFont`.
 use Rattle.std.specs.Prelude.{◌≡◌, ◌≤◌, ◌<◌, ℕ, ◌+◌, ◌-◌, ◌*◌, length, Some, if◌then◌else◌}
 use Rattle.subsetter_instance.specs.Source.{Source, offset}
 

@@ -1,5 +1,5 @@
--- What can stand against an item of HVAR or MVAR (OpenType, "Item Variation Store", "Associating Target Items to
--- Variation Data", "HVAR" and "MVAR"). Each is answered by `MalformedFont`.
+-- The faults of an item of HVAR or MVAR (OpenType, "Item Variation Store", "Associating Target Items to Variation
+-- Data", "HVAR" and "MVAR"). Each has the error `MalformedFont`.
 use Rattle.std.specs.Prelude.{◌≡◌, ◌≢◌, ◌<◌, ◌≤◌, ℕ, suc, ◌+◌, ◌*◌, ◌/◌, ◌%◌, ◌==◌, ◌&&◌, false, List, length, take}
 use Rattle.std.specs.Prelude.{drop, Some, nat_le}
 use Rattle.subsetter_base.specs.Bytes.{number, range}
@@ -9,7 +9,7 @@ use Rattle.subsetter_variation.specs.Items.Advances.{advance_index, entry_index,
 
 -- ---- item variation stores
 
--- of a store, in a font of so many axes: format, and the offset of the list of regions, whose bytes begin with
+-- of a store, in a font with `axes` axes: format, and the offset of the list of regions, whose bytes begin with
 -- axisCount and regionCount
 pub data HasStoreFault (axes : ℕ) (store : List ℕ) : Type 0 where
   -- it ends before the end of that offset
@@ -90,7 +90,7 @@ pub data HasMapFault (map : List ℕ) (g : ℕ) : Type 0 where
       → length map < at + entry_index count g * (form / 16 % 4 + 1) + (form / 16 % 4 + 1)
       → HasMapFault map g
 
--- of the item of a glyph's advance, in a font of so many axes: itemVariationStoreOffset is the bytes 4 on of HVAR, and
+-- of the item of a glyph's advance, in a font with `axes` axes: itemVariationStoreOffset is the bytes 4 on of HVAR, and
 -- advanceWidthMappingOffset, 0 for no map, its bytes 8 on
 pub data HasHvarFault (hvar : List ℕ) (axes g : ℕ) : Type 0 where
   -- it ends before the end of these
@@ -116,7 +116,7 @@ pub data HasRecordFault (mvar : List ℕ) (size : ℕ) (tag : List ℕ) : ℕ �
       → HasRecordFault mvar size tag n (k + 1)
       → HasRecordFault mvar size tag (suc n) k
 
--- of the item of a metric's tag, in a font of so many axes: valueRecordSize, valueRecordCount and
+-- of the item of a metric's tag, in a font with `axes` axes: valueRecordSize, valueRecordCount and
 -- itemVariationStoreOffset are the bytes 6, 8 and 10 of MVAR
 pub data HasMvarFault (mvar : List ℕ) (axes : ℕ) (tag : List ℕ) : Type 0 where
   -- it ends before the end of valueRecordCount

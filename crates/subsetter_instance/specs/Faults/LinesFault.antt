@@ -1,5 +1,4 @@
--- What can stand against the metrics of `hhea` and `post` that vary, under the name of the error that it is answered by
--- (OpenType, "MVAR", "hhea" and "post").
+-- The faults of the metrics of `hhea` and `post` that vary, each with its error (OpenType, "MVAR", "hhea" and "post").
 use Rattle.std.specs.Prelude.{◌≡◌, ◌≤◌, ℕ, ◌^◌, false, List, length, codes, Option, Some, Ok, ℤ, ◌+ℤ◌, unsigned_abs}
 use Rattle.subsetter_base.specs.declared.error.Error.{Error}
 use Rattle.subsetter_base.specs.declared.error.Error.TheVariants.{MalformedFont, OverflowError}
@@ -18,7 +17,7 @@ pub data IsLineOfHhea : List ℕ → ℕ → Type 0 where
   caret_slope_run : IsLineOfHhea (codes "hcrn") 20
   caret_offset : IsLineOfHhea (codes "hcof") 22
 
--- those of post
+-- the metrics of post that vary: tag and offset
 pub data IsLineOfPost : List ℕ → ℕ → Type 0 where
   underline_position : IsLineOfPost (codes "undo") 8
   underline_thickness : IsLineOfPost (codes "unds") 10

@@ -1,5 +1,4 @@
--- What can stand against an advance and against rounded points, under the name of the error that it is answered by
--- (OpenType, "HVAR", "hmtx" and "glyf").
+-- The faults of an advance and of rounded points, each with its error (OpenType, "HVAR", "hmtx" and "glyf").
 use Rattle.std.specs.Prelude.{◌≡◌, ◌≤◌, ℕ, ◌^◌, Bool, false, ◌&&◌, List, ◌∷◌, length, Option, Some, Ok, None, ℤ, pos}
 use Rattle.std.specs.Prelude.{◌+ℤ◌, ◌-ℤ◌, int_le, nat_lt, unsigned_abs}
 use Rattle.subsetter_base.specs.declared.error.Error.{Error}

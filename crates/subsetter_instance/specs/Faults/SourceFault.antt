@@ -1,5 +1,5 @@
--- What can stand in a font against the tables that an instance is made from, under the name of the error that it is
--- answered by (OpenType, "head", "hhea", "hmtx", "maxp", "loca", "glyf", "gvar", "HVAR" and "MVAR").
+-- The faults of the tables that an instance is made from, each with its error (OpenType, "head", "hhea", "hmtx",
+-- "maxp", "loca", "glyf", "gvar", "HVAR" and "MVAR").
 use Rattle.std.specs.Prelude.{◌≡◌, ◌≢◌, ◌<◌, ℕ, ◌+◌, ◌*◌, ◌%◌, ◌==◌, List, length, codes, Option, Some, None}
 use Rattle.std.specs.Prelude.{if◌then◌else◌}
 use Rattle.subsetter_base.specs.Bytes.{number}
@@ -14,7 +14,7 @@ pub data HasVersionFault (find : List ℕ → Option (List ℕ)) : Error → Typ
   other_hvar : HasOtherVersion find (codes "HVAR") → HasVersionFault find Unimplemented
   other_mvar : HasOtherVersion find (codes "MVAR") → HasVersionFault find Unimplemented
 
--- of gvar, in a font of so many axes. Its bytes 4 on are axisCount, sharedTupleCount and, of four bytes,
+-- of gvar, in a font with `axes` axes. Its bytes 4 on are axisCount, sharedTupleCount and, of four bytes,
 -- sharedTuplesOffset, then glyphCount, flags and, of four bytes, glyphVariationDataArrayOffset
 pub data HasGvarFault (axes : ℕ) (gvar : List ℕ) : Type 0 where
   -- it ends before the end of its header
@@ -32,7 +32,7 @@ pub data HasGvarFault (axes : ℕ) (gvar : List ℕ) : Type 0 where
   -- glyphVariationDataArrayOffset is past its end
   far_variations : (at : ℕ) → number gvar 16 4 ≡ Some at → length gvar < at → HasGvarFault axes gvar
 
--- of the tables that a look-up finds, for so many axes
+-- of the tables that a look-up finds, for `axes` axes
 pub data HasSourceFault (find : List ℕ → Option (List ℕ)) (axes : ℕ) : Type 0 where
   no_glyf : find (codes "glyf") ≡ None → HasSourceFault find axes
   no_loca : find (codes "loca") ≡ None → HasSourceFault find axes

@@ -1,5 +1,5 @@
--- What can stand against a glyph with its components at a place, under the name of the error that it is answered by
--- (OpenType, "glyf", "loca", "hmtx" and "gvar").
+-- The faults of a glyph with its components at a place, each with its error (OpenType, "glyf", "loca", "hmtx" and
+-- "gvar").
 use Rattle.std.specs.Prelude.{◌≡◌, ◌≤◌, ◌<◌, ℕ, zero, suc, ◌+◌, true, false, ◌&&◌, List, ◌∷◌, ◌++◌, length}
 use Rattle.std.specs.Prelude.{slice_index_or, Some, None, Ok, ℤ, pos}
 use Rattle.std.specs.List.{range_with_len}
@@ -53,7 +53,7 @@ pub data HasSimpleFault (s : Source) (at : List ℤ) (steps g : ℕ) (bytes : Li
 
 -- ---- a composite glyph
 
--- of the bytes of components, of which each takes one of so many steps
+-- of the bytes of components, of which each takes one of the steps that are left
 pub data HasComponentFault : ℕ → List ℕ → Error → Type 0 where
   -- no step is left for the next one
   no_step : (rest : List ℕ) → HasComponentFault zero rest OverflowError
@@ -124,7 +124,7 @@ pub record IsAtComponent (s : Source) (at : List ℤ) (depth steps g : ℕ) (com
   pub y_is : slice_index_or it.ys (length before) (pos 0) ≡ y
   pub all_are : joined (unfolded depth s at) before 0 it.xs it.ys (no_points it.left it.right, it.steps) ≡ Ok all
 
--- of a glyph that may lead to components so many levels deep, in so many steps
+-- of a glyph that may lead to components down to a depth, in a number of steps
 pub data HasWalkFault (s : Source) (at : List ℤ) : ℕ → ℕ → ℕ → Error → Type 0 where
   -- it lies too deep
   too_deep : (steps g : ℕ) → HasWalkFault s at zero steps g MalformedFont

@@ -14,7 +14,7 @@ use Rattle.subsetter_instance.specs.declared.glyphs.components.Arguments.TheVari
 use Rattle.subsetter_instance.specs.declared.glyphs.components.Matrix.{Matrix}
 use Rattle.subsetter_instance.specs.declared.glyphs.components.Component.{Component}
 
--- a number of so many bytes with its sign: int8, int16
+-- a number of one byte or of two, with its sign: int8, int16
 abbrev pub signed_byte : List ℕ → ℕ → Option ℤ
 signed_byte bytes at = option_map (cast_signed w8) (number bytes at 1)
 
@@ -55,19 +55,19 @@ arguments_at flags bytes =
     then (if has_flag flags 0x0002 then word_offset bytes else word_points bytes)
     else (if has_flag flags 0x0002 then byte_offset bytes else byte_points bytes)
 
--- where they end
+-- where the arguments of a component end: after two words (ARG_1_AND_2_ARE_WORDS) or two bytes
 abbrev pub arguments_end : ℕ → ℕ
 arguments_end flags = if has_flag flags 0x0001 then 8 else 6
 
 -- ---- the matrix, of F2DOT14
 
--- one scale
+-- WE_HAVE_A_SCALE: one scale
 abbrev pub scale_at : List ℕ → ℕ → Option (Option Matrix)
 scale_at bytes at = do
   scale ← signed_word bytes at
   Some (Some (record { xx = scale; yx = pos 0; xy = pos 0; yy = scale }))
 
--- xscale and yscale
+-- WE_HAVE_AN_X_AND_Y_SCALE: xscale and yscale
 abbrev pub scales_at : List ℕ → ℕ → Option (Option Matrix)
 scales_at bytes at = do
   xx ← signed_word bytes at
@@ -91,7 +91,7 @@ matrix_at flags bytes at =
     else if has_flag flags 0x0080 then two_by_two_at bytes at
     else Some None
 
--- where it ends
+-- where the transformation of a component ends
 abbrev pub matrix_end : ℕ → ℕ → ℕ
 matrix_end flags at =
     at

@@ -89,7 +89,7 @@ rounded s at g m u = do
 abbrev pub levels : ℕ
 levels = 65
 
--- a glyph at a place, drawn in so many steps
+-- a glyph at a place, drawn in at most `steps` steps
 unfoldable pub drawn : Source → List ℤ → ℕ → ℕ → Result Drawn Error
 drawn s at steps g = do
   m ← ok_or (metric s g) MalformedFont

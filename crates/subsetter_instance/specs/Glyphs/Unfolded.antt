@@ -58,7 +58,7 @@ in_range_or_fault u steps = if are_near u.xs && are_near u.ys then Ok (u, steps)
 
 -- ---- moved
 
--- where the points of an outline go, in parts of 2^30, in so many steps
+-- where the points of an outline go, in parts of 2^30, in at most `steps` steps
 abbrev pub moved : Option Gvar → ℕ → Outline → List ℤ → ℕ → Result (List ℤ × List ℤ × ℕ) Error
 moved None g o at steps = Ok (in_units o.xs, in_units o.ys, steps)
 moved (Some t) g o at steps = moved_points t g o at steps
@@ -308,7 +308,7 @@ is_composite bytes = is_below_zero (number bytes 0 2)
 abbrev pub counted_description : Source → ℕ → Option (List ℕ)
 counted_description s g = if nat_lt g s.count then description s g else None
 
--- A glyph at a place, and the steps that are left. It may lead to components so many levels deep.
+-- A glyph at a place, and the steps that are left. It may lead to components down to a depth, in a number of steps.
 unfoldable pub unfolded : ℕ → Source → List ℤ → ℕ → ℕ → Result (Unfolded × ℕ) Error
 unfolded zero s at steps g = Err MalformedFont
 unfolded (suc depth) s at steps g = do

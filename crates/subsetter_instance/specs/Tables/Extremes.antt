@@ -47,7 +47,7 @@ joined (Some a) (Some b) = Some (both a b)
 abbrev pub all_extents : List Drawn → Option Extents
 all_extents drawn = fold (λ e d. joined e (glyph_extents d.advance d.points)) None drawn
 
--- the greatest advance
+-- advanceWidthMax: the greatest advance
 abbrev pub widest : List Drawn → ℕ
 widest drawn = fold max 0 (map (λ d. d.advance) drawn)
 

@@ -78,7 +78,7 @@ slant_by fvar settings =
 abbrev pub is_default : List ℤ → Bool
 is_default at = list_all (λ c. int_eq c (pos 0)) at
 
--- off the default
+-- italicAngle by `slnt`, off the default
 abbrev pub slant : (List ℕ → Option (List ℕ)) → List (Tag × ℤ) → List ℤ → Option ℤ
 slant find settings at = if is_default at then None else slant_by (find (codes "fvar")) settings
 

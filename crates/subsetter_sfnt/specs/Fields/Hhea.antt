@@ -9,7 +9,7 @@ ascender hhea = signed_field hhea 4
 abbrev pub descender : Option (List ℕ) → Option ℤ
 descender hhea = signed_field hhea 6
 
--- numberOfHMetrics
+-- numberOfHMetrics, at byte 34
 abbrev pub number_of_h_metrics : List ℕ → Option ℕ
 number_of_h_metrics hhea = number hhea 34 2
 

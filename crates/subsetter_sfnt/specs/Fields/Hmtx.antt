@@ -34,6 +34,6 @@ metric_bytes m = to_be_bytes w16 m.advance_width ++ to_be_bytes w16 m.lsb
 abbrev pub bearing_bytes : LongHorMetric → List ℕ
 bearing_bytes m = to_be_bytes w16 m.lsb
 
--- so many longHorMetrics, then bearings alone
+-- `count` longHorMetrics, then bearings alone
 unfoldable pub hmtx_bytes : ℕ → List LongHorMetric → List ℕ
 hmtx_bytes count ms = flat_map metric_bytes (take count ms) ++ flat_map bearing_bytes (drop count ms)

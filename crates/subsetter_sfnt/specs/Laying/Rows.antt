@@ -65,7 +65,7 @@ rows t =
     ∷ record { tag = codes "name"; bytes = t.name } ∷ record { tag = codes "post"; bytes = t.post }
     ∷ record { tag = codes "prep"; bytes = t.prep } ∷ []
 
--- the tables of every font that a source has; hhea stands with hmtx alone
+-- the tables of every font that a source has; hhea is there only with hmtx
 abbrev pub shared_in : (List ℕ → Option (List ℕ)) → FontTables
 shared_in find = record {
   cff = None;
@@ -94,6 +94,6 @@ called_for TrueType find =
     }
 called_for Cff find = record (shared_in find) { cff = find (codes "CFF ") }
 
--- their tags
+-- the tags of the tables of a new font
 abbrev pub tags_of : FontFlavor → (List ℕ → Option (List ℕ)) → List (List ℕ)
 tags_of flavor find = tags (present (rows (called_for flavor find)))

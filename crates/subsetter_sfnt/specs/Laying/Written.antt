@@ -34,7 +34,7 @@ abbrev pub record_bytes : ℕ → Table → List ℕ
 record_bytes at t =
     t.tag ++ to_be_bytes w32 (checksum t.bytes) ++ to_be_bytes w32 at ++ to_be_bytes w32 (length t.bytes)
 
--- the records of tables that stand from a place on, one after another
+-- the records of tables that follow one another from a place on
 abbrev pub directory_bytes : ℕ → List Table → List ℕ
 directory_bytes at [] = []
 directory_bytes at (t ∷ ts) = record_bytes at t ++ directory_bytes (at + length (aligned 4 t.bytes)) ts
@@ -43,7 +43,7 @@ directory_bytes at (t ∷ ts) = record_bytes at t ++ directory_bytes (at + lengt
 abbrev pub body : List Table → List ℕ
 body ts = flat_map (λ (t : Table). aligned 4 t.bytes) ts
 
--- what stands before the tables
+-- what is before the tables
 unfoldable pub front : ℕ → List Table → List ℕ
 front kind ts = header_bytes kind (length ts) ++ directory_bytes (12 + 16 * length ts) ts
 
@@ -68,7 +68,7 @@ abbrev pub fits : ℕ → List Table → Bool
 fits at [] = true
 fits at (t ∷ ts) = nat_lt at (2 ^ 32) && (nat_lt (length t.bytes) (2 ^ 32) && fits (at + length (aligned 4 t.bytes)) ts)
 
--- where the first table stands
+-- where the first table is
 abbrev pub start_of : List Table → ℕ
 start_of ts = 12 + 16 * length ts
 

@@ -193,7 +193,7 @@ abbrev pub ended_or : List (List ℕ) → Outcome → (List ℕ → List (List �
 ended_or [] over go = over
 ended_or (bytes ∷ callers) over go = go bytes callers
 
--- a run from a state in which these events have come, with so many tokens at most
+-- a run from a state in which these events have come, with at most n tokens
 unfoldable pub run : Library → ℕ → ℕ → List Event → State → Outcome
 run library depth zero said s =
     ended_or (unended s.rests) (Finishes (record { events = said; left = s.registers.operands }))
@@ -205,7 +205,7 @@ run library depth (suc tokens) said s =
 abbrev pub start : List ℕ → State
 start charstring = record { rests = charstring ∷ []; registers = record { operands = []; stems = 0; mask_len = 0 } }
 
--- how the run of a glyph's own charstring ends, with so many tokens and callers at most
+-- how the run of a glyph's own charstring ends, with at most `tokens` tokens and `depth` callers
 unfoldable pub outcome : Library → ℕ → ℕ → List ℕ → Outcome
 outcome library tokens depth charstring = run library depth tokens [] (start charstring)
 

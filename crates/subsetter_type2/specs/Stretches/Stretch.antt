@@ -9,7 +9,8 @@ use Rattle.subsetter_type2.specs.declared.stretches.stretch.Stretch.{Stretch}
 abbrev pub registers_with : Written → ℕ → ℕ → Registers
 registers_with w stems mask_len = record { operands = w.operands; stems = stems; mask_len = mask_len }
 
--- each run that comes to this text comes after so many bytes of it by so many tokens, and this is written then
+-- each run that comes to this text comes to the place after its first `len` bytes by `tokens` tokens, and this is
+-- written then
 abbrev pub Advances : List ℕ → ℕ → ℕ → ℕ → Written → Written → Type 0
 Advances charstring len tokens mask_len w now =
     (front : List ℕ) (o : Outcome) (library : Library) (depth all left stems : ℕ) (callers : List (List ℕ))
@@ -39,7 +40,7 @@ pub record Extends (charstring : List ℕ) (mask_len : ℕ) (s longer : Stretch)
   pub step : (bytes : List ℕ) (settled : ℕ) (w : Written) → Comes charstring mask_len bytes settled w s
       → Comes charstring mask_len bytes settled w longer
 
--- one token longer, with so many tokens at most
+-- one token longer, with at most `most` tokens
 pub record IsLonger (charstring : List ℕ) (most mask_len : ℕ) (s longer : Stretch) : Type 0 where
   pub sound : IsSound longer
   pub extends : Extends charstring mask_len s longer

@@ -1,5 +1,4 @@
--- What can stand against the variations of a glyph, under the name of the error that it is answered by (OpenType,
--- "gvar" and "Tuple Variation Store").
+-- The faults of the variations of a glyph, each with its error (OpenType, "gvar" and "Tuple Variation Store").
 use Rattle.std.specs.Prelude.{◌≡◌, ◌<◌, ℕ, suc, ℤ, pos, Bool, false, List, length, ◌==◌, Option, Some, None, Ok}
 use Rattle.std.specs.Ordering.{int_eq}
 use Rattle.subsetter_base.specs.declared.error.Error.{Error}

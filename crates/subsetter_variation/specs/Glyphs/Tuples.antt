@@ -96,7 +96,7 @@ region_axis_of inner peaks starts ends =
     if inner then record { start = short starts; peak = short peaks; end = short ends }
     else plain_region_axis (short peaks)
 
--- on so many axes
+-- a region on the next n axes
 abbrev pub region_axes : Bool → ℕ → List ℕ → List ℕ → List ℕ → List RegionAxis
 region_axes inner zero peaks starts ends = []
 region_axes inner (suc n) peaks starts ends =

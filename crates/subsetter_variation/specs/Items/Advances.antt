@@ -9,7 +9,7 @@ use Rattle.subsetter_base.specs.Options.{◌>>=◌}
 use Rattle.subsetter_variation.specs.Items.ItemVariations.{Store, item_delta, item_store, nullable_offset}
 use Rattle.subsetter_variation.specs.Items.ItemVariations.{whole_or_fault}
 
--- how many entries a map of indexes has, by its format, and where they stand
+-- how many entries a map of indexes has, by its format, and where they are
 abbrev pub map_head : List ℕ → Option (ℕ × ℕ)
 map_head map = do
   format ← number map 0 1

@@ -14,7 +14,7 @@ pub record IsRegion (s : Store) (r : Row) (k : ℕ) (region : Items) : Type 0 wh
   pub index_is : number r.indexes (k * 2) 2 ≡ Some index
   pub region_is : region_items s index ≡ Some region
 
--- each region of a row is on so many axes, one of which isn't ignored
+-- each region of a row is on `axes` axes, one of which isn't ignored
 abbrev pub HasBoundRegions : Store → Row → ℕ → Type 0
 HasBoundRegions s r axes =
     (k : ℕ) (region : Items) → IsRegion s r k region → (length (region_of region) ≡ axes) × HasAxis (region_of region)
@@ -39,7 +39,7 @@ IsItemAtMaster =
     → item_row s outer inner ≡ Some r → IsMaster s at r k → delta r k ≡ Some d → item_delta s at outer inner ≡ Some v
     → v ≡ unit *ℤ d
 
--- how far an item of so many whole units is looked at: less than 2 ^ 32 units
+-- a delta of an item in whole units is looked at where it is less than 2 ^ 32 units
 abbrev pub IsWhole : ℤ → Type 0
 IsWhole d = unsigned_abs d < 2 ^ 32
 

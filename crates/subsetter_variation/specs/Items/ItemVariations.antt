@@ -14,7 +14,7 @@ use Rattle.subsetter_variation.specs.Nearest.{nearest}
 use Rattle.subsetter_variation.specs.Region.{scalar}
 use Rattle.subsetter_variation.specs.declared.region.RegionAxis.{RegionAxis}
 
--- an offset of 32 bits, unless it is 0, which stands for no table (OpenType, "Data Types")
+-- an offset of 32 bits, unless it is 0, which means no table (OpenType, "Data Types")
 abbrev pub nullable_offset : List ℕ → ℕ → Option ℕ
 nullable_offset bytes at = do
   offset ← number bytes at 4
@@ -144,7 +144,7 @@ terms s at r (suc n) k = do
   rest ← terms s at r n (k + 1)
   Some (first +ℤ rest)
 
--- what an item varies by at a location, in parts of 2^30; the indexes 0xFFFF and 0xFFFF stand for no variation
+-- what an item varies by at a location, in parts of 2^30; the indexes 0xFFFF and 0xFFFF mean no variation
 unfoldable pub item_delta : Store → List ℤ → ℕ → ℕ → Option ℤ
 item_delta s at outer inner =
     if outer == 65535 && inner == 65535 then Some (pos 0)

@@ -19,7 +19,7 @@ axis_of bytes =
       maximum = long_signed_at bytes 12;
     }
 
--- so many records of one size each, one after the other
+-- n records of `size` bytes each, one after the other
 abbrev pub axes_at : ℕ → ℕ → List ℕ → ℕ → Option (List Axis)
 axes_at zero size fvar at = Some []
 axes_at (suc n) size fvar at = do

@@ -14,7 +14,7 @@ use Rattle.subsetter_variation.specs.Locations.Segments.{segment_map_at, axis_va
 use Rattle.subsetter_variation.specs.declared.locations.axes.Axis.{Axis}
 use Rattle.subsetter_variation.specs.declared.locations.segments.AxisValueMap.{AxisValueMap}
 
--- on one axis
+-- the normalized coordinate on one axis, mapped by its segment map of avar, in 16384ths
 unfoldable pub coordinate : Axis → List AxisValueMap → List (Tag × ℤ) → ℤ
 coordinate a ends settings = nearest (mapped ends (default_normalized a (user_coordinate a settings))) 4
 

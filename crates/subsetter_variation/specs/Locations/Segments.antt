@@ -24,7 +24,7 @@ segment_map_at avar at = do
 abbrev pub axis_value_maps : Items → List AxisValueMap
 axis_value_maps items = values 4 (λ bytes. Some (axis_value_map_of bytes)) items
 
--- 16384ths as 65536ths
+-- an F2DOT14 as a Fixed: 16384ths as 65536ths
 abbrev pub f2dot14_to_fixed : ℤ → ℤ
 f2dot14_to_fixed z = pos 4 *ℤ z
 

@@ -52,7 +52,7 @@ pub record KeepsMetrics (find : List ℕ → Option (List ℕ)) (order : List �
   pub before : take 34 hhea ≡ take 34 header
   pub after : drop 36 hhea ≡ drop 36 header
 
--- what can stand against metrics, under the name of its error
+-- the faults of metrics, each with its error
 pub data HasMetricsFault (find : List ℕ → Option (List ℕ)) (reached : ℕ → Type 0) : Error → Type 0 where
   no_hhea : IsSome (find (codes "hmtx")) → find (codes "hhea") ≡ None → HasMetricsFault find reached MalformedFont
   -- numberOfHMetrics ends at byte 36

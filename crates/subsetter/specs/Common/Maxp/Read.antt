@@ -29,7 +29,7 @@ pub record IsMaxProfile (find : List ℕ → Option (List ℕ)) (flavor : FontFl
   pub count : num_glyphs maxp ≡ Some n
   pub further : drop 6 maxp ≡ further_fields flavor source
 
--- what can stand against `maxp`, under the name of its error
+-- the faults of `maxp`, each with its error
 pub data HasMaxProfileFault (find : List ℕ → Option (List ℕ)) : Error → Type 0 where
   -- numGlyphs ends at byte 6
   short_maxp : (maxp : List ℕ) → find (codes "maxp") ≡ Some maxp → length maxp < 6

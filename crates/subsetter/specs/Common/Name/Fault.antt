@@ -1,4 +1,4 @@
--- What can stand against a subset of `name`, under the name of the error (OpenType, "name").
+-- The faults that stop a subset of `name`, each with its error (OpenType, "name").
 use Rattle.std.specs.Prelude.{◌≡◌, ℕ, ◌+◌, ◌*◌, ◌<◌, List, length, filter, filter_map, codes, Option, Some, None}
 use Rattle.std.specs.Prelude.{Contains}
 use Rattle.subsetter_base.specs.Bytes.{number}

@@ -1,4 +1,4 @@
--- The plain way to subset `name`, with the error that is answered for each fault.
+-- The plain way to subset `name`, with the error that is returned for each fault.
 use Rattle.std.specs.Prelude.{ℕ, ◌+◌, ◌*◌, ◌/◌, List, [], ◌∷◌, ◌++◌, length, filter, flat_map, codes, Option, Some}
 use Rattle.std.specs.Prelude.{None, Result, Ok, Err, nat_lt, nat_le, ◌==◌, if◌then◌else◌}
 use Rattle.std.specs.Option.{ok_or}
@@ -37,7 +37,7 @@ placed storage strings (r ∷ rs) = do
 unfoldable pub header_bytes : ℕ → List ℕ
 header_bytes count = to_be_bytes w16 0 ++ to_be_bytes w16 count ++ to_be_bytes w16 (6 + 12 * count)
 
--- the bytes of records, and the strings that stand after them
+-- the bytes of records, and the strings after them
 pub record Laid : Type 0 where
   pub bytes : List ℕ
   pub strings : List (List ℕ)

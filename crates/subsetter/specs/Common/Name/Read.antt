@@ -11,7 +11,7 @@ use Rattle.subsetter_sfnt.specs.declared.fields.name.NameRecord.{NameRecord}
 
 -- ---- read
 
--- that many records
+-- the next n name records, of 12 bytes each
 abbrev pub name_records_in : ℕ → List ℕ → List NameRecord
 name_records_in zero bytes = []
 name_records_in (suc n) bytes = name_record_of bytes ∷ name_records_in n (drop 12 bytes)
@@ -92,7 +92,7 @@ with_strings ts (s ∷ ss) = with_strings (with_string ts s) ss
 abbrev pub distinct : List (List ℕ) → List (List ℕ)
 distinct ss = with_strings [] ss
 
--- where a string begins among strings that stand one after another; after them all where it isn't one of them
+-- where a string begins among strings that follow one another; after them all where it isn't one of them
 abbrev pub string_offset : List (List ℕ) → List ℕ → ℕ
 string_offset [] s = 0
 string_offset (t ∷ ts) s = if bytes_eq s t then 0 else length t + string_offset ts s

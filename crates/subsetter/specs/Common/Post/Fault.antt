@@ -1,4 +1,4 @@
--- What can stand against the names of glyphs, under the name of the error (OpenType, "post").
+-- The faults of the names of glyphs, each with its error (OpenType, "post").
 use Rattle.std.specs.Prelude.{◌≡◌, ℕ, ◌+◌, ◌*◌, ◌<◌, ◌≤◌, List, length, codes, nat_eq, Option, Some}
 use Rattle.std.specs.List.{AllByRecursion, IsDistinct}
 use Rattle.subsetter_base.specs.Bytes.{number}

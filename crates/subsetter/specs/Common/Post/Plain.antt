@@ -1,4 +1,4 @@
--- The plain way to subset `post`, with the error that is answered for each fault.
+-- The plain way to subset `post`, with the error that is returned for each fault.
 use Rattle.std.specs.Prelude.{ℕ, ◌+◌, ◌-◌, List, [], ◌∷◌, ◌++◌, map, get_or, count_by, codes, Option, Some, None}
 use Rattle.std.specs.Prelude.{Result, Ok, Err, nat_lt, nat_le, ◌==◌, if◌then◌else◌}
 use Rattle.std.specs.Option.{ok_or}
@@ -10,7 +10,7 @@ use Rattle.subsetter.specs.declared.common.post.read.Version2Table.{Version2Tabl
 use Rattle.subsetter.specs.Common.Post.Read.{PostTable, post_table, glyph_index, name_of_index, names_in, pascal_bytes}
 use Rattle.subsetter.specs.Common.Post.Read.{post_bytes}
 
--- what the code's table stands for
+-- what the code's table means
 abbrev pub seen_post : Version2Table → PostTable
 seen_post t = record { header = t.header.now; indexes = t.glyph_indexes; names_data = t.names_data.now }
 

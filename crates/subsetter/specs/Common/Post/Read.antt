@@ -24,7 +24,7 @@ pascal_strings (suc n) (len ∷ bytes) =
 abbrev pub names_in : List ℕ → List (List ℕ)
 names_in bytes = pascal_strings (length bytes) bytes
 
--- the header, an index of two bytes for each glyph, and the names that stand after
+-- the header, an index of two bytes for each glyph, and the names after it
 pub record PostTable : Type 0 where
   pub header : List ℕ
   pub indexes : Items
@@ -44,7 +44,7 @@ unfoldable pub post_table : List ℕ → Option PostTable
 post_table bytes =
     option_and_then (λ version. if version == 0x00020000 then post_parts bytes else None) (number bytes 0 4)
 
--- the index of a glyph
+-- glyphNameIndex of a glyph
 abbrev pub glyph_index : PostTable → ℕ → Option ℕ
 glyph_index t g = do
   bytes ← item 2 t.indexes g

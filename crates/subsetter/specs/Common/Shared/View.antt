@@ -1,4 +1,4 @@
--- What the code's shared tables stand for.
+-- What the code's shared tables mean.
 use Rattle.std.specs.Option.{option_map}
 use Rattle.std.specs.Cow.{cow_slice_items}
 use Rattle.subsetter.specs.declared.common.shared.SharedTables.{SharedTables as Made}

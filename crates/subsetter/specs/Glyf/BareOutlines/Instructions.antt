@@ -7,10 +7,10 @@ use Rattle.subsetter.specs.Glyf.Read.{outline}
 use Rattle.subsetter.specs.Glyf.Parts.{Component, Chain, Parts, Empty, Simple, Composite, has_instructions}
 use Rattle.subsetter.specs.Glyf.Parts.{outline_parts, spelled}
 
--- a simple outline: the length of its instructions, which stands after ten bytes of head and two for each contour, is 0
--- where a byte of the outline stands after them, as the flags of its points do instructions that reach the end of an
--- outline or past it aren't covered: these belong to an outline without points or to one that is cut, and that one
--- stays as it is
+-- a simple outline: the length of its instructions, which is after ten bytes of header and two for each contour, is 0
+-- where a byte of the outline follows the instructions, as the flags of its points do. Instructions that reach the end
+-- of an outline or past it aren't covered: these belong to an outline without points or to one that is cut, and that
+-- one stays as it is
 abbrev pub IsBareSimple : List ℕ → Type 0
 IsBareSimple bytes =
     (contours size : ℕ) → number bytes 0 2 ≡ Some contours → number bytes (10 + 2 * contours) 2 ≡ Some size

@@ -16,7 +16,7 @@ requested_size hinting outline =
 abbrev pub requested_sizes : Bool → (ℕ → Option (List ℕ)) → List ℕ → ℕ
 requested_sizes hinting outline_of glyphs = sum_by (λ g. requested_size hinting (outline_of g)) glyphs
 
--- the outlines of some of the reached glyphs, each counted once, take more than so many bytes
+-- the outlines of some of the reached glyphs, each counted once, take more than `most` bytes
 pub record AreLonger (hinting : Bool) (outline_of : ℕ → Option (List ℕ)) (glyphs : List ℕ) (most : ℕ) : Type 0 where
   pub part : List ℕ
   pub once : IsWithoutRepeats part

@@ -71,8 +71,8 @@ pub record IsVisited (t : Outlines) (order waiting : List ℕ) (g : ℕ) (order_
   -- the order has at most 65535 glyphs
   pub room : length order_after < 65536
 
--- a glyph that the given ones reach is faulty, or they reach all numbers, or outlines that take more than so many
--- bytes, or memory ran out
+-- a glyph that the given ones reach is faulty, or they reach all numbers, or outlines that take more than `most` bytes,
+-- or memory ran out
 pub data StopsClosure (t : Outlines) (glyphs : List ℕ) (most : ℕ) : Error → Type 0 where
   no_memory : StopsClosure t glyphs most OutOfMemory
   faulty_glyph : (g : ℕ) → IsReachableBy (outline_in t) glyphs g → IsFaulty t g

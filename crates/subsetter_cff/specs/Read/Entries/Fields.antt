@@ -31,7 +31,7 @@ field_by o =
     else if bytes_eq o registry_operator then fields.Ros
     else fields.Other
 
--- one entry more
+-- the values after one more entry
 abbrev pub taken_as : DictValues → Field → List Number → DictValues
 taken_as s fields.Notice xs = record s { notice = string_operand xs }
 taken_as s fields.Copyright xs = record s { copyright = string_operand xs }

@@ -15,11 +15,11 @@ use Rattle.subsetter_cff.specs.Read.Entries.Operators.{font_matrix_operator, fon
 abbrev pub thousandth : Number
 thousandth = Real (record { mantissa = pos 1; power = negsuc 2 })
 
--- 0.001 0 0 0.001 0 0
+-- the FontMatrix of a font that has none: 0.001 0 0 0.001 0 0
 abbrev pub thousandth_matrix : List Number
 thousandth_matrix = thousandth ∷ Integer (pos 0) ∷ Integer (pos 0) ∷ thousandth ∷ Integer (pos 0) ∷ Integer (pos 0) ∷ []
 
--- 1 0 0 1 0 0
+-- the matrix that changes nothing: 1 0 0 1 0 0
 abbrev pub unit_matrix : List Number
 unit_matrix =
     Integer (pos 1) ∷ Integer (pos 0) ∷ Integer (pos 0) ∷ Integer (pos 1) ∷ Integer (pos 0) ∷ Integer (pos 0) ∷ []
@@ -44,7 +44,7 @@ own_matrix cff glyph =
 unfoldable pub matrices : Cff → ℕ → Option (List Decimal × List Decimal)
 matrices cff glyph = option_map (matrix_pair (last_of font_matrix_operator cff.top)) (own_matrix cff glyph)
 
--- the matrices that stand in the top dict and in a glyph's font dict, by their values
+-- the matrices in the top dict and in a glyph's font dict, by their values
 unfoldable pub stated_matrices : Cff → ℕ → Option (List Decimal × List Decimal)
 stated_matrices cff glyph = do
   top ← last_of font_matrix_operator cff.top

@@ -1,5 +1,5 @@
 -- What the operators of top and font dicts demand of their operands (Technical Note 5176, section 9 "Top DICT Data" and
--- section 18 "CID-keyed Fonts"): just so many, each of its kind and in its range. Other operators demand nothing.
+-- section 18 "CID-keyed Fonts"): how many, each of its kind and in its range. Other operators demand nothing.
 use Rattle.std.specs.Prelude.{ℕ, ◌==◌, Bool, List, [], ◌∷◌, length, is_some}
 use Rattle.subsetter_cffdata.specs.Numerals.Numbers.{Number}
 use Rattle.subsetter_cffdata.specs.Dicts.Operands.{string_operand, offset_operand, range_operands}
@@ -25,7 +25,7 @@ one_offset xs = is_some (offset_operand xs)
 abbrev pub one_range : List Number → Bool
 one_range xs = is_some (range_operands xs)
 
--- so many numbers
+-- n numbers, no more and no fewer
 abbrev pub so_many : ℕ → List Number → Bool
 so_many n xs = length xs == n
 

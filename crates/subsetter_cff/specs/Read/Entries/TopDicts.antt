@@ -41,7 +41,7 @@ pub record IsTopDict (es : List Entry) (t : TopDictData) : Type 0 where
   pub fd_select : t.fd_select ≡ last_offset font_dict_select_operator es
   pub private : option_map (λ r. (r.start, r.end)) t.private ≡ last_range private_operator es
 
--- of a font dict
+-- what the entries of a font dict say: the last FontMatrix, FontName and Private
 pub record IsFontDict (es : List Entry) (f : FontDictData) : Type 0 where
   pub font_matrix : option_map (map number_of) f.font_matrix ≡ last_numbers 6 font_matrix_operator es
   pub font_name : option_map (λ s. s.0) f.font_name ≡ last_string font_name_operator es

@@ -40,7 +40,7 @@ values_of t = record {
   private = option_map (λ r. (r.start, r.end)) t.private;
 }
 
--- one entry more
+-- the values after one more entry
 abbrev pub taken : DictValues → List ℕ → List Number → DictValues
 taken s operator xs = record {
   copyright = if bytes_eq operator copyright_operator then string_operand xs else s.copyright;
@@ -56,7 +56,7 @@ taken s operator xs = record {
   private = if bytes_eq operator private_operator then range_operands xs else s.private;
 }
 
--- all entries
+-- the values after all entries
 abbrev pub values_after : DictValues → List Entry → DictValues
 values_after s [] = s
 values_after s (e ∷ es) = values_after (taken s e.operator e.operands) es

@@ -47,6 +47,6 @@ selected (Ranges bytes) glyph = card 2 bytes >>= λ count.
 unfoldable pub font_dict_number : Cff → ℕ → Option ℕ
 font_dict_number cff glyph = font_dict_select cff >>= λ select. selected select glyph
 
--- a glyph's font dict
+-- a glyph's font dict, by FDSelect and FDArray
 unfoldable pub font_dict_of : Cff → ℕ → Option (List Entry)
 font_dict_of cff glyph = font_dict_number cff glyph >>= λ number. font_dicts cff >>= λ dicts. slice_get dicts number

@@ -12,7 +12,7 @@ use Rattle.subsetter_cff.specs.Read.Entries.Operators.{copyright_operator, notic
 use Rattle.subsetter_cff.specs.Read.Entries.Operators.{font_matrix_operator, font_box_operator}
 use Rattle.subsetter_cff.specs.Write.Laying.TableBy.{front_size}
 
--- the entries of a top dict that name no place; those that do stand after them
+-- the entries of a top dict that name no place; those that do come after them
 abbrev pub named_entries : TopDict → List NewEntry
 named_entries t =
     registry_entry ∷ (number_entries copyright_operator t.copyright ++ (number_entries notice_operator t.notice

@@ -32,7 +32,7 @@ pub data Select : Type 0 where
   Numbers : List ℕ → Select
 
 pub record Parts : Type 0 where
-  -- the Name INDEX as it stands
+  -- the Name INDEX as it is
   pub names : List ℕ
   pub copyright : Option FontString
   pub notice : Option FontString
@@ -56,7 +56,7 @@ given_strings p =
     ++ (custom_string p.font_name
     ++ (custom_string p.notice ++ flat_map (λ (f : FontDict). custom_string f.name) p.font_dicts))
 
--- Adobe and Identity of ROS stand in front
+-- Adobe and Identity of ROS come first
 abbrev pub named_strings : Parts → List (List ℕ)
 named_strings p = codes "Adobe" ∷ codes "Identity" ∷ given_strings p
 
@@ -64,7 +64,7 @@ abbrev pub with_strings : List (List ℕ) → List (List ℕ) → List (List ℕ
 with_strings found [] = found
 with_strings found (s ∷ more) = with_strings (with_value bytes_eq found s) more
 
--- each once
+-- the String INDEX: each string once
 unfoldable pub strings : Parts → List (List ℕ)
 strings p = with_strings [] (named_strings p)
 
@@ -116,7 +116,7 @@ privates fs = flat_map private_bytes fs
 abbrev pub private_entry : ℕ → ℕ → NewEntry
 private_entry size place = record { operator = private_operator; operands = Long size ∷ Long place ∷ [] }
 
--- a font dict with the number of its name, whose private dict of a size stands at a place (section 18 "CID-keyed
+-- a font dict with the number of its name, whose private dict, with its size, is at a place (section 18 "CID-keyed
 -- Fonts")
 unfoldable pub entries_of_font_dict_by : List Number → ℕ → ℕ → Option ℕ → List NewEntry
 entries_of_font_dict_by matrix size place name =
@@ -126,14 +126,14 @@ abbrev pub entries_of_font_dict : List (List ℕ) → ℕ → FontDict → List 
 entries_of_font_dict strings place f =
     entries_of_font_dict_by f.matrix (length (private_bytes f)) place (option_map (number_of strings) f.name)
 
--- font dicts whose private dicts stand one after the other from a place on
+-- font dicts whose private dicts follow one another from a place on
 abbrev pub font_dicts_from : List (List ℕ) → ℕ → List FontDict → List (List ℕ)
 font_dicts_from strings place [] = []
 font_dicts_from strings place (f ∷ fs) =
     dict (entries_of_font_dict strings place f) ∷ font_dicts_from strings (place + length (private_bytes f)) fs
 
 -- ---- the whole
--- where the parts stand that the top dict names
+-- where the parts are that the top dict names
 pub record Offsets : Type 0 where
   pub charset : ℕ
   pub char_strings : ℕ

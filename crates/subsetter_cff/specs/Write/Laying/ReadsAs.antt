@@ -29,7 +29,7 @@ font_dict_in p glyph = slice_get p.font_dicts (number_in p.select glyph)
 abbrev pub adobe_identity : Keying
 adobe_identity = record { registry = Custom (codes "Adobe"); ordering = Custom (codes "Identity"); supplement = pos 0 }
 
--- of a glyph
+-- what is read of a glyph of the new table
 pub record GlyphReadsAs (p : Parts) (cff : Cff) (glyph : ℕ) : Type 0 where
   -- its CID is its number
   pub cid : cid_of cff glyph ≡ Some glyph

@@ -17,7 +17,7 @@ new_dicts t = map font_dict_view t.font_dicts.items
 abbrev pub front_size : List (List ℕ) → TableParts → ℕ
 front_size texts t = length (front_by texts t nowhere)
 
--- what stands between the front and the charstrings, where the front has a size
+-- what is between the front and the charstrings, where the front has a size
 pub record ArePieces (texts : List (List ℕ)) (t : TableParts) (glyphs size : ℕ) (x : Pieces) : Type 0 where
   pub charset : x.charset ≡ length (charset_bytes glyphs)
   pub privates_are : x.privates ≡ privates (new_dicts t)

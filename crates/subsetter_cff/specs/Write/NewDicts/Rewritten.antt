@@ -34,7 +34,7 @@ written_if_there operator (Some xs) = written_entry operator xs
 unfoldable pub rewritten_private : List ℕ → Result (List ℕ) Error
 rewritten_private bytes = written_entries (without subroutines_operator (entries bytes))
 
--- entries before a rest are written as they stand
+-- entries before a rest are written as they are
 pub record IsCopied (bytes rest : List ℕ) : Type 0 where
   pub text : List ℕ
   pub is : bytes ≡ text ++ rest

@@ -1,4 +1,4 @@
--- What can stand against a subset in a CFF table, under the name of the error that it is answered by; and its laws.
+-- The faults that stop a subset in a CFF table, each with its error; and its laws.
 use Rattle.std.specs.Prelude.{◌≡◌, ℕ, Contains, List, Some, Ok, Err}
 use Rattle.subsetter_base.specs.declared.error.Error.{Error}
 use Rattle.subsetter_base.specs.declared.error.Error.TheVariants.{UnknownKind, MalformedFont, Unimplemented}
@@ -22,13 +22,13 @@ pub data HasCffFault (bytes : List ℕ) (tokens depth : ℕ) (glyphs : List ℕ)
   in_limits : {e : Error} (cff : Cff) → cff_parts bytes ≡ Some cff → HasLimitFault cff tokens depth glyphs e
       → HasCffFault bytes tokens depth glyphs e
 
--- what is refused has a fault of the name that is answered
+-- what is refused has a fault with the error that is returned
 abbrev pub RefusedHasFault : Type 0
 RefusedHasFault =
     (bytes : List ℕ) (tokens depth : ℕ) (glyphs : List ℕ) (e : Error) → cff_subset bytes tokens depth glyphs ≡ Err e
     → HasCffFault bytes tokens depth glyphs e
 
--- where a table is answered, no fault stands
+-- where a table is returned, there is no fault
 abbrev pub AnsweredExcludes : Type 0
 AnsweredExcludes =
     (bytes : List ℕ) (tokens depth : ℕ) (glyphs out : List ℕ) (e : Error)

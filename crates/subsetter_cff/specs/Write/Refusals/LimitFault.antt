@@ -45,7 +45,7 @@ written_indexes p =
     (dict (top_entries p (table_offsets p)) ∷ []) ∷ strings p
     ∷ font_dicts_from (strings p) (privates_offset p) p.font_dicts ∷ p.char_strings ∷ []
 
--- the lengths and offsets of private dicts that stand one after the other from a place on
+-- the lengths and offsets of private dicts that follow one another from a place on
 abbrev pub private_offsets : ℕ → List FontDict → List ℕ
 private_offsets place [] = []
 private_offsets place (f ∷ fs) =
