@@ -8,7 +8,8 @@ use Rattle.subsetter_cff.specs.Read.Charset.{cid_of}
 use Rattle.subsetter_cff.specs.Read.Cff.{Cff, cff_parts, char_string, char_strings}
 use Rattle.subsetter_cff.specs.Read.Entries.Lookup.{last_of}
 use Rattle.subsetter_cff.specs.Read.Entries.Matrices.{font_dict_name, matrices, stated_matrices, zero_box}
-use Rattle.subsetter_cff.specs.Read.Entries.Operators.{copyright_operator, notice_operator, font_name_operator, font_box_operator}
+use Rattle.subsetter_cff.specs.Read.Entries.Operators.{copyright_operator, notice_operator, font_name_operator}
+use Rattle.subsetter_cff.specs.Read.Entries.Operators.{font_box_operator}
 use Rattle.subsetter_cff.specs.Read.FdArray.Keying.{keying}
 use Rattle.subsetter_cff.specs.Read.FdArray.Private.{private_entries, private_of}
 use Rattle.subsetter_cff.specs.Read.GlyphTrace.{glyph_trace}
@@ -21,8 +22,8 @@ use Rattle.pdf_widths.specs.Laws.{number_list}
 use Rattle.pdf_widths.specs.Opening.{opening_of}
 use Rattle.cff_repeats.specs.Repeats.{endchar}
 
--- the advance that a glyph's charstring says, in the font's units; none of one that begins with no operator that takes a width, or where a
--- number isn't whole (Technical Note 5177, section 3.1 "Type 2 Charstring Organization")
+-- the advance that a glyph's charstring says, in the font's units; none of one that begins with no operator that takes
+-- a width, or where a number isn't whole (Technical Note 5177, section 3.1 "Type 2 Charstring Organization")
 unfoldable pub advance_in : Cff → ℕ → Option ℤ
 advance_in cff glyph = do
   charstring ← char_string cff glyph
@@ -38,7 +39,7 @@ pub record HasDict (old new : Cff) (glyph i : ℕ) : Type 0 where
   pub matrices_kept : Keeps (matrices old glyph) (stated_matrices new i)
   pub font_dict_name_kept : Keeps (font_dict_name old glyph) (font_dict_name new i)
 
--- it is that glyph
+-- glyph i of the new table is the glyph of the old one: its dict, charstring, drawing and advance
 pub record IsAgain (old new : Cff) (glyph i : ℕ) : Type 0 where
   pub dict : HasDict old new glyph i
   pub charstring : Keeps (char_string old glyph) (char_string new i)
@@ -47,7 +48,8 @@ pub record IsAgain (old new : Cff) (glyph i : ℕ) : Type 0 where
 
 -- endchar alone, after a width or without one
 abbrev pub blank_trace : Option CharStringNumber → Trace
-blank_trace width = record { events = record { operator = one_byte endchar; operands = number_list width; mask = [] } ∷ []; left = [] }
+blank_trace width =
+    record { events = record { operator = one_byte endchar; operands = number_list width; mask = [] } ∷ []; left = [] }
 
 pub record IsBlank (old new : Cff) (i : ℕ) : Type 0 where
   pub dict : HasDict old new 0 i
@@ -76,7 +78,9 @@ pub record HasFigures (figures : List (Option ℕ)) (old new : List ℕ) : Type 
   pub no_subroutines : other.subroutines ≡ []
   -- names, notices and box
   pub names : other.names ≡ one.names
-  pub copyright : Keeps (string_at one.strings copyright_operator one.top) (string_at other.strings copyright_operator other.top)
+  pub copyright :
+      Keeps (string_at one.strings copyright_operator one.top) (string_at other.strings copyright_operator other.top)
   pub notice : Keeps (string_at one.strings notice_operator one.top) (string_at other.strings notice_operator other.top)
-  pub font_name : Keeps (string_at one.strings font_name_operator one.top) (string_at other.strings font_name_operator other.top)
+  pub font_name :
+      Keeps (string_at one.strings font_name_operator one.top) (string_at other.strings font_name_operator other.top)
   pub box : last_of font_box_operator other.top ≡ Some (unwrap_or (last_of font_box_operator one.top) zero_box)

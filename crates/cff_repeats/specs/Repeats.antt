@@ -1,5 +1,5 @@
--- A `CFF ` table whose glyphs are glyphs of another one, in any order and any number of times, and blanks (Technical Note 5176, section 18
--- "CID-keyed Fonts").
+-- A `CFF ` table whose glyphs are glyphs of another one, in any order and any number of times, and blanks (Technical
+-- Note 5176, section 18 "CID-keyed Fonts").
 use Rattle.std.specs.Prelude.{ℕ, ◌==◌, ◌&&◌, nat_lt, Bool, List, [], ◌∷◌, length, Option, Some, None, Result, Ok}
 use Rattle.std.specs.Option.{ok_or}
 use Rattle.subsetter_base.specs.Bytes.{◌>>=◌}
@@ -13,7 +13,9 @@ use Rattle.subsetter_cff.specs.Write.Plain.{KeptGlyph, source_number, counted_pa
 use Rattle.pdf_widths.specs.Change.{text, wanted}
 use Rattle.pdf_widths.specs.Defaults.{defaults_of}
 
--- ---- a glyph of the old table: its charstring byte for byte (section 14 "CharStrings INDEX"), and its font dict (section 19 "FDSelect")
+-- ---- a glyph of the old table: its charstring byte for byte (section 14 "CharStrings INDEX"),
+-- and its font dict (section 19 "FDSelect")
+
 -- there is no subroutine that a charstring under a private dict may call (section 16 "Local/Global Subrs INDEXes")
 abbrev pub calls_none : Cff → Private → Bool
 calls_none cff private = (length cff.subroutines == 0) && (length private.subroutines == 0)
@@ -59,9 +61,10 @@ repeated cff figures = do
   parts ← limited counted
   Ok (cff_table parts)
 
--- 1 to 65535 glyphs
+-- a count of glyphs is 1 to 65535
 abbrev pub is_count : ℕ → Bool
 is_count count = nat_lt 0 count && nat_lt count 65536
 
 unfoldable pub with_repeats : List ℕ → List (Option ℕ) → Result (List ℕ) Error
-with_repeats bytes figures = check (is_count (length figures)) OverflowError (opened bytes >>= λ cff. repeated cff figures)
+with_repeats bytes figures =
+    check (is_count (length figures)) OverflowError (opened bytes >>= λ cff. repeated cff figures)

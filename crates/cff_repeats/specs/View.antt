@@ -16,7 +16,7 @@ abbrev pub seen : Result Figure Error → Result KeptGlyph Error
 seen (Ok f) = Ok (figure_view f)
 seen (Err e) = Err e
 
--- all glyphs of the new table stand in memory
+-- all glyphs of the new table, as they are held in memory
 pub record AreKeptFigures (cff : Cff) (figures : List (Option ℕ)) (k : KeptGlyphs) : Type 0 where
   pub kept : List KeptGlyph
   pub are : figures_of cff figures ≡ Ok kept

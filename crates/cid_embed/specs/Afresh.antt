@@ -1,5 +1,7 @@
--- Widths as they are read of a file that holds one font (OpenType, "Organization of an OpenType Font", "head", "hhea" and "hmtx").
-use Rattle.std.specs.Prelude.{ℕ, zero, suc, ◌+◌, ◌-◌, ◌*◌, min, List, [], ◌∷◌, codes, Option, Result, Ok, Err, ◌==◌, if◌then◌else◌}
+-- Widths as they are read of a file that holds one font (OpenType, "Organization of an OpenType Font", "head", "hhea"
+-- and "hmtx").
+use Rattle.std.specs.Prelude.{ℕ, zero, suc, ◌+◌, ◌-◌, ◌*◌, min, List, [], ◌∷◌, codes, Option, Result, Ok, Err, ◌==◌}
+use Rattle.std.specs.Prelude.{if◌then◌else◌}
 use Rattle.std.specs.Option.{ok_or, option_and_then}
 use Rattle.subsetter_base.specs.Bytes.{range, number, ◌>>=◌}
 use Rattle.subsetter_base.specs.declared.error.Error.{Error}
@@ -42,7 +44,7 @@ measures_of find = do
   pairs ← ok_or (number_of_h_metrics hhea) MalformedFont
   Ok (record { hmtx = hmtx; number_of_h_metrics = pairs; units = units })
 
--- the widths of so many glyphs, from one on
+-- the widths of n glyphs, from glyph g on
 abbrev pub widths_from : Measures → ℕ → ℕ → Result (List ℕ) Error
 widths_from m g zero = Ok []
 widths_from m g (suc n) = do

@@ -24,8 +24,8 @@ IsTrueTypeOrCidKeyed font = (flavor font ≡ Some TrueType) ⊎ IsCidKeyed font
 
 -- ---- what a subset of a subset is of the first font: its glyph i is glyph first[second[i]]
 
--- `first`: the order of the first subset's glyphs; `more`: the glyphs asked of it; `second`: the order of the second subset's glyphs; `again`: its bytes
--- read afresh, it keeps what a subset of the first font keeps
+-- `first`: the order of the first subset's glyphs; `more`: the glyphs asked of it; `second`: the order of the second
+-- subset's glyphs; `again`: its bytes read afresh, it keeps what a subset of the first font keeps
 pub record KeepsFirst (tokens depth : ℕ) (font : Font) (first more second again : List ℕ) : Type 0 where
   pub keeps : KeepsFont tokens depth font (composed first more) again
   pub order : keeps.order ≡ composed first second
@@ -37,39 +37,68 @@ pub record IsSubsetOfFirst (tokens depth : ℕ) (font : Font) (first more second
 
 -- whatever the font is
 abbrev pub ComposesAfresh : Type 0
-ComposesAfresh = (tokens depth : ℕ) (font : Font) (glyphs out more again : List ℕ) → IsBytes font.bytes → 1 ≤ depth → 1 ≤ length more
-    → (first : IsSubset tokens depth font glyphs out) (second : IsSubset tokens depth (as_font out) more again) → KeepsFirst tokens depth font first.keeps.order more second.keeps.order again
+ComposesAfresh =
+    (tokens depth : ℕ) (font : Font) (glyphs out more again : List ℕ) → IsBytes font.bytes → 1 ≤ depth → 1 ≤ length more
+    → (first : IsSubset tokens depth font glyphs out) (second : IsSubset tokens depth (as_font out) more again)
+    → KeepsFirst tokens depth font first.keeps.order more second.keeps.order again
 
 -- where it is TrueType or CID-keyed
 abbrev pub IsComposed : Type 0
-IsComposed = (tokens depth : ℕ) (font : Font) (glyphs out more again : List ℕ) → IsBytes font.bytes → 1 ≤ depth → 1 ≤ length more → IsTrueTypeOrCidKeyed font
-    → (first : IsSubset tokens depth font glyphs out) (second : IsSubset tokens depth (as_font out) more again) → IsSubsetOfFirst tokens depth font first.keeps.order more second.keeps.order again
+IsComposed =
+    (tokens depth : ℕ) (font : Font) (glyphs out more again : List ℕ) → IsBytes font.bytes → 1 ≤ depth → 1 ≤ length more
+    → IsTrueTypeOrCidKeyed font
+    → (first : IsSubset tokens depth font glyphs out) (second : IsSubset tokens depth (as_font out) more again)
+    → IsSubsetOfFirst tokens depth font first.keeps.order more second.keeps.order again
 
 -- a font of which names and glyph names are asked for as before, or less
 abbrev pub requests_less : Bool → Bool → Font → Font
 requests_less names glyph_names font =
-    record { bytes = font.bytes; index = font.index; extras = record { hinting = font.extras.hinting; names = names && font.extras.names; glyph_names = glyph_names && font.extras.glyph_names } }
+    record {
+      bytes = font.bytes;
+      index = font.index;
+      extras = record {
+        hinting = font.extras.hinting;
+        names = names && font.extras.names;
+        glyph_names = glyph_names && font.extras.glyph_names;
+      };
+    }
 
--- what is left out of a subset of a subset is left out of the first font; so a subset without names of a subset is one of the first font
--- hinting isn't among it: an outline that had its padding in the first subset keeps it after what is left out, where the first font's has none
+-- what is left out of a subset of a subset is left out of the first font; so a subset without names of a subset is one
+-- of the first font. Hinting isn't among it: an outline that had its padding in the first subset keeps it after what is
+-- left out, where the first font's has none
 abbrev pub ComposesLessAfresh : Type 0
-ComposesLessAfresh = (names glyph_names : Bool) (tokens depth : ℕ) (font : Font) (glyphs out more again : List ℕ) → IsBytes font.bytes → 1 ≤ depth → 1 ≤ length more
-    → (first : IsSubset tokens depth font glyphs out) (second : IsSubset tokens depth (requests_less names glyph_names (as_font out)) more again) → KeepsFirst tokens depth (requests_less names glyph_names font) first.keeps.order more second.keeps.order again
+ComposesLessAfresh =
+    (names glyph_names : Bool) (tokens depth : ℕ) (font : Font) (glyphs out more again : List ℕ) → IsBytes font.bytes
+    → 1 ≤ depth → 1 ≤ length more
+    → (first : IsSubset tokens depth font glyphs out)
+    (second : IsSubset tokens depth (requests_less names glyph_names (as_font out)) more again)
+    → KeepsFirst tokens depth (requests_less names glyph_names font) first.keeps.order more second.keeps.order again
 
 abbrev pub IsComposedOfLess : Type 0
-IsComposedOfLess = (names glyph_names : Bool) (tokens depth : ℕ) (font : Font) (glyphs out more again : List ℕ) → IsBytes font.bytes → 1 ≤ depth → 1 ≤ length more → IsTrueTypeOrCidKeyed font
-    → (first : IsSubset tokens depth font glyphs out) (second : IsSubset tokens depth (requests_less names glyph_names (as_font out)) more again) → IsSubsetOfFirst tokens depth (requests_less names glyph_names font) first.keeps.order more second.keeps.order again
+IsComposedOfLess =
+    (names glyph_names : Bool) (tokens depth : ℕ) (font : Font) (glyphs out more again : List ℕ) → IsBytes font.bytes
+    → 1 ≤ depth → 1 ≤ length more → IsTrueTypeOrCidKeyed font
+    → (first : IsSubset tokens depth font glyphs out)
+    (second : IsSubset tokens depth (requests_less names glyph_names (as_font out)) more again)
+    → IsSubsetOfFirst tokens depth (requests_less names glyph_names font)
+    first.keeps.order more second.keeps.order again
 
 -- every subset is TrueType or CID-keyed, so these laws hold from the second subset on
 abbrev pub IsKeyedByCids : Type 0
-IsKeyedByCids = (tokens depth : ℕ) (font : Font) (glyphs out : List ℕ) → IsSubset tokens depth font glyphs out → IsTrueTypeOrCidKeyed (as_font out)
+IsKeyedByCids =
+    (tokens depth : ℕ) (font : Font) (glyphs out : List ℕ) → IsSubset tokens depth font glyphs out
+    → IsTrueTypeOrCidKeyed (as_font out)
 
 -- ---- all glyphs of a subset, in order
 
 -- they give that subset again, byte for byte
 abbrev pub IsCanonical : Type 0
-IsCanonical = (tokens depth : ℕ) (font : Font) (glyphs out all again : List ℕ) → IsBytes font.bytes → 1 ≤ depth → 1 ≤ length all → IsTrueTypeOrCidKeyed font
-    → (first : IsSubset tokens depth font glyphs out) → AreAll (length first.keeps.order) all → IsSubset tokens depth (as_font out) all again → again ≡ out
+IsCanonical =
+    (tokens depth : ℕ) (font : Font) (glyphs out all again : List ℕ) → IsBytes font.bytes → 1 ≤ depth → 1 ≤ length all
+    → IsTrueTypeOrCidKeyed font
+    → (first : IsSubset tokens depth font glyphs out) → AreAll (length first.keeps.order) all
+    → IsSubset tokens depth (as_font out) all again
+    → again ≡ out
 
 -- whatever the keying of a CFF font is, they have the same charstrings
 pub record KeepsCffTable (out again : List ℕ) : Type 0 where
@@ -81,13 +110,22 @@ pub record KeepsCffTable (out again : List ℕ) : Type 0 where
 
 abbrev pub KeepsAllCharStrings : Type 0
 KeepsAllCharStrings = (tokens depth : ℕ) (font : Font) (glyphs out all again : List ℕ) → flavor font ≡ Some Cff
-    → (first : IsSubset tokens depth font glyphs out) → AreAll (length first.keeps.order) all → IsSubset tokens depth (as_font out) all again → KeepsCffTable out again
+    → (first : IsSubset tokens depth font glyphs out) → AreAll (length first.keeps.order) all
+    → IsSubset tokens depth (as_font out) all again
+    → KeepsCffTable out again
 
--- no fault stands in the subset for them
+-- the subset has no fault for them
 abbrev pub HasNoFaultAgain : Type 0
-HasNoFaultAgain = (tokens depth : ℕ) (font : Font) (glyphs out all order : List ℕ) (e : Error) → IsBytes font.bytes → IsBytes out → 1 ≤ depth → 1 ≤ length all → IsTrueTypeOrCidKeyed font
-    → (first : IsSubset tokens depth font glyphs out) → AreAll (length first.keeps.order) all → HasFault tokens depth (as_font out) all order e → ⊥
+HasNoFaultAgain =
+    (tokens depth : ℕ) (font : Font) (glyphs out all order : List ℕ) (e : Error) → IsBytes font.bytes → IsBytes out
+    → 1 ≤ depth → 1 ≤ length all → IsTrueTypeOrCidKeyed font
+    → (first : IsSubset tokens depth font glyphs out) → AreAll (length first.keeps.order) all
+    → HasFault tokens depth (as_font out) all order e
+    → ⊥
 
 -- ---- a glyph that a subset doesn't have is a fault in it
 abbrev pub UnknownIsFault : Type 0
-UnknownIsFault = (tokens depth : ℕ) (font : Font) (glyphs out more order : List ℕ) (g : ℕ) → (first : IsSubset tokens depth font glyphs out) → Contains more g → length first.keeps.order ≤ g → HasFault tokens depth (as_font out) more order MalformedFont
+UnknownIsFault =
+    (tokens depth : ℕ) (font : Font) (glyphs out more order : List ℕ) (g : ℕ)
+    → (first : IsSubset tokens depth font glyphs out) → Contains more g → length first.keeps.order ≤ g
+    → HasFault tokens depth (as_font out) more order MalformedFont

@@ -26,7 +26,7 @@ width font g = do
   units ← units_per_em font
   Some (thousandths m.advance_width units)
 
--- what can stand in a font against widths, under the name of the error
+-- the faults of a font that leave it without widths, each with its error
 pub data HasWidthFault (font : Font) : Error → Type 0 where
   no_hmtx : table font (codes "hmtx") ≡ None → HasWidthFault font MalformedFont
   no_head : table font (codes "head") ≡ None → HasWidthFault font MalformedFont

@@ -13,40 +13,54 @@ use Rattle.subsetter_variable.specs.Subset.{whole, IsStatic, HasOpeningFaultAt}
 use Rattle.cid_embed.specs.Embed.{numbering, HasEmbedFaultWithin, IsEmbeddingAnswer}
 use Rattle.cid_embed.specs.declared.embedding.Embedded.{Embedded}
 
--- an embedding of the static font, which could be made within these limits, where no fault stands in it
-pub record IsEmbeddingAnswerAt (tokens depth : ℕ) (font : Font) (settings : List (Tag × ℤ)) (glyphs : List ℕ) (e : Embedded) : Type 0 where
+-- an embedding of the static font, which could be made within these limits, where it has no fault
+pub record IsEmbeddingAnswerAt (tokens depth : ℕ) (font : Font) (settings : List (Tag × ℤ)) (glyphs : List ℕ)
+    (e : Embedded) : Type 0 where
   pub static : Font
   pub is_static : IsStatic font settings (numbering glyphs) static
-  pub made : (why : Error) → ¬ (IsAtDefault (whole font) settings) → ¬ (HasInstanceFault (whole font) settings (numbering glyphs) tokens why)
-  pub cff_made : (why : Error) → IsCff2Font (whole font) → ¬ (HasCffInstanceFault (whole font) settings (numbering glyphs) tokens depth why)
+  pub made : (why : Error) → ¬ (IsAtDefault (whole font) settings)
+      → ¬ (HasInstanceFault (whole font) settings (numbering glyphs) tokens why)
+  pub cff_made : (why : Error) → IsCff2Font (whole font)
+      → ¬ (HasCffInstanceFault (whole font) settings (numbering glyphs) tokens depth why)
   pub answer : IsEmbeddingAnswer tokens depth static glyphs e
 
--- What can stand against it within a bound, under the name of the error; sizes are judged for an order of the new font's glyphs.
-pub data HasEmbedFaultAt (bound : Option ℕ) (tokens depth : ℕ) (font : Font) (settings : List (Tag × ℤ)) (glyphs order : List ℕ) : Error → Type 0 where
+-- The faults that stop it within a bound, each with its error; sizes are judged for an order of the new font's glyphs.
+pub data HasEmbedFaultAt (bound : Option ℕ) (tokens depth : ℕ) (font : Font) (settings : List (Tag × ℤ))
+    (glyphs order : List ℕ) : Error → Type 0 where
   -- the asked glyphs leave no number for glyph 0
   in_numbering : HasAllAboveZero glyphs → HasEmbedFaultAt bound tokens depth font settings glyphs order OverflowError
   -- elsewhere than at its default, against the instance
-  in_instance : {e : Error} → ¬ (IsAtDefault (whole font) settings) → HasInstanceFault (whole font) settings (numbering glyphs) tokens e → HasEmbedFaultAt bound tokens depth font settings glyphs order e
+  in_instance : {e : Error} → ¬ (IsAtDefault (whole font) settings)
+      → HasInstanceFault (whole font) settings (numbering glyphs) tokens e
+      → HasEmbedFaultAt bound tokens depth font settings glyphs order e
   -- of outlines in CFF2, against the font with outlines in `CFF `
-  in_cff_instance : {e : Error} → IsCff2Font (whole font) → HasCffInstanceFault (whole font) settings (numbering glyphs) tokens depth e → HasEmbedFaultAt bound tokens depth font settings glyphs order e
+  in_cff_instance : {e : Error} → IsCff2Font (whole font)
+      → HasCffInstanceFault (whole font) settings (numbering glyphs) tokens depth e
+      → HasEmbedFaultAt bound tokens depth font settings glyphs order e
   -- against the embedding of the static font
-  in_static : {e : Error} (static : Font) → IsStatic font settings (numbering glyphs) static → HasEmbedFaultWithin bound tokens depth static glyphs order e → HasEmbedFaultAt bound tokens depth font settings glyphs order e
+  in_static : {e : Error} (static : Font) → IsStatic font settings (numbering glyphs) static
+      → HasEmbedFaultWithin bound tokens depth static glyphs order e
+      → HasEmbedFaultAt bound tokens depth font settings glyphs order e
 
--- nothing within the bound is answered for the asked glyphs of a font
+-- there is no answer within the bound for the asked glyphs of a font
 abbrev pub HasNoEmbeddingAt : Option ℕ → ℕ → ℕ → Font → List (Tag × ℤ) → List ℕ → Type 0
-HasNoEmbeddingAt bound tokens depth font settings glyphs = (e : Embedded) → IsWithin bound e.font.items → ¬ (IsEmbeddingAnswerAt tokens depth font settings glyphs e)
+HasNoEmbeddingAt bound tokens depth font settings glyphs =
+    (e : Embedded) → IsWithin bound e.font.items → ¬ (IsEmbeddingAnswerAt tokens depth font settings glyphs e)
 
 -- ---- what a call promises
 
--- of its result, for the requested glyphs of a font, where a run has so many tokens and goes so deep, and the font at most so many bytes
-pub record IsEmbedPromisedAt (bound : Option ℕ) (tokens depth : ℕ) (font : Font) (settings : List (Tag × ℤ)) (glyphs : List ℕ)
+-- of its result, for the requested glyphs of a font, where a run takes at most `tokens` tokens and goes at most `depth`
+-- deep, and the font has at most `bound` bytes
+pub record IsEmbedPromisedAt (bound : Option ℕ) (tokens depth : ℕ)
+    (font : Font) (settings : List (Tag × ℤ)) (glyphs : List ℕ)
     (result : Result Embedded Error) : Type 0 where
   -- what is returned is the answer: an embedding of the static font, which has no fault
   pub exact : IfOk result (λ e. IsEmbeddingAnswerAt tokens depth font settings glyphs e)
   -- and its font has no more bytes than it may have
   pub within : IfOk result (λ e. IsWithin bound e.font.items)
-  -- what is refused has a fault of that name, or the bound is set and every answer passes it
-  pub err : IfErr result (λ why. (why ≡ OutOfMemory) ⊎ ((order : List ℕ) × HasEmbedFaultAt bound tokens depth font settings glyphs order why))
+  -- what is refused has a fault with that error, or the bound is set and every answer passes it
+  pub err : IfErr result (λ why.
+      (why ≡ OutOfMemory) ⊎ ((order : List ℕ) × HasEmbedFaultAt bound tokens depth font settings glyphs order why))
   -- and, unless memory ran out, there is no answer within these limits
   pub no_answer : IfErr result (λ why. (why ≡ OutOfMemory) ⊎ HasNoEmbeddingAt bound tokens depth font settings glyphs)
   -- a fault that is found before memory is taken isn't reported as want of memory

@@ -3,7 +3,7 @@ use Rattle.std.specs.Prelude.{◌≡◌, ℕ, ◌+◌, ◌*◌, ◌<◌, ◌≤�
 use Rattle.subsetter_base.specs.Bytes.{range}
 use Rattle.cmap.specs.Groups.{group_at}
 
--- of n groups only so many are there
+-- of n groups the table has only the first `there`; the next one is cut
 pub record AreThere (table : List ℕ) (n there : ℕ) : Type 0 where
   pub few : there ≤ n
   pub room : (k : ℕ) → k < there → 16 + 12 * k + 12 ≤ length table

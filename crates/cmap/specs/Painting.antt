@@ -13,12 +13,15 @@ pub record AreAll (table : List ℕ) (n : ℕ) (glyphs : List ℕ) : Type 0 wher
   pub count : length glyphs ≡ characters
   pub each : (q : ℕ) → q < characters → slice_index glyphs q ≡ unwrap_or (by_groups table n 16 q) 0
 
--- the same after so many of the groups: a character that one of these has is passed over, and an open one has no glyph yet
+-- the same after the first i of the n groups: a character that one of these has is passed over, and an open one has no
+-- glyph yet
 pub record IsPainted (table : List ℕ) (n i : ℕ) (next glyphs : List ℕ) : Type 0 where
   pub leading : IsLeading next
   pub places : length next ≡ characters + 1
   pub count : length glyphs ≡ characters
   pub end : slice_index next characters ≡ characters
-  pub passed : (q : ℕ) → q < characters → q < slice_index next q → slice_index glyphs q ≡ unwrap_or (by_groups table n 16 q) 0
+  pub passed : (q : ℕ) → q < characters → q < slice_index next q
+      → slice_index glyphs q ≡ unwrap_or (by_groups table n 16 q) 0
   pub blank : (q : ℕ) → q < characters → slice_index next q ≡ q → slice_index glyphs q ≡ 0
-  pub left : (q : ℕ) → q < characters → slice_index next q ≡ q → by_groups table n 16 q ≡ by_groups table (n - i) (16 + 12 * i) q
+  pub left : (q : ℕ) → q < characters → slice_index next q ≡ q
+      → by_groups table n 16 q ≡ by_groups table (n - i) (16 + 12 * i) q

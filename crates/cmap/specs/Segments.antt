@@ -1,13 +1,15 @@
--- Format 4: ranges of characters below 65536, with glyphs in a row or in a list (OpenType, "cmap", "Format 4: Segment mapping to delta values").
-use Rattle.std.specs.Prelude.{ℕ, zero, suc, ◌+◌, ◌-◌, ◌*◌, ◌/◌, ◌%◌, ◌==◌, nat_le, if◌then◌else◌, List, Option, Some, None}
+-- Format 4: ranges of characters below 65536, with glyphs in a row or in a list (OpenType, "cmap", "Format 4: Segment
+-- mapping to delta values").
+use Rattle.std.specs.Prelude.{ℕ, zero, suc, ◌+◌, ◌-◌, ◌*◌, ◌/◌, ◌%◌, ◌==◌, nat_le, if◌then◌else◌, List, Option, Some}
+use Rattle.std.specs.Prelude.{None}
 use Rattle.std.specs.Option.{option_and_then, option_map}
 use Rattle.subsetter_base.specs.Bytes.{number}
 
--- how many segments there are: segCountX2 stands at byte 6
+-- how many segments there are: segCountX2 is at byte 6
 abbrev pub segment_count : List ℕ → Option ℕ
 segment_count table = option_map (λ twice. twice / 2) (number table 6 2)
 
--- endCode of segment i; the list stands at byte 14
+-- endCode of segment i; the list is at byte 14
 abbrev pub end_code : List ℕ → ℕ → Option ℕ
 end_code table i = number table (14 + 2 * i) 2
 
@@ -18,7 +20,7 @@ start_code table n i = number table (16 + 2 * n + 2 * i) 2
 abbrev pub id_delta : List ℕ → ℕ → ℕ → Option ℕ
 id_delta table n i = number table (16 + 4 * n + 2 * i) 2
 
--- where idRangeOffset of segment i stands
+-- where idRangeOffset of segment i is
 abbrev pub id_range_offset_at : ℕ → ℕ → ℕ
 id_range_offset_at n i = 16 + 6 * n + 2 * i
 
@@ -26,11 +28,12 @@ id_range_offset_at n i = 16 + 6 * n + 2 * i
 abbrev pub shifted : ℕ → ℕ → ℕ
 shifted glyph delta = (glyph + delta) % 65536
 
--- the glyph of a number in glyphIdArray, where 0 stands for none
+-- the glyph of a number in glyphIdArray, where 0 means none
 abbrev pub listed : ℕ → ℕ → Option ℕ
 listed glyph delta = if glyph == 0 then None else Some (shifted glyph delta)
 
--- the glyph of a character that stands at a distance from the start of its segment: by idDelta alone where idRangeOffset is 0, and else by a number that stands so far after that offset
+-- the glyph of a character at a distance from the start of its segment: by idDelta alone where idRangeOffset is 0, and
+-- else by the number in glyphIdArray that is this far after that offset
 abbrev pub glyph_at : List ℕ → ℕ → ℕ → ℕ → ℕ → ℕ → Option ℕ
 glyph_at table place offset delta c start =
     if offset == 0 then Some (shifted c delta)
@@ -45,10 +48,13 @@ in_segment table n i c =
     if nat_le start c then glyph_at table (id_range_offset_at n i) offset delta c start else None)
     (number table (id_range_offset_at n i) 2)) (id_delta table n i)) (start_code table n i)
 
--- the glyph of a character by the next so many segments from i on of n: that of the first whose end isn't below it
+-- the glyph of a character by the next segments from segment i on, of n in all: that of the first whose end isn't below
+-- it
 unfoldable pub by_segments : List ℕ → ℕ → ℕ → ℕ → ℕ → Option ℕ
 by_segments table n zero i c = None
-by_segments table n (suc more) i c = option_and_then (λ end. if nat_le c end then in_segment table n i c else by_segments table n more (i + 1) c) (end_code table i)
+by_segments table n (suc more) i c =
+    option_and_then (λ end. if nat_le c end then in_segment table n i c else by_segments table n more (i + 1) c)
+    (end_code table i)
 
 -- the glyph of a character by a table of format 4
 abbrev pub glyph_by_segments : List ℕ → ℕ → Option ℕ

@@ -1,5 +1,7 @@
--- The table that is used of a `cmap`, and the glyph of a character by it (OpenType, "cmap", "'cmap' Header" and "Encoding records").
-use Rattle.std.specs.Prelude.{ℕ, zero, suc, ◌+◌, ◌^◌, ◌==◌, ◌&&◌, ◌||◌, nat_lt, Bool, if◌then◌else◌, List, Option, Some, None}
+-- The table that is used of a `cmap`, and the glyph of a character by it (OpenType, "cmap", "'cmap' Header" and
+-- "Encoding records").
+use Rattle.std.specs.Prelude.{ℕ, zero, suc, ◌+◌, ◌^◌, ◌==◌, ◌&&◌, ◌||◌, nat_lt, Bool, if◌then◌else◌, List, Option, Some}
+use Rattle.std.specs.Prelude.{None}
 use Rattle.std.specs.Option.{option_and_then, option_map, unwrap_or}
 use Rattle.subsetter_base.specs.Bytes.{number, from_offset}
 use Rattle.cmap.specs.Groups.{glyph_by_groups}
@@ -14,7 +16,8 @@ is_unicode platform encoding = platform == 0 || (platform == 3 && (encoding == 1
 abbrev pub of_format : ℕ → List ℕ → Option (List ℕ)
 of_format format table = option_and_then (λ f. if f == format then Some table else None) (number table 0 2)
 
--- the table of a format that the encoding record at a place leads to, if the record is a Unicode one: platformID, encodingID, and where the table stands
+-- the table of a format that the encoding record at a place leads to, if the record is a Unicode one: platformID,
+-- encodingID, and the offset of the table
 abbrev pub unicode_table : ℕ → List ℕ → ℕ → Option (List ℕ)
 unicode_table format cmap at =
     option_and_then (λ platform.
@@ -28,7 +31,7 @@ unfoldable pub table_from : ℕ → List ℕ → ℕ → ℕ → Option (List �
 table_from format cmap zero at = None
 table_from format cmap (suc n) at = first_of (unicode_table format cmap at) (table_from format cmap n (at + 8))
 
--- the first such table of a `cmap`: numTables stands at byte 2, the encoding records after it
+-- the first such table of a `cmap`: numTables is at byte 2, the encoding records after it
 abbrev pub table_of_format : ℕ → List ℕ → Option (List ℕ)
 table_of_format format cmap = option_and_then (λ n. table_from format cmap n 4) (number cmap 2 2)
 

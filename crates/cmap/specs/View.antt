@@ -1,4 +1,4 @@
--- Which table a value of the code stands for.
+-- Which table a value of the code means.
 use Rattle.cmap.specs.Subtable.{Mapping, groups, segments}
 use Rattle.cmap.specs.declared.mapping.Subtable.{Subtable}
 use Rattle.cmap.specs.declared.mapping.Subtable.TheVariants.{Groups, Segments}

@@ -44,6 +44,7 @@ opening font = do
   outlines ← outlines_in (table_in font.bytes records)
   Ok (records, outlines)
 
--- where a glyph of glyf may take so many steps
+-- where a glyph of glyf may take `steps` steps
 unfoldable pub advances_of : Font → List (Tag × ℤ) → ℕ → List ℕ → Result Advances Error
-advances_of font settings steps glyphs = opening font >>= λ o. advances_by o.1 (table_in font.bytes o.0) settings steps glyphs
+advances_of font settings steps glyphs =
+    opening font >>= λ o. advances_by o.1 (table_in font.bytes o.0) settings steps glyphs

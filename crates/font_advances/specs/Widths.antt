@@ -1,5 +1,6 @@
 -- Advance widths of glyphs at coordinates, in the font's units (OpenType, "hhea", "hmtx", "maxp", "HVAR" and "gvar").
-use Rattle.std.specs.Prelude.{ℕ, ◌==◌, is_some, nat_lt, if◌then◌else◌, List, [], ◌∷◌, length, codes, Option, Some, None, Result, Ok, Err, ℤ, ◌-ℤ◌}
+use Rattle.std.specs.Prelude.{ℕ, ◌==◌, is_some, nat_lt, if◌then◌else◌, List, [], ◌∷◌, length, codes, Option, Some, None}
+use Rattle.std.specs.Prelude.{Result, Ok, Err, ℤ, ◌-ℤ◌}
 use Rattle.std.specs.Option.{ok_or, option_map}
 use Rattle.subsetter_base.specs.Bytes.{◌>>=◌}
 use Rattle.subsetter_base.specs.declared.tag.Tag.{Tag}
@@ -12,7 +13,8 @@ use Rattle.subsetter_instance.specs.Glyphs.Drawn.{advance, levels}
 use Rattle.subsetter_instance.specs.Glyphs.Unfolded.{unfolded}
 use Rattle.subsetter_instance.specs.Source.{Source, metric, normalized_coordinates, source_or_fault}
 use Rattle.subsetter_cff_instance.specs.Metrics.{varied_advance}
-use Rattle.subsetter_cff_instance.specs.Source.{Source as BlendedSource, metric as blended_metric, source_or_fault as blended_source_or_fault}
+use Rattle.subsetter_cff_instance.specs.Source.{Source as BlendedSource, metric as blended_metric}
+use Rattle.subsetter_cff_instance.specs.Source.{source_or_fault as blended_source_or_fault}
 use Rattle.pdf_source.specs.Moved.{are_zero}
 use Rattle.font_advances.specs.declared.widths.Metrics.{Metrics as GivenMetrics}
 use Rattle.font_advances.specs.declared.widths.Outlines.{Outlines}
@@ -59,7 +61,8 @@ still_widths find glyphs = metrics_in find >>= λ m. each (still_width m) glyphs
 
 -- ---- outlines in glyf, off the font's default
 
--- the distance between the left and the right phantom point, where `gvar` and components that lend their metrics put them
+-- the distance between the left and the right phantom point, where `gvar` and components that lend their metrics put
+-- them
 unfoldable pub phantom_width : Source → List ℤ → ℕ → ℕ → Result ℕ Error
 phantom_width s at steps g = do
   u ← unfolded levels s at steps g
@@ -86,7 +89,9 @@ glyf_widths find settings steps glyphs = do
 -- ---- outlines in CFF2, which have no phantom points
 
 abbrev pub blended_width : BlendedSource → List ℤ → ℕ → Result ℕ Error
-blended_width s at g = if nat_lt g s.count then (advance_or_fault (blended_metric s g) >>= λ before. varied_advance s.hvar at g before) else Err MalformedFont
+blended_width s at g =
+    if nat_lt g s.count then (advance_or_fault (blended_metric s g) >>= λ before. varied_advance s.hvar at g before)
+    else Err MalformedFont
 
 unfoldable pub blended_widths : (List ℕ → Option (List ℕ)) → List (Tag × ℤ) → List ℕ → Result (List ℕ) Error
 blended_widths find settings glyphs = do
@@ -98,9 +103,12 @@ blended_widths find settings glyphs = do
 
 -- the outlines that are taken, where it has several kinds
 unfoldable pub outlines_in : (List ℕ → Option (List ℕ)) → Result Outlines Error
-outlines_in find = if is_some (find (codes "glyf")) then Ok Glyf else (if is_some (find (codes "CFF ")) then Ok Cff else (if is_some (find (codes "CFF2")) then Ok Cff2 else Err UnknownKind))
+outlines_in find =
+    if is_some (find (codes "glyf")) then Ok Glyf
+    else (if is_some (find (codes "CFF ")) then Ok Cff
+    else (if is_some (find (codes "CFF2")) then Ok Cff2 else Err UnknownKind))
 
--- each glyph's, where a glyph of glyf may take so many steps; outlines of CFF don't move along axes
+-- each glyph's, where a glyph of glyf may take `steps` steps; outlines of CFF don't move along axes
 abbrev pub widths_of : Outlines → (List ℕ → Option (List ℕ)) → List (Tag × ℤ) → ℕ → List ℕ → Result (List ℕ) Error
 widths_of Glyf find settings steps glyphs = glyf_widths find settings steps glyphs
 widths_of Cff find settings steps glyphs = still_widths find glyphs

@@ -2,7 +2,13 @@
 use Rattle.std.specs.Prelude.{ℕ, Option, Some, None, codes}
 use Rattle.subsetter_base.specs.declared.tag.Tag.{Tag}
 use Rattle.font_reasons.specs.declared.reason.Reason.{Reason}
-use Rattle.font_reasons.specs.declared.reason.Reason.TheVariants.{Cut, BitmapsAlone, NoGlyph, NoTable, NoEntries, Descends, Outside, CutHeader, CutComponent, ByComponent, NoMetrics, FewMetrics, NoMetric, NoUnits, Short, LostName, NoUnicode, OnlyCff2, Forbidden, OtherVersion, AxisSize, AxisCount, Unread, NoCharstring, WrongCharstring, Composed, WrongOutline, Deep, Unvaried, WrongMetric}
+use Rattle.font_reasons.specs.declared.reason.Reason.TheVariants.{Cut, BitmapsAlone, NoGlyph, NoTable, NoEntries}
+use Rattle.font_reasons.specs.declared.reason.Reason.TheVariants.{Descends, Outside, CutHeader, CutComponent}
+use Rattle.font_reasons.specs.declared.reason.Reason.TheVariants.{ByComponent, NoMetrics, FewMetrics, NoMetric, NoUnits}
+use Rattle.font_reasons.specs.declared.reason.Reason.TheVariants.{Short, LostName, NoUnicode, OnlyCff2, Forbidden}
+use Rattle.font_reasons.specs.declared.reason.Reason.TheVariants.{OtherVersion, AxisSize, AxisCount, Unread}
+use Rattle.font_reasons.specs.declared.reason.Reason.TheVariants.{NoCharstring, WrongCharstring, Composed, WrongOutline}
+use Rattle.font_reasons.specs.declared.reason.Reason.TheVariants.{Deep, Unvaried, WrongMetric}
 
 -- the table whose bytes show it, or that isn't there
 abbrev pub reason_table : Reason → Option Tag

@@ -6,7 +6,8 @@ use Rattle.subsetter_sfnt.specs.Extras.{all_extras}
 use Rattle.subsetter_sfnt.specs.Read.{Font}
 use Rattle.subsetter_sfnt.specs.declared.extras.Extras.{Extras}
 use Rattle.font_reasons.specs.declared.asked.Call.{Call}
-use Rattle.font_reasons.specs.declared.asked.Call.TheVariants.{Subset, SubsetAt, Embed, EmbedAt, PdfFont, GlyphsOf, Advances}
+use Rattle.font_reasons.specs.declared.asked.Call.TheVariants.{Subset, SubsetAt, Embed, EmbedAt, PdfFont, GlyphsOf}
+use Rattle.font_reasons.specs.declared.asked.Call.TheVariants.{Advances}
 
 -- what was asked for of a font, and the error
 pub record Question : Type 0 where
@@ -19,7 +20,7 @@ pub record Question : Type 0 where
   pub tokens : ℕ
   pub depth : ℕ
 
--- the face
+-- the face that a question asks about, with all its tables
 abbrev pub face_in : Question → List ℕ → Font
 face_in a bytes = record { bytes = bytes; index = a.index; extras = all_extras }
 

@@ -1,4 +1,5 @@
--- What is wrong with a table `CFF ` (Technical Note 5176) or `CFF2` (OpenType, "CFF2"), or with the charstring of one of its glyphs.
+-- What is wrong with a table `CFF ` (Technical Note 5176) or `CFF2` (OpenType, "CFF2"), or with the charstring of one
+-- of its glyphs.
 use Rattle.std.specs.Prelude.{ℕ, List, [], ◌∷◌, length, slice_get, Option, Some, None, Result, Ok, Err, ℤ, pos, codes}
 use Rattle.std.specs.Option.{ok_or}
 use Rattle.subsetter_base.specs.Bytes.{◌>>=◌}
@@ -16,7 +17,8 @@ use Rattle.subsetter_cff2.specs.Made2.{NewDict, new_dicts}
 use Rattle.subsetter_cff2.specs.PrivateDicts.Private2.{font_dict_number, char_string}
 use Rattle.subsetter_cff2.specs.Variation.{Variation, font_scalars, optional_variation}
 use Rattle.font_reasons.specs.declared.reason.Reason.{Reason}
-use Rattle.font_reasons.specs.declared.reason.Reason.TheVariants.{OtherVersion, Unread, NoCharstring, WrongCharstring, Composed}
+use Rattle.font_reasons.specs.declared.reason.Reason.TheVariants.{OtherVersion, Unread, NoCharstring, WrongCharstring}
+use Rattle.font_reasons.specs.declared.reason.Reason.TheVariants.{Composed}
 
 abbrev pub cff_tag : Tag
 cff_tag = record { 0 = codes "CFF " }
@@ -24,7 +26,8 @@ cff_tag = record { 0 = codes "CFF " }
 abbrev pub cff2_tag : Tag
 cff2_tag = record { 0 = codes "CFF2" }
 
--- what the error of a glyph says of it: its charstring or its private dict isn't there, or it can't be run, or puts two others together
+-- what the error of a glyph says of it: its charstring or its private dict isn't there, or it can't be run, or puts two
+-- others together
 abbrev pub glyph_reason : Tag → ℕ → Refusal → Option Reason
 glyph_reason tag g MalformedFont = Some (NoCharstring tag g)
 glyph_reason tag g CFFError = Some (WrongCharstring tag g)
@@ -58,7 +61,8 @@ cff_reason_by tokens depth glyphs None None = None
 cff_reason_by tokens depth glyphs None (Some cff) = opened_reason tokens depth glyphs (opened cff)
 
 abbrev pub cff_reason : Font → ℕ → ℕ → List ℕ → Option Reason
-cff_reason font tokens depth glyphs = cff_reason_by tokens depth glyphs (stored font (codes "glyf")) (stored font (codes "CFF "))
+cff_reason font tokens depth glyphs =
+    cff_reason_by tokens depth glyphs (stored font (codes "glyf")) (stored font (codes "CFF "))
 
 -- ---- `CFF2` at a location
 
@@ -81,7 +85,11 @@ dict_of o g = do
   ok_or (slice_get dicts 0) MalformedFont
 
 abbrev pub setting : Opened2 → NewDict → Setting
-setting o dict = record { library = record { global = o.cff.subroutines; local = dict.subroutines }; scalars = font_scalars o.variation }
+setting o dict =
+    record {
+      library = record { global = o.cff.subroutines; local = dict.subroutines };
+      scalars = font_scalars o.variation;
+    }
 
 -- a glyph's charstring there, run within limits; its width doesn't count
 unfoldable pub run2 : Opened2 → ℕ → ℕ → ℕ → Result (List ℕ) Refusal

@@ -1,9 +1,11 @@
 -- Why a call is refused, by its error: the first of these that is there.
-use Rattle.std.specs.Prelude.{ℕ, ◌==◌, nat_lt, if◌then◌else◌, Bool, true, false, List, [], ◌∷◌, length, Option, Some, None, codes}
+use Rattle.std.specs.Prelude.{ℕ, ◌==◌, nat_lt, if◌then◌else◌, Bool, true, false, List, [], ◌∷◌, length, Option, Some}
+use Rattle.std.specs.Prelude.{None, codes}
 use Rattle.std.specs.Option.{option_and_then}
 use Rattle.subsetter_base.specs.Indexes.{with_glyphs}
 use Rattle.subsetter_base.specs.declared.error.Error.{Error as Refusal}
-use Rattle.subsetter_base.specs.declared.error.Error.TheVariants.{UnknownKind, MalformedFont, Unimplemented, SubsetError, OverflowError, CFFError, OutOfMemory}
+use Rattle.subsetter_base.specs.declared.error.Error.TheVariants.{UnknownKind, MalformedFont, Unimplemented}
+use Rattle.subsetter_base.specs.declared.error.Error.TheVariants.{SubsetError, OverflowError, CFFError, OutOfMemory}
 use Rattle.subsetter_sfnt.specs.Fields.Head.{units_per_em}
 use Rattle.subsetter_sfnt.specs.Read.{Font, stored}
 use Rattle.subsetter_sfnt.specs.declared.extras.Extras.{Extras}
@@ -18,7 +20,8 @@ use Rattle.font_reasons.specs.Short.{short_header, short_name, short_post}
 use Rattle.font_reasons.specs.Source.{no_font_or_glyph, reason_of_unknown, wrong_source, wrong_table}
 use Rattle.font_reasons.specs.Varying.{varied_reason}
 use Rattle.font_reasons.specs.declared.asked.Call.{Call}
-use Rattle.font_reasons.specs.declared.asked.Call.TheVariants.{Subset, SubsetAt, Embed, EmbedAt, PdfFont, GlyphsOf, Advances}
+use Rattle.font_reasons.specs.declared.asked.Call.TheVariants.{Subset, SubsetAt, Embed, EmbedAt, PdfFont, GlyphsOf}
+use Rattle.font_reasons.specs.declared.asked.Call.TheVariants.{Advances}
 use Rattle.font_reasons.specs.declared.reason.Reason.{Reason}
 use Rattle.font_reasons.specs.declared.reason.Reason.TheVariants.{NoUnits, NoUnicode, OnlyCff2}
 
@@ -31,7 +34,9 @@ no_units font = option_and_then if_no_units (option_and_then units_per_em (store
 
 -- what widths are made of: `hmtx` and `head`
 abbrev pub no_widths : Font → Option Reason
-no_widths font = or_else (no_table font (record { 0 = codes "hmtx" })) (or_else (no_table font (record { 0 = codes "head" })) (no_units font))
+no_widths font =
+    or_else (no_table font (record { 0 = codes "hmtx" }))
+    (or_else (no_table font (record { 0 = codes "head" })) (no_units font))
 
 -- what glyphs of characters are found by: a table of `cmap` that is read
 abbrev pub no_unicode_by : Option Chosen → Option Reason
@@ -123,19 +128,22 @@ of_components MalformedFont font tokens depth all = tree_reason font tokens dept
 of_components other font tokens depth all = None
 
 abbrev pub of_either : Refusal → Font → ℕ → ℕ → List ℕ → Option Reason
-of_either e font tokens depth all = or_else (of_charstrings e font tokens depth all) (of_components e font tokens depth all)
+of_either e font tokens depth all =
+    or_else (of_charstrings e font tokens depth all) (of_components e font tokens depth all)
 
 abbrev pub of_outlines : Call → Refusal → Font → ℕ → ℕ → List ℕ → Option Reason
 of_outlines call e font tokens depth all = if takes_outlines call then of_either e font tokens depth all else None
 
 -- glyph 0 and the given glyphs, each once, if these are no more than 65,535
 abbrev pub numbered : List ℕ → Option (List ℕ)
-numbered glyphs = if nat_lt 65535 (length (with_glyphs (0 ∷ []) glyphs)) then None else Some (with_glyphs (0 ∷ []) glyphs)
+numbered glyphs =
+    if nat_lt 65535 (length (with_glyphs (0 ∷ []) glyphs)) then None else Some (with_glyphs (0 ∷ []) glyphs)
 
 -- outlines, and then what varies
 abbrev pub of_numbered : Question → Font → Option (List ℕ) → Option Reason
 of_numbered a font None = None
-of_numbered a font (Some all) = or_else (of_outlines a.call a.error font a.tokens a.depth all) (varied_reason a font all)
+of_numbered a font (Some all) =
+    or_else (of_outlines a.call a.error font a.tokens a.depth all) (varied_reason a font all)
 
 -- ---- what is looked at last
 

@@ -1,4 +1,5 @@
--- What is wrong with a file as a whole: its first bytes, its table directory, and tables that end past the end of the file.
+-- What is wrong with a file as a whole: its first bytes, its table directory, and tables that end past the end of the
+-- file.
 use Rattle.std.specs.Prelude.{ℕ, ◌+◌, ◌==◌, nat_lt, if◌then◌else◌, Bool, List, [], ◌∷◌, length, Option, Some, None}
 use Rattle.std.specs.Option.{option_and_then}
 use Rattle.subsetter_base.specs.Bytes.{number}
@@ -8,7 +9,8 @@ use Rattle.subsetter_sfnt.specs.declared.face.FontKind.{FontKind}
 use Rattle.subsetter_sfnt.specs.declared.face.TableRecord.{TableRecord}
 use Rattle.font_reasons.specs.Directory.{bytes_or_none, records_in}
 use Rattle.font_reasons.specs.declared.reason.Reason.{Reason}
-use Rattle.font_reasons.specs.declared.reason.Reason.TheVariants.{Woff, Woff2, Type1, Eot, Pdf, NotFont, Empty, NoFace, NoHeader, CutDirectory, Cut, NoTable}
+use Rattle.font_reasons.specs.declared.reason.Reason.TheVariants.{Woff, Woff2, Type1, Eot, Pdf, NotFont, Empty, NoFace}
+use Rattle.font_reasons.specs.declared.reason.Reason.TheVariants.{NoHeader, CutDirectory, Cut, NoTable}
 
 -- the first that is there
 abbrev pub or_else : {X : Type 0} → Option X → Option X → Option X
@@ -22,13 +24,16 @@ packed_by word = if word == 0x774F4646 then Some Woff else (if word == 0x774F463
 abbrev pub packed : List ℕ → Option Reason
 packed bytes = option_and_then packed_by (number bytes 0 4)
 
--- `%!` begins a Type 1 font, 0x80 and 1 its segments (Technical Note 5040), `%P` a PDF; MagicNumber 0x504C, low byte first, is at byte 34 of an EOT
+-- `%!` begins a Type 1 font, 0x80 and 1 its segments (Technical Note 5040), `%P` a PDF; MagicNumber 0x504C, low byte
+-- first, is at byte 34 of an EOT
 abbrev pub by_magic : Option ℕ → Reason
 by_magic (Some word) = if word == 0x4C50 then Eot else NotFont
 by_magic None = NotFont
 
 abbrev pub other_format : Option ℕ → Option ℕ → Reason
-other_format (Some word) magic = if word == 0x2521 then Type1 else (if word == 0x8001 then Type1 else (if word == 0x2550 then Pdf else by_magic magic))
+other_format (Some word) magic =
+    if word == 0x2521 then Type1
+    else (if word == 0x8001 then Type1 else (if word == 0x2550 then Pdf else by_magic magic))
 other_format None magic = by_magic magic
 
 -- a file that begins as no font does
@@ -45,7 +50,8 @@ face_count bytes = option_and_then (λ word. if word == 0x74746366 then number b
 
 -- a collection that has no face of the index
 abbrev pub no_face : List ℕ → ℕ → Option Reason
-no_face bytes index = option_and_then (λ count. if nat_lt index count then None else Some (NoFace index count)) (face_count bytes)
+no_face bytes index =
+    option_and_then (λ count. if nat_lt index count then None else Some (NoFace index count)) (face_count bytes)
 
 -- a face whose header isn't there, or whose directory isn't inside the file
 abbrev pub no_directory_by : ℕ → Option ℕ → Option (List ℕ) → Option Reason
@@ -58,7 +64,9 @@ no_directory font = no_directory_by font.index (header_offset font) (records fon
 
 -- what is wrong before a table is looked for
 abbrev pub no_font : Font → Option Reason
-no_font font = or_else (packed font.bytes) (or_else (not_font font.bytes) (or_else (no_face font.bytes font.index) (no_directory font)))
+no_font font =
+    or_else (packed font.bytes)
+    (or_else (not_font font.bytes) (or_else (no_face font.bytes font.index) (no_directory font)))
 
 -- ---- tables that end past the end of the file
 
@@ -85,4 +93,5 @@ missing_by size tag None = NoTable tag
 missing_by size tag (Some r) = Cut tag (end_of r) size
 
 abbrev pub missing_table : Font → Tag → Reason
-missing_table font tag = missing_by (length font.bytes) tag (find_record tag.0 (records_in (bytes_or_none (records font))))
+missing_table font tag =
+    missing_by (length font.bytes) tag (find_record tag.0 (records_in (bytes_or_none (records font))))

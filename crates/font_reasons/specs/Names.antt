@@ -1,5 +1,6 @@
 -- Names whose strings aren't inside their table (OpenType, "name").
-use Rattle.std.specs.Prelude.{ℕ, zero, suc, ◌+◌, ◌==◌, ◌&&◌, not, Bool, nat_lt, if◌then◌else◌, List, Option, Some, None, codes}
+use Rattle.std.specs.Prelude.{ℕ, zero, suc, ◌+◌, ◌==◌, ◌&&◌, not, Bool, nat_lt, if◌then◌else◌, List, Option, Some, None}
+use Rattle.std.specs.Prelude.{codes}
 use Rattle.std.specs.Option.{option_and_then}
 use Rattle.subsetter_base.specs.Bytes.{number, range, from_offset}
 use Rattle.subsetter_sfnt.specs.Fields.Name.{is_unicode, name_record_of, string_of}
@@ -25,14 +26,17 @@ lost_string storage r = if is_kept r then lost_by r.name_id (string_of storage r
 abbrev pub lost_at : List ℕ → List ℕ → ℕ → Option Reason
 lost_at name storage at = option_and_then (λ bytes. lost_string storage (name_record_of bytes)) (range name at 12)
 
--- the first of so many names from an offset on
+-- the first of the next n name records from an offset on whose string isn't there
 unfoldable pub lost_from : List ℕ → List ℕ → ℕ → ℕ → Option Reason
 lost_from name storage zero at = None
 lost_from name storage (suc n) at = or_else (lost_at name storage at) (lost_from name storage n (at + 12))
 
 -- count is at byte 2, storageOffset at 4, and the records begin at 6
 abbrev pub lost_in : List ℕ → Option Reason
-lost_in name = option_and_then (λ count. option_and_then (λ storage. lost_from name storage count 6) (option_and_then (from_offset name) (number name 4 2))) (number name 2 2)
+lost_in name =
+    option_and_then (λ count.
+    option_and_then (λ storage. lost_from name storage count 6) (option_and_then (from_offset name) (number name 4 2)))
+    (number name 2 2)
 
 -- of a table of version 0; others are copied
 abbrev pub lost_name_of : List ℕ → Option Reason

@@ -11,7 +11,8 @@ use Rattle.subsetter_sfnt.specs.Read.{Font, stored}
 use Rattle.subsetter_sfnt.specs.Alone.{bitmaps_alone, has_outlines}
 use Rattle.font_reasons.specs.File.{or_else, missing_table}
 use Rattle.font_reasons.specs.declared.reason.Reason.{Reason}
-use Rattle.font_reasons.specs.declared.reason.Reason.TheVariants.{NoGlyph, NoOutlines, BitmapsAlone, NoMetrics, FewMetrics, NoMetric}
+use Rattle.font_reasons.specs.declared.reason.Reason.TheVariants.{NoGlyph, NoOutlines, BitmapsAlone, NoMetrics}
+use Rattle.font_reasons.specs.declared.reason.Reason.TheVariants.{FewMetrics, NoMetric}
 
 -- numGlyphs of `maxp` (OpenType, "maxp")
 abbrev pub face_glyphs : Font → Option ℕ
@@ -23,7 +24,8 @@ first_past count [] = None
 first_past count (g ∷ glyphs) = if nat_le count g then Some g else first_past count glyphs
 
 abbrev pub no_glyph : Font → List ℕ → Option Reason
-no_glyph font glyphs = option_and_then (λ count. option_map (λ g. NoGlyph g count) (first_past count glyphs)) (face_glyphs font)
+no_glyph font glyphs =
+    option_and_then (λ count. option_map (λ g. NoGlyph g count) (first_past count glyphs)) (face_glyphs font)
 
 -- a face without a table
 abbrev pub without : Font → Tag → Option (List ℕ) → Option Reason
@@ -33,7 +35,8 @@ without font tag (Some bytes) = None
 abbrev pub no_table : Font → Tag → Option Reason
 no_table font tag = without font tag (stored font tag.0)
 
--- numberOfHMetrics is at byte 34 of `hhea`, and `hmtx` has four bytes for each (OpenType, "hhea" and "hmtx"): none, or more than are there
+-- numberOfHMetrics is at byte 34 of `hhea`, and `hmtx` has four bytes for each (OpenType, "hhea" and "hmtx"): none, or
+-- more than are there
 abbrev pub few_metrics_by : ℕ → Option ℕ → Option Reason
 few_metrics_by count None = Some (FewMetrics count)
 few_metrics_by count (Some advance) = None
@@ -49,7 +52,8 @@ wrong_metrics_by font hmtx (Some hhea) = wrong_metrics_of hhea hmtx
 wrong_metrics_by font hmtx None = Some (missing_table font (record { 0 = codes "hhea" }))
 
 abbrev pub wrong_metrics : Font → Option Reason
-wrong_metrics font = option_and_then (λ hmtx. wrong_metrics_by font hmtx (stored font (codes "hhea"))) (stored font (codes "hmtx"))
+wrong_metrics font =
+    option_and_then (λ hmtx. wrong_metrics_by font hmtx (stored font (codes "hhea"))) (stored font (codes "hmtx"))
 
 -- the first glyph whose metric `hmtx` doesn't have
 abbrev pub no_metric_by : ℕ → Option LongHorMetric → Option Reason
@@ -61,13 +65,16 @@ no_metric_of hmtx count g = no_metric_by g (metric_in hmtx count g)
 
 abbrev pub first_without_metric : List ℕ → ℕ → List ℕ → Option Reason
 first_without_metric hmtx count [] = None
-first_without_metric hmtx count (g ∷ glyphs) = or_else (no_metric_of hmtx count g) (first_without_metric hmtx count glyphs)
+first_without_metric hmtx count (g ∷ glyphs) =
+    or_else (no_metric_of hmtx count g) (first_without_metric hmtx count glyphs)
 
 abbrev pub pair_count : Font → Option ℕ
 pair_count font = option_and_then number_of_h_metrics (stored font (codes "hhea"))
 
 abbrev pub no_metric : Font → List ℕ → Option Reason
-no_metric font glyphs = option_and_then (λ hmtx. option_and_then (λ count. first_without_metric hmtx count glyphs) (pair_count font)) (stored font (codes "hmtx"))
+no_metric font glyphs =
+    option_and_then (λ hmtx. option_and_then (λ count. first_without_metric hmtx count glyphs) (pair_count font))
+    (stored font (codes "hmtx"))
 
 -- none of the tables that have outlines, but bitmaps or not
 abbrev pub bare_reason : Option Tag → Reason

@@ -1,5 +1,6 @@
 -- Tables that are shorter than what is read of them (OpenType, "head", "maxp", "hhea", "post" and "name").
-use Rattle.std.specs.Prelude.{ℕ, ◌+◌, ◌*◌, ◌==◌, Bool, true, false, max, nat_le, nat_lt, if◌then◌else◌, List, length, Option, Some, None, codes}
+use Rattle.std.specs.Prelude.{ℕ, ◌+◌, ◌*◌, ◌==◌, Bool, true, false, max, nat_le, nat_lt, if◌then◌else◌, List, length}
+use Rattle.std.specs.Prelude.{Option, Some, None, codes}
 use Rattle.std.specs.Option.{option_and_then}
 use Rattle.subsetter_base.specs.Bytes.{number}
 use Rattle.subsetter_base.specs.declared.tag.Tag.{Tag}
@@ -25,12 +26,14 @@ short_maxp font = short_table font (record { 0 = codes "maxp" }) 6
 
 -- numberOfHMetrics of `hhea` ends at byte 36; `hmtx` is read by it
 abbrev pub short_hhea : Font → Option Reason
-short_hhea font = option_and_then (λ hmtx. short_table font (record { 0 = codes "hhea" }) 36) (stored font (codes "hmtx"))
+short_hhea font =
+    option_and_then (λ hmtx. short_table font (record { 0 = codes "hhea" }) 36) (stored font (codes "hmtx"))
 
 unfoldable pub short_header : Font → Option Reason
 short_header font = or_else (short_head font) (or_else (short_maxp font) (short_hhea font))
 
--- the version of `post` has four bytes. Version 2.0 has a header of 32, numGlyphs, and for each glyph an index of two bytes
+-- the version of `post` has four bytes. Version 2.0 has a header of 32, numGlyphs, and for each glyph an index of two
+-- bytes
 abbrev pub indexes_end : Option ℕ → ℕ
 indexes_end None = 34
 indexes_end (Some count) = 34 + 2 * count
@@ -50,7 +53,8 @@ short_kept_post false post = if nat_le 32 (length post) then None else short_pos
 abbrev pub short_post : Bool → Font → Option Reason
 short_post names font = option_and_then (short_kept_post names) (stored font (codes "post"))
 
--- the version of `name` has two bytes. Version 0 has count and storageOffset, two bytes each, count records of twelve bytes, and the storage at its offset
+-- the version of `name` has two bytes. Version 0 has count and storageOffset, two bytes each, count records of twelve
+-- bytes, and the storage at its offset
 abbrev pub records_end : Option ℕ → Option ℕ → ℕ
 records_end (Some count) (Some storage) = max (6 + 12 * count) storage
 records_end (Some count) None = 6

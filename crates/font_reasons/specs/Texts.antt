@@ -4,7 +4,15 @@ use Rattle.std.specs.Fmt.{radix_digits}
 use Rattle.subsetter_base.specs.Texts.{tag_text}
 use Rattle.subsetter_base.specs.declared.tag.Tag.{Tag}
 use Rattle.font_reasons.specs.declared.reason.Reason.{Reason}
-use Rattle.font_reasons.specs.declared.reason.Reason.TheVariants.{Woff, Woff2, Type1, Eot, Pdf, NotFont, Empty, NoFace, NoHeader, CutDirectory, Cut, NoOutlines, BitmapsAlone, NoGlyph, NoTable, NoEntries, Descends, Outside, CutHeader, CutComponent, ByComponent, NoMetrics, FewMetrics, NoMetric, NoUnits, Short, LostName, NoUnicode, OnlyCff2, Forbidden, OtherVersion, AxisSize, AxisCount, Unread, NoCharstring, WrongCharstring, Composed, WrongOutline, Deep, Unvaried, WrongMetric}
+use Rattle.font_reasons.specs.declared.reason.Reason.TheVariants.{Woff, Woff2, Type1, Eot, Pdf, NotFont, Empty, NoFace}
+use Rattle.font_reasons.specs.declared.reason.Reason.TheVariants.{NoHeader, CutDirectory, Cut, NoOutlines, BitmapsAlone}
+use Rattle.font_reasons.specs.declared.reason.Reason.TheVariants.{NoGlyph, NoTable, NoEntries, Descends, Outside}
+use Rattle.font_reasons.specs.declared.reason.Reason.TheVariants.{CutHeader, CutComponent, ByComponent, NoMetrics}
+use Rattle.font_reasons.specs.declared.reason.Reason.TheVariants.{FewMetrics, NoMetric, NoUnits, Short, LostName}
+use Rattle.font_reasons.specs.declared.reason.Reason.TheVariants.{NoUnicode, OnlyCff2, Forbidden, OtherVersion}
+use Rattle.font_reasons.specs.declared.reason.Reason.TheVariants.{AxisSize, AxisCount, Unread, NoCharstring}
+use Rattle.font_reasons.specs.declared.reason.Reason.TheVariants.{WrongCharstring, Composed, WrongOutline, Deep}
+use Rattle.font_reasons.specs.declared.reason.Reason.TheVariants.{Unvaried, WrongMetric}
 
 -- a number between two texts
 abbrev pub between : List ℕ → ℕ → List ℕ → List ℕ
@@ -20,30 +28,45 @@ in_table glyph front tag back = codes "glyph " ++ (decimal glyph ++ (front ++ (t
 
 -- the faces of a collection, and the glyphs of a face, are numbered from 0 on
 abbrev pub no_face_text : ℕ → ℕ → List ℕ
-no_face_text index count = if count == 0 then codes "face " ++ (decimal index ++ codes ": the collection has no face") else codes "face " ++ (decimal index ++ (codes ": the collection's faces are 0 to " ++ decimal (count - 1)))
+no_face_text index count =
+    if count == 0 then codes "face " ++ (decimal index ++ codes ": the collection has no face")
+    else codes "face " ++ (decimal index ++ (codes ": the collection's faces are 0 to " ++ decimal (count - 1)))
 
 abbrev pub no_glyph_text : ℕ → ℕ → List ℕ
-no_glyph_text glyph count = if count == 0 then codes "glyph " ++ (decimal glyph ++ codes ": the font has no glyph") else codes "glyph " ++ (decimal glyph ++ (codes ": the font's glyphs are 0 to " ++ decimal (count - 1)))
+no_glyph_text glyph count =
+    if count == 0 then codes "glyph " ++ (decimal glyph ++ codes ": the font has no glyph")
+    else codes "glyph " ++ (decimal glyph ++ (codes ": the font's glyphs are 0 to " ++ decimal (count - 1)))
 
 abbrev pub cut_text : Tag → ℕ → ℕ → List ℕ
-cut_text tag end size = codes "the file is cut: table " ++ (table_name tag ++ (codes " ends at byte " ++ (decimal end ++ (codes ", the file at " ++ decimal size))))
+cut_text tag end size =
+    codes "the file is cut: table "
+    ++ (table_name tag ++ (codes " ends at byte " ++ (decimal end ++ (codes ", the file at " ++ decimal size))))
 
 abbrev pub component_text : ℕ → ℕ → List ℕ
-component_text glyph component = codes "glyph " ++ (decimal glyph ++ (codes ": its component is glyph " ++ (decimal component ++ codes ", whose outline isn't in the font")))
+component_text glyph component =
+    codes "glyph "
+    ++ (decimal glyph
+    ++ (codes ": its component is glyph " ++ (decimal component ++ codes ", whose outline isn't in the font")))
 
 abbrev pub short_text : Tag → ℕ → ℕ → List ℕ
-short_text tag size needed = table_name tag ++ (codes ": " ++ (decimal size ++ (codes " bytes, needs " ++ decimal needed)))
+short_text tag size needed =
+    table_name tag ++ (codes ": " ++ (decimal size ++ (codes " bytes, needs " ++ decimal needed)))
 
 abbrev pub axes_text : Tag → ℕ → ℕ → List ℕ
-axes_text tag count axes = table_name tag ++ (codes ": axisCount is " ++ (decimal count ++ (codes ", that of fvar " ++ decimal axes)))
+axes_text tag count axes =
+    table_name tag ++ (codes ": axisCount is " ++ (decimal count ++ (codes ", that of fvar " ++ decimal axes)))
 
 -- four hexadecimal digits
 abbrev pub hex_text : ℕ → List ℕ
-hex_text n = radix_digits 16 false (n / 4096) ++ (radix_digits 16 false (n / 256 % 16) ++ (radix_digits 16 false (n / 16 % 16) ++ radix_digits 16 false (n % 16)))
+hex_text n =
+    radix_digits 16 false (n / 4096)
+    ++ (radix_digits 16 false (n / 256 % 16) ++ (radix_digits 16 false (n / 16 % 16) ++ radix_digits 16 false (n % 16)))
 
 -- what the bits of fsType forbid: bit 1, 8 or 9 (OpenType, "OS/2")
 abbrev pub forbidden_word : ℕ → List ℕ
-forbidden_word bit = if bit == 8 then codes " forbids subsets" else (if bit == 9 then codes " forbids outlines" else codes " forbids embedding")
+forbidden_word bit =
+    if bit == 8 then codes " forbids subsets"
+    else (if bit == 9 then codes " forbids outlines" else codes " forbids embedding")
 
 abbrev pub forbidden_text : ℕ → ℕ → List ℕ
 forbidden_text fs_type bit = codes "OS/2: fsType 0x" ++ (hex_text fs_type ++ forbidden_word bit)
@@ -60,7 +83,8 @@ reason_text (NoFace index count) = no_face_text index count
 reason_text (NoHeader index) = between (codes "face ") index (codes ": no font begins where the collection says")
 reason_text CutDirectory = codes "the file is cut in its table directory"
 reason_text (Cut tag end size) = cut_text tag end size
-reason_text NoOutlines = codes "the face has no outlines (glyf, CFF, CFF2) and no bitmaps (sbix, CBDT with CBLC, EBDT with EBLC)"
+reason_text NoOutlines =
+    codes "the face has no outlines (glyf, CFF, CFF2) and no bitmaps (sbix, CBDT with CBLC, EBDT with EBLC)"
 reason_text (BitmapsAlone tag) = table_name tag ++ codes ": the face has bitmaps and no outlines"
 reason_text (NoGlyph glyph count) = no_glyph_text glyph count
 reason_text (NoTable tag) = codes "the face has no table " ++ table_name tag
@@ -83,8 +107,10 @@ reason_text (OtherVersion tag) = table_name tag ++ codes ": its major version is
 reason_text (AxisSize size) = between (codes "fvar: axisSize is ") size (codes ", needs 20")
 reason_text (AxisCount tag count axes) = axes_text tag count axes
 reason_text (Unread tag) = table_name tag ++ codes ": the table can't be read"
-reason_text (NoCharstring tag glyph) = in_table glyph (codes ": ") tag (codes " has no charstring or private dict for it")
-reason_text (WrongCharstring tag glyph) = in_table glyph (codes ": its charstring in ") tag (codes " is wrong, or passes the limits")
+reason_text (NoCharstring tag glyph) =
+    in_table glyph (codes ": ") tag (codes " has no charstring or private dict for it")
+reason_text (WrongCharstring tag glyph) =
+    in_table glyph (codes ": its charstring in ") tag (codes " is wrong, or passes the limits")
 reason_text (Composed glyph) = between (codes "glyph ") glyph (codes ": its charstring puts two others together")
 reason_text (WrongOutline glyph) = between (codes "glyph ") glyph (codes ": its outline can't be read")
 reason_text (Deep glyph) = between (codes "glyph ") glyph (codes ": a component more than 64 levels deep")

@@ -59,7 +59,9 @@ axes_end None count size = 12
 
 -- axisSize is 20 at least
 abbrev pub wrong_axes : List ℕ → ℕ → Option Reason
-wrong_axes fvar size = if nat_lt size 20 then Some (AxisSize size) else short fvar_tag (axes_end (number fvar 4 2) (number fvar 8 2) size) fvar
+wrong_axes fvar size =
+    if nat_lt size 20 then Some (AxisSize size)
+    else short fvar_tag (axes_end (number fvar 4 2) (number fvar 8 2) size) fvar
 
 -- axisSize ends at byte 12 of `fvar`
 abbrev pub wrong_fvar_by : List ℕ → Option ℕ → Option Reason
@@ -86,7 +88,8 @@ abbrev pub wrong_avar_of : List ℕ → List ℕ → Option Reason
 wrong_avar_of fvar avar = wrong_avar_by avar (number avar 6 2) (number fvar 8 2)
 
 abbrev pub wrong_avar : Font → Option Reason
-wrong_avar font = option_and_then (λ fvar. option_and_then (wrong_avar_of fvar) (stored font avar_tag.0)) (stored font fvar_tag.0)
+wrong_avar font =
+    option_and_then (λ fvar. option_and_then (wrong_avar_of fvar) (stored font avar_tag.0)) (stored font fvar_tag.0)
 
 unfoldable pub wrong_location : Font → Option Reason
 wrong_location font = or_else (wrong_fvar font) (wrong_avar font)
@@ -102,4 +105,7 @@ abbrev pub wrong_gvar_of : List ℕ → List ℕ → Option Reason
 wrong_gvar_of fvar gvar = wrong_gvar_by (gvar_table gvar) (number fvar 8 2)
 
 abbrev pub wrong_gvar : Font → Option Reason
-wrong_gvar font = option_and_then (λ glyf. option_and_then (λ fvar. option_and_then (wrong_gvar_of fvar) (stored font gvar_tag.0)) (stored font fvar_tag.0)) (stored font (codes "glyf"))
+wrong_gvar font =
+    option_and_then (λ glyf.
+    option_and_then (λ fvar. option_and_then (wrong_gvar_of fvar) (stored font gvar_tag.0)) (stored font fvar_tag.0))
+    (stored font (codes "glyf"))

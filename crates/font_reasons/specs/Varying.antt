@@ -1,5 +1,7 @@
 -- What is wrong with what varies, where a call is at coordinates (OpenType, "gvar", "HVAR" and "MVAR").
-use Rattle.std.specs.Prelude.{ℕ, ◌+◌, ◌-◌, ◌==◌, not, ◌&&◌, ◌||◌, Bool, true, false, nat_lt, nat_le, if◌then◌else◌, List, [], ◌∷◌, length, replicate, Option, Some, None, is_some, Result, Ok, Err, ℤ, pos, codes}
+use Rattle.std.specs.Prelude.{ℕ, ◌+◌, ◌-◌, ◌==◌, not, ◌&&◌, ◌||◌, Bool, true, false, nat_lt, nat_le, if◌then◌else◌}
+use Rattle.std.specs.Prelude.{List, [], ◌∷◌, length, replicate, Option, Some, None, is_some, Result, Ok, Err, ℤ, pos}
+use Rattle.std.specs.Prelude.{codes}
 use Rattle.std.specs.List.{list_all}
 use Rattle.std.specs.Option.{option_and_then, option_map}
 use Rattle.std.specs.Ordering.{int_eq}
@@ -20,7 +22,8 @@ use Rattle.font_reasons.specs.Charstrings.{cff2_reason}
 use Rattle.font_reasons.specs.File.{or_else}
 use Rattle.font_reasons.specs.Outlines.{Tables, components_in, deep_reason, outline, outline_tables, tree}
 use Rattle.font_reasons.specs.Parts.{no_table}
-use Rattle.font_reasons.specs.Variations.{avar_tag, fvar_tag, gvar_tag, hvar_tag, mvar_tag, other_axes, other_deltas, wrong_gvar, wrong_location}
+use Rattle.font_reasons.specs.Variations.{avar_tag, fvar_tag, gvar_tag, hvar_tag, mvar_tag, other_axes, other_deltas}
+use Rattle.font_reasons.specs.Variations.{wrong_gvar, wrong_location}
 use Rattle.font_reasons.specs.declared.asked.Call.{Call}
 use Rattle.font_reasons.specs.declared.reason.Reason.{Reason}
 use Rattle.font_reasons.specs.declared.reason.Reason.TheVariants.{Unread, Unvaried, WrongMetric, WrongOutline}
@@ -42,7 +45,8 @@ unread_hvar hvar axes = if is_some (store_of hvar axes) then None else Some (Unr
 
 -- the advance of a glyph: its map, its item, or a region of that
 abbrev pub unvaried_advance : List ℕ → List ℤ → ℕ → Option Reason
-unvaried_advance hvar at g = if is_malformed (whole_or_fault (advance_delta hvar at g)) then Some (Unvaried hvar_tag g) else None
+unvaried_advance hvar at g =
+    if is_malformed (whole_or_fault (advance_delta hvar at g)) then Some (Unvaried hvar_tag g) else None
 
 abbrev pub first_advance : List ℕ → List ℤ → List ℕ → Option Reason
 first_advance hvar at [] = None
@@ -56,18 +60,24 @@ wrong_hvar font at glyphs = option_and_then (wrong_hvar_of at glyphs) (stored fo
 
 -- the metric of a tag: the value records, its item, or a region of that
 unfoldable pub wrong_metric : List ℕ → List ℤ → Tag → Option Reason
-wrong_metric mvar at tag = if is_malformed (whole_or_fault (metric_delta mvar at tag.0)) then Some (WrongMetric tag) else None
+wrong_metric mvar at tag =
+    if is_malformed (whole_or_fault (metric_delta mvar at tag.0)) then Some (WrongMetric tag) else None
 
 -- of `hhea`: ascender, descender and lineGap, and those of the caret
 abbrev pub wrong_lines : List ℕ → List ℤ → Option Reason
-wrong_lines mvar at = or_else (wrong_metric mvar at (record { 0 = codes "hasc" })) (or_else (wrong_metric mvar at (record { 0 = codes "hdsc" })) (wrong_metric mvar at (record { 0 = codes "hlgp" })))
+wrong_lines mvar at =
+    or_else (wrong_metric mvar at (record { 0 = codes "hasc" }))
+    (or_else (wrong_metric mvar at (record { 0 = codes "hdsc" })) (wrong_metric mvar at (record { 0 = codes "hlgp" })))
 
 abbrev pub wrong_caret : List ℕ → List ℤ → Option Reason
-wrong_caret mvar at = or_else (wrong_metric mvar at (record { 0 = codes "hcrs" })) (or_else (wrong_metric mvar at (record { 0 = codes "hcrn" })) (wrong_metric mvar at (record { 0 = codes "hcof" })))
+wrong_caret mvar at =
+    or_else (wrong_metric mvar at (record { 0 = codes "hcrs" }))
+    (or_else (wrong_metric mvar at (record { 0 = codes "hcrn" })) (wrong_metric mvar at (record { 0 = codes "hcof" })))
 
 -- of `post`, where underlineThickness ends at byte 12
 abbrev pub wrong_underline : List ℕ → List ℤ → Option Reason
-wrong_underline mvar at = or_else (wrong_metric mvar at (record { 0 = codes "undo" })) (wrong_metric mvar at (record { 0 = codes "unds" }))
+wrong_underline mvar at =
+    or_else (wrong_metric mvar at (record { 0 = codes "undo" })) (wrong_metric mvar at (record { 0 = codes "unds" }))
 
 abbrev pub wrong_post_of : List ℕ → List ℤ → List ℕ → Option Reason
 wrong_post_of mvar at post = if nat_lt (length post) 12 then None else wrong_underline mvar at
@@ -89,7 +99,9 @@ is_composite None = false
 is_composite (Some contours) = nat_le 0x8000 contours
 
 abbrev pub point_count : List ℕ → Option ℕ
-point_count bytes = if is_composite (number bytes 0 2) then option_map (λ w. length w.glyphs + 4) (components_in bytes) else option_map (λ p. length p.1 + 4) (parts bytes)
+point_count bytes =
+    if is_composite (number bytes 0 2) then option_map (λ w. length w.glyphs + 4) (components_in bytes)
+    else option_map (λ p. length p.1 + 4) (parts bytes)
 
 -- whether the variation data of a glyph can be read doesn't depend on where these are
 abbrev pub blank : ℕ → Outline
@@ -98,29 +110,37 @@ blank n = record { xs = replicate n (pos 0); ys = replicate n (pos 0); ends = (n
 -- a glyph of more points takes more steps than it may
 abbrev pub unvaried_points : Option Gvar → List ℤ → ℕ → ℕ → ℕ → Option Reason
 unvaried_points None at steps g n = None
-unvaried_points (Some t) at steps g n = if nat_lt steps n then None else if is_malformed (moved_points t g (blank n) at steps) then Some (Unvaried gvar_tag g) else None
+unvaried_points (Some t) at steps g n =
+    if nat_lt steps n then None
+    else if is_malformed (moved_points t g (blank n) at steps) then Some (Unvaried gvar_tag g)
+    else None
 
 abbrev pub unvaried_by : Option Gvar → List ℤ → ℕ → ℕ → Option ℕ → Option Reason
 unvaried_by gvar at steps g None = Some (WrongOutline g)
 unvaried_by gvar at steps g (Some n) = unvaried_points gvar at steps g n
 
 abbrev pub unvaried_glyph : Tables → Option Gvar → List ℤ → ℕ → ℕ → Option Reason
-unvaried_glyph o gvar at steps g = option_and_then (λ bytes. unvaried_by gvar at steps g (point_count bytes)) (outline o.glyf o.loca o.format g)
+unvaried_glyph o gvar at steps g =
+    option_and_then (λ bytes. unvaried_by gvar at steps g (point_count bytes)) (outline o.glyf o.loca o.format g)
 
 abbrev pub first_unvaried : Tables → Option Gvar → List ℤ → ℕ → List ℕ → Option Reason
 first_unvaried o gvar at steps [] = None
-first_unvaried o gvar at steps (g ∷ glyphs) = or_else (unvaried_glyph o gvar at steps g) (first_unvaried o gvar at steps glyphs)
+first_unvaried o gvar at steps (g ∷ glyphs) =
+    or_else (unvaried_glyph o gvar at steps g) (first_unvaried o gvar at steps glyphs)
 
--- `gvar`, if it has so many axes
+-- `gvar`, if its axisCount is `axes`
 abbrev pub gvar_of : ℕ → Gvar → Option Gvar
 gvar_of axes t = if t.axis_count == axes then Some t else None
 
 abbrev pub face_gvar : Font → ℕ → Option Gvar
-face_gvar font axes = option_and_then (λ bytes. option_and_then (gvar_of axes) (gvar_table bytes)) (stored font gvar_tag.0)
+face_gvar font axes =
+    option_and_then (λ bytes. option_and_then (gvar_of axes) (gvar_table bytes)) (stored font gvar_tag.0)
 
 abbrev pub outlines_reason : Font → List ℤ → ℕ → ℕ → List ℕ → Option Reason
 outlines_reason font at steps depth all =
-    option_and_then (λ o. or_else (first_unvaried o (face_gvar font (length at)) at steps (tree o steps depth all)) (deep_reason o steps all)) (outline_tables font)
+    option_and_then (λ o.
+    or_else (first_unvaried o (face_gvar font (length at)) at steps (tree o steps depth all)) (deep_reason o steps all))
+    (outline_tables font)
 
 -- ---- where a static font is made
 
@@ -153,7 +173,9 @@ moves font at = moves_by (stored font (codes "glyf")) at
 
 -- what metrics are read with: `hmtx`, `maxp` and `head`
 abbrev pub no_metrics : Font → Option Reason
-no_metrics font = or_else (no_table font (record { 0 = codes "hmtx" })) (or_else (no_table font (record { 0 = codes "maxp" })) (no_table font (record { 0 = codes "head" })))
+no_metrics font =
+    or_else (no_table font (record { 0 = codes "hmtx" }))
+    (or_else (no_table font (record { 0 = codes "maxp" })) (no_table font (record { 0 = codes "head" })))
 
 -- a new font has glyph 0, and the metrics of the whole font
 abbrev pub glyphs_of : Call → List ℕ → List ℕ → List ℕ
@@ -164,27 +186,32 @@ wrong_mvar_for call font at = if takes_outlines call then wrong_mvar font at els
 
 unfoldable pub metrics_reason : Call → Font → List ℤ → List ℕ → List ℕ → Option Reason
 metrics_reason call font at given all =
-    or_else (no_metrics font) (or_else (wrong_gvar font) (or_else (wrong_hvar font at (glyphs_of call given all)) (wrong_mvar_for call font at)))
+    or_else (no_metrics font)
+    (or_else (wrong_gvar font) (or_else (wrong_hvar font at (glyphs_of call given all)) (wrong_mvar_for call font at)))
 
 -- without `HVAR` advances are those of outlines in `glyf`
 abbrev pub reads_outlines : Call → Option (List ℕ) → Bool
 reads_outlines call hvar = takes_outlines call || not (is_some hvar)
 
 abbrev pub glyf_reason : Call → Font → List ℤ → ℕ → ℕ → List ℕ → Option Reason
-glyf_reason call font at steps depth all = if reads_outlines call (stored font hvar_tag.0) then outlines_reason font at steps depth all else None
+glyf_reason call font at steps depth all =
+    if reads_outlines call (stored font hvar_tag.0) then outlines_reason font at steps depth all else None
 
 abbrev pub face_cff2 : Call → Font → List ℤ → ℕ → ℕ → List ℕ → Option Reason
-face_cff2 call font at tokens depth all = if takes_outlines call then option_and_then (cff2_reason at tokens depth all) (stored font (codes "CFF2")) else None
+face_cff2 call font at tokens depth all =
+    if takes_outlines call then option_and_then (cff2_reason at tokens depth all) (stored font (codes "CFF2")) else None
 
 abbrev pub glyphs_reason_by : Option (List ℕ) → Call → Font → List ℤ → ℕ → ℕ → List ℕ → Option Reason
 glyphs_reason_by (Some glyf) call font at tokens depth all = glyf_reason call font at tokens depth all
 glyphs_reason_by None call font at tokens depth all = face_cff2 call font at tokens depth all
 
 unfoldable pub glyphs_reason : Call → Font → List ℤ → ℕ → ℕ → List ℕ → Option Reason
-glyphs_reason call font at tokens depth all = glyphs_reason_by (stored font (codes "glyf")) call font at tokens depth all
+glyphs_reason call font at tokens depth all =
+    glyphs_reason_by (stored font (codes "glyf")) call font at tokens depth all
 
 abbrev pub malformed_at : Call → Font → List ℤ → ℕ → ℕ → List ℕ → List ℕ → Option Reason
-malformed_at call font at tokens depth given all = or_else (metrics_reason call font at given all) (glyphs_reason call font at tokens depth all)
+malformed_at call font at tokens depth given all =
+    or_else (metrics_reason call font at given all) (glyphs_reason call font at tokens depth all)
 
 -- by the error
 abbrev pub moved_by : Refusal → Call → Font → List ℤ → ℕ → ℕ → List ℕ → List ℕ → Option Reason
@@ -201,7 +228,9 @@ location_reason e found font = None
 
 abbrev pub located_reason : Question → Font → List ℕ → Result (List ℤ) Refusal → Option Reason
 located_reason a font all (Err found) = location_reason a.error found font
-located_reason a font all (Ok at) = if moves font at then moved_by a.error a.call font at a.tokens a.depth a.glyphs all else None
+located_reason a font all (Ok at) =
+    if moves font at then moved_by a.error a.call font at a.tokens a.depth a.glyphs all else None
 
 abbrev pub varied_reason : Question → Font → List ℕ → Option Reason
-varied_reason a font all = if is_at a.call && varies font then located_reason a font all (located font a.coordinates) else None
+varied_reason a font all =
+    if is_at a.call && varies font then located_reason a font all (located font a.coordinates) else None

@@ -1,12 +1,13 @@
 -- Bitmaps of glyphs (OpenType, "EBLC - Embedded Bitmap Location Table", which "CBLC" has the form of).
-use Rattle.std.specs.Prelude.{ℕ, ◌+◌, ◌-◌, ◌*◌, ◌==◌, ◌&&◌, nat_le, not, Bool, false, if◌then◌else◌, List, Option, Some, None}
+use Rattle.std.specs.Prelude.{ℕ, ◌+◌, ◌-◌, ◌*◌, ◌==◌, ◌&&◌, nat_le, not, Bool, false, if◌then◌else◌, List, Option, Some}
+use Rattle.std.specs.Prelude.{None}
 use Rattle.std.specs.Option.{option_map_or}
 use Rattle.subsetter_base.specs.Bytes.{number, from_offset}
 use Rattle.subsetter_base.specs.Options.{◌>>=◌}
 use Rattle.text_glyphs.specs.Halves.{last_up_to}
 use Rattle.glyph_kinds.specs.Strikes.{any_strike}
 
--- how far a number of so many bytes is below the one at another place
+-- how far the number at one place is below the number at another; each has `width` bytes
 abbrev pub gap : List ℕ → ℕ → ℕ → ℕ → Option ℕ
 gap table at next width = do
   from ← number table at width
@@ -32,7 +33,8 @@ listed_size subtable g = do
   if found == g then Some size else None
 
 -- how many bytes the image of a glyph has by an index subtable of a format, whose range has the glyph at a place:
--- 1 and 3 have sbitOffsets at byte 8, of four bytes or of two, one more than the range has glyphs; 2 and 5 have imageSize at byte 8
+-- 1 and 3 have sbitOffsets at byte 8, of four bytes or of two, one more than the range has glyphs; 2 and 5 have
+-- imageSize at byte 8
 abbrev pub image_size : ℕ → List ℕ → ℕ → ℕ → Option ℕ
 image_size format subtable place g =
     if format == 1 then gap subtable (8 + 4 * place) (12 + 4 * place) 4
@@ -49,7 +51,8 @@ image_in subtable place g = do
   size ← image_size format subtable place g
   if size == 0 then None else Some image
 
--- "IndexSubtableRecord": firstGlyphIndex, lastGlyphIndex, and where the subtable is in the list; records of eight bytes, whose ranges ascend
+-- "IndexSubtableRecord": firstGlyphIndex, lastGlyphIndex, and where the subtable is in the list; records of eight
+-- bytes, whose ranges ascend
 unfoldable pub image_by : List ℕ → ℕ → ℕ → Option ℕ
 image_by list n g = do
   k ← last_up_to list 0 8 2 n g
@@ -59,7 +62,8 @@ image_by list n g = do
   subtable ← from_offset list offset
   if nat_le g last then image_in subtable (g - first) g else None
 
--- "BitmapSize record", of 48 bytes from byte 8 on: indexSubtableListOffset is at byte 0, numberOfIndexSubtables at byte 8. The format of a glyph's image in a strike
+-- "BitmapSize record", of 48 bytes from byte 8 on: indexSubtableListOffset is at byte 0, numberOfIndexSubtables at byte
+-- 8. The format of a glyph's image in a strike
 unfoldable pub image_format : List ℕ → ℕ → ℕ → Option ℕ
 image_format table k g = do
   offset ← number table (8 + 48 * k) 4
@@ -77,4 +81,5 @@ has_format wanted format = option_map_or (is_format wanted) format false
 
 -- whether a glyph has an image of such a format in a strike
 abbrev pub has_image : Option (List ℕ) → Option ℕ → ℕ → Bool
-has_image table wanted g = option_map_or (λ bytes. any_strike (λ k. has_format wanted (image_format bytes k g)) bytes) table false
+has_image table wanted g =
+    option_map_or (λ bytes. any_strike (λ k. has_format wanted (image_format bytes k g)) bytes) table false

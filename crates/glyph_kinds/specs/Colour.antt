@@ -22,7 +22,8 @@ layers_record colr g = do
   records ← part colr 4
   glyph_record records 0 n g
 
--- from version 1 on, "BaseGlyphList": baseGlyphListOffset is at byte 14, in the list numBaseGlyphPaintRecords at byte 0 and the records at byte 4
+-- from version 1 on, "BaseGlyphList": baseGlyphListOffset is at byte 14, in the list numBaseGlyphPaintRecords at byte 0
+-- and the records at byte 4
 unfoldable pub paint_record : List ℕ → ℕ → Option ℕ
 paint_record colr g = do
   version ← number colr 0 2
@@ -30,7 +31,8 @@ paint_record colr g = do
   n ← number list 0 4
   if version == 0 then None else glyph_record list 4 n g
 
--- svgDocumentListOffset is at byte 2, in the list numEntries at byte 0; the records at byte 2, of twelve bytes, ascend by startGlyphID, and endGlyphID is after it
+-- svgDocumentListOffset is at byte 2, in the list numEntries at byte 0; the records at byte 2, of twelve bytes, ascend
+-- by startGlyphID, and endGlyphID is after it
 unfoldable pub document_record : List ℕ → ℕ → Option ℕ
 document_record svg g = do
   list ← part svg 2

@@ -1,5 +1,6 @@
 -- The pictures that a font has of a glyph.
-use Rattle.std.specs.Prelude.{ℕ, ◌+◌, ◌*◌, nat_lt, not, Bool, if◌then◌else◌, List, [], ◌∷◌, map, filter, Option, Some, None, Result, Ok, codes}
+use Rattle.std.specs.Prelude.{ℕ, ◌+◌, ◌*◌, nat_lt, not, Bool, if◌then◌else◌, List, [], ◌∷◌, map, filter, Option, Some}
+use Rattle.std.specs.Prelude.{None, Result, Ok, codes}
 use Rattle.std.specs.Option.{option_and_then, unwrap_or}
 use Rattle.subsetter_base.specs.Bytes.{◌>>=◌}
 use Rattle.subsetter_base.specs.declared.error.Error.{Error}
@@ -46,10 +47,13 @@ kinds t g =
     -- `SVG `: a document
     ∷ is_found document_record t.svg g
     -- `CBDT`: an image of format 17, 18, 19, or another
-    ∷ has_image t.cblc (Some 17) g ∷ has_image t.cblc (Some 18) g ∷ has_image t.cblc (Some 19) g ∷ has_image t.cblc None g
+    ∷ has_image t.cblc (Some 17) g ∷ has_image t.cblc (Some 18) g ∷ has_image t.cblc (Some 19) g
+    ∷ has_image t.cblc None g
     -- `sbix`: a graphic of the type `png `, `jpg `, `tiff`, `pdf `, `mask`, `dupe`, or another
-    ∷ has_graphic t.sbix t.glyphs (Some 0x706E6720) g ∷ has_graphic t.sbix t.glyphs (Some 0x6A706720) g ∷ has_graphic t.sbix t.glyphs (Some 0x74696666) g
-    ∷ has_graphic t.sbix t.glyphs (Some 0x70646620) g ∷ has_graphic t.sbix t.glyphs (Some 0x6D61736B) g ∷ has_graphic t.sbix t.glyphs (Some 0x64757065) g
+    ∷ has_graphic t.sbix t.glyphs (Some 0x706E6720) g ∷ has_graphic t.sbix t.glyphs (Some 0x6A706720) g
+    ∷ has_graphic t.sbix t.glyphs (Some 0x74696666) g
+    ∷ has_graphic t.sbix t.glyphs (Some 0x70646620) g ∷ has_graphic t.sbix t.glyphs (Some 0x6D61736B) g
+    ∷ has_graphic t.sbix t.glyphs (Some 0x64757065) g
     ∷ has_graphic t.sbix t.glyphs None g
     -- `EBDT`: an image
     ∷ has_image t.eblc None g
@@ -71,7 +75,7 @@ is_unseen kinds = nat_lt 0x10000 kinds
 abbrev pub unseen_by : Tables → List ℕ → List ℕ
 unseen_by t glyphs = filter (λ g. is_unseen (kind_bits t g)) glyphs
 
--- those among glyphs
+-- the unseen ones of some glyphs of a font
 unfoldable pub unseen_glyphs : Font → List ℕ → Result (List ℕ) Error
 unseen_glyphs font glyphs = do
   records ← opened font

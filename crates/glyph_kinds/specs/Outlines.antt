@@ -1,4 +1,5 @@
--- Whether a glyph has an outline (OpenType, "loca", "glyf", "CFF2"; Technical Notes 5176 and 5177). What can't be read is none.
+-- Whether a glyph has an outline (OpenType, "loca", "glyf", "CFF2"; Technical Notes 5176 and 5177). What can't be read
+-- is none.
 use Rattle.std.specs.Prelude.{ℕ, ◌+◌, ◌==◌, ◌||◌, not, Bool, true, false, List, [], ◌∷◌, Option, Some, None, codes}
 use Rattle.std.specs.Option.{option_map, option_map_or}
 use Rattle.std.specs.Result.{result_ok}

@@ -3,7 +3,7 @@ use Rattle.std.specs.Prelude.{ℕ, zero, suc, ◌+◌, nat_lt, Bool, true, false
 use Rattle.std.specs.Option.{option_map_or}
 use Rattle.subsetter_base.specs.Bytes.{number}
 
--- whether one of so many strikes has a picture, from one on
+-- whether one of the next n strikes, from strike k on, has a picture
 unfoldable pub any_from : (ℕ → Bool) → ℕ → ℕ → Bool
 any_from has zero k = false
 any_from has (suc n) k = if has k then true else any_from has n (k + 1)

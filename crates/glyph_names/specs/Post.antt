@@ -1,5 +1,6 @@
 -- The names of glyphs in `post` (OpenType, "post").
-use Rattle.std.specs.Prelude.{ℕ, zero, suc, ◌+◌, ◌-◌, ◌*◌, ◌==◌, nat_le, nat_lt, if◌then◌else◌, List, [], ◌∷◌, length, take, drop, get_or, Option, Some, None}
+use Rattle.std.specs.Prelude.{ℕ, zero, suc, ◌+◌, ◌-◌, ◌*◌, ◌==◌, nat_le, nat_lt, if◌then◌else◌, List, [], ◌∷◌, length}
+use Rattle.std.specs.Prelude.{take, drop, get_or, Option, Some, None}
 use Rattle.std.specs.Option.{option_and_then, option_map_or}
 use Rattle.subsetter_base.specs.Bytes.{number}
 use Rattle.glyph_names.specs.Standard.{macintosh_names}
@@ -9,7 +10,7 @@ abbrev pub first_string : List ℕ → Option (List ℕ × List ℕ)
 first_string [] = None
 first_string (len ∷ bytes) = if nat_le len (length bytes) then Some (take len bytes, drop len bytes) else None
 
--- so many of these strings, as far as they are there
+-- the next n of these strings, as far as they are there
 unfoldable pub pascal_strings : ℕ → List ℕ → List (List ℕ)
 pascal_strings zero bytes = []
 pascal_strings (suc n) bytes = option_map_or (λ s. s.0 ∷ pascal_strings n s.1) (first_string bytes) []
@@ -28,11 +29,15 @@ name_of_index macintosh own index = if nat_lt index 258 then get_or macintosh in
 
 -- version 2.0: the indexes begin at byte 34
 abbrev pub name_by_index : List (List ℕ) → List (List ℕ) → List ℕ → ℕ → ℕ → List ℕ
-name_by_index macintosh own post glyph count = if nat_lt glyph count then option_map_or (name_of_index macintosh own) (number post (34 + 2 * glyph) 2) [] else []
+name_by_index macintosh own post glyph count =
+    if nat_lt glyph count then option_map_or (name_of_index macintosh own) (number post (34 + 2 * glyph) 2) [] else []
 
 -- version 1.0 has the names of the Macintosh; a version that isn't 1.0 or 2.0 has none that are read
 abbrev pub name_by_version : List (List ℕ) → List (List ℕ) → List ℕ → ℕ → ℕ → List ℕ
-name_by_version macintosh own post glyph version = if version == 0x00010000 then get_or macintosh glyph [] else (if version == 0x00020000 then option_map_or (name_by_index macintosh own post glyph) (number post 32 2) [] else [])
+name_by_version macintosh own post glyph version =
+    if version == 0x00010000 then get_or macintosh glyph []
+    else (if version == 0x00020000 then option_map_or (name_by_index macintosh own post glyph) (number post 32 2) []
+    else [])
 
 -- the name of a glyph; an empty one where there is none
 abbrev pub name_by_names : List (List ℕ) → List (List ℕ) → List ℕ → ℕ → List ℕ

@@ -1,4 +1,4 @@
--- What a value of the code stands for.
+-- What a value of the code means.
 use Rattle.glyph_names.specs.Charset.{Run as SidRun}
 use Rattle.glyph_names.specs.declared.charset.Run.{Run}
 

@@ -11,8 +11,8 @@ use Rattle.text_metrics.specs.Metrics.{Metrics, count_in, metrics_seen, text_met
 use Rattle.own_choice.specs.Parts.{has_charstrings, most_parts_in, parts_in}
 use Rattle.own_choice.specs.declared.choice.OwnChoice.{OwnChoice}
 
--- what lines need, and of each glyph the advance in units of the font and whether it can be a part; how many parts own glyphs can have, and whether
--- these stay at the origin
+-- what lines need, and of each glyph the advance in units of the font and whether it can be a part; how many parts own
+-- glyphs can have, and whether these stay at the origin
 pub record Chosen : Type 0 where
   pub lines : Metrics
   pub advances : List ℕ
@@ -21,9 +21,16 @@ pub record Chosen : Type 0 where
   pub is_still : Bool
 
 abbrev pub chosen_seen : OwnChoice → Chosen
-chosen_seen c = record { lines = metrics_seen c.lines; advances = c.advances.items; can_be_part = c.can_be_part.items; most_parts = c.most_parts; is_still = c.is_still }
+chosen_seen c =
+    record {
+      lines = metrics_seen c.lines;
+      advances = c.advances.items;
+      can_be_part = c.can_be_part.items;
+      most_parts = c.most_parts;
+      is_still = c.is_still;
+    }
 
--- of all glyphs of a font at settings of its user coordinates, where a glyph of `glyf` may take so many steps
+-- of all glyphs of a font at settings of its user coordinates, where a glyph of `glyf` may take `steps` steps
 unfoldable pub own_choice : Font → List (Tag × ℤ) → ℕ → Result Chosen Error
 own_choice font settings steps = do
   lines ← text_metrics font settings steps

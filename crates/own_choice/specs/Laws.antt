@@ -10,7 +10,7 @@ use Rattle.own_glyphs.specs.declared.profile.Limits.{Limits}
 use Rattle.pdf_figures.specs.Figures.{is_place}
 use Rattle.own_choice.specs.Parts.{has_small_outline, most_in}
 
--- `maxp` has limits with glyphs of so many parts
+-- `maxp` has limits for glyphs of `parts` parts
 pub record HasLimits (parts : ℕ) (maxp : List ℕ) : Type 0 where
   pub limits : Limits
   pub are : limits_of parts maxp ≡ Ok limits
@@ -30,4 +30,7 @@ PartsFit = (maxp : List ℕ) (parts : ℕ) → IsMost maxp parts
 
 -- a glyph that can be a part at the font's default has a box of 16 bits wherever it is placed
 abbrev pub PartsHaveBoxes : Type 0
-PartsHaveBoxes = (s : Source) (p : Part) → p.glyph < s.count → has_small_outline 16384 (tables s) p.glyph ≡ true → is_place p.x ≡ true → is_place p.y ≡ true → HasBox s p
+PartsHaveBoxes =
+    (s : Source) (p : Part) → p.glyph < s.count → has_small_outline 16384 (tables s) p.glyph ≡ true
+    → is_place p.x ≡ true → is_place p.y ≡ true
+    → HasBox s p

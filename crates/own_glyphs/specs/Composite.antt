@@ -1,5 +1,6 @@
 -- Own glyphs as outlines (OpenType, "glyf": glyph header, composite glyph description).
-use Rattle.std.specs.Prelude.{ℕ, Bool, true, List, [], ◌∷◌, ◌++◌, length, Option, Some, None, Result, Ok, Err, nat_lt, nat_le, if◌then◌else◌, ℤ, pos, ◌+ℤ◌}
+use Rattle.std.specs.Prelude.{ℕ, Bool, true, List, [], ◌∷◌, ◌++◌, length, Option, Some, None, Result, Ok, Err, nat_lt}
+use Rattle.std.specs.Prelude.{nat_le, if◌then◌else◌, ℤ, pos, ◌+ℤ◌}
 use Rattle.std.specs.List.{fold}
 use Rattle.std.specs.Option.{ok_or}
 use Rattle.std.specs.Int.{int_max, int_min}
@@ -19,7 +20,13 @@ use Rattle.own_glyphs.specs.Source.{Source}
 
 -- xMin, yMin, xMax and yMax of a header of ten bytes
 abbrev pub header_box : List ℕ → Bounds
-header_box bytes = record { x_min = signed_at bytes 2; y_min = signed_at bytes 4; x_max = signed_at bytes 6; y_max = signed_at bytes 8 }
+header_box bytes =
+    record {
+      x_min = signed_at bytes 2;
+      y_min = signed_at bytes 4;
+      x_max = signed_at bytes 6;
+      y_max = signed_at bytes 8;
+    }
 
 -- an empty outline has no box
 abbrev pub box_in : List ℕ → Option (Option Bounds)
@@ -58,7 +65,13 @@ part_box s p = do
 
 -- the least box around two
 abbrev pub both : Bounds → Bounds → Bounds
-both a b = record { x_min = int_min a.x_min b.x_min; y_min = int_min a.y_min b.y_min; x_max = int_max a.x_max b.x_max; y_max = int_max a.y_max b.y_max }
+both a b =
+    record {
+      x_min = int_min a.x_min b.x_min;
+      y_min = int_min a.y_min b.y_min;
+      x_max = int_max a.x_max b.x_max;
+      y_max = int_max a.y_max b.y_max;
+    }
 
 abbrev pub joined : Option Bounds → Option Bounds → Option Bounds
 joined None b = b
@@ -86,7 +99,7 @@ own_box s parts = do
   found ← around None (part_boxes s parts)
   Ok (box_or_zero found)
 
--- those of own glyphs
+-- the boxes of own glyphs
 abbrev pub own_boxes : Source → List OwnGlyph → Result (List Bounds) Error
 own_boxes s [] = Ok []
 own_boxes s (o ∷ own) = do
@@ -98,7 +111,8 @@ own_boxes s (o ∷ own) = do
 
 -- a part as a component: ARG_1_AND_2_ARE_WORDS, ARGS_ARE_XY_VALUES, and MORE_COMPONENTS where another follows
 abbrev pub component_of : Bool → Part → Component
-component_of more p = record { flags = if more then 0x0023 else 0x0003; glyph = p.glyph; rest = signed_word p.x ++ signed_word p.y }
+component_of more p =
+    record { flags = if more then 0x0023 else 0x0003; glyph = p.glyph; rest = signed_word p.x ++ signed_word p.y }
 
 abbrev pub components : List Part → List Component
 components [] = []

@@ -46,7 +46,8 @@ pub record KeepsBut (font out : Font) (tag : List ℕ) (from to : ℕ) : Type 0 
   pub kept : KeepsAround source copy from to
 
 -- the file is byte for byte the one that the format lays out
-pub record IsLaidOut (find : List ℕ → Option (List ℕ)) (s : Source) (own : List OwnGlyph) (boxes : List Bounds) (out : List ℕ) : Type 0 where
+pub record IsLaidOut (find : List ℕ → Option (List ℕ)) (s : Source) (own : List OwnGlyph) (boxes : List Bounds)
+    (out : List ℕ) : Type 0 where
   pub offsets : List ℕ
   pub are_offsets : AreOffsets s offsets
   pub metrics : List LongHorMetric
@@ -71,13 +72,15 @@ pub record HasOwnGlyphs (font : List ℕ) (own : List OwnGlyph) (out : List ℕ)
   pub container : IsSoundContainer out (kind_word TrueType) (tags_of TrueType (stored (as_font font)))
   -- as many glyphs, by loca and by maxp
   pub count : HasGlyphCount (as_font out) (source.count + length own)
-  pub profile : (maxp : List ℕ) → stored (as_font out) (codes "maxp") ≡ Some maxp → num_glyphs maxp ≡ Some (source.count + length own)
+  pub profile : (maxp : List ℕ) → stored (as_font out) (codes "maxp") ≡ Some maxp
+      → num_glyphs maxp ≡ Some (source.count + length own)
   -- the font's glyphs keep their numbers
   pub kept : (g : ℕ) → g < source.count → KeepsGlyph (as_font font) (as_font out) g
   -- the own ones follow in order, each in the least box around its parts
   pub boxes : List Bounds
   pub boxes_are : own_boxes source own ≡ Ok boxes
-  pub added : (i : ℕ) (o : OwnGlyph) (b : Bounds) → slice_get own i ≡ Some o → slice_get boxes i ≡ Some b → IsOwnGlyph (as_font out) (source.count + i) o b
+  pub added : (i : ℕ) (o : OwnGlyph) (b : Bounds) → slice_get own i ≡ Some o → slice_get boxes i ≡ Some b
+      → IsOwnGlyph (as_font out) (source.count + i) o b
   -- head is the font's but for checksumAdjustment and indexToLocFormat, hhea but for numberOfHMetrics
   pub head : KeepsHead (as_font font) (as_font out)
   pub hhea : KeepsBut (as_font font) (as_font out) (codes "hhea") 34 36

@@ -1,4 +1,4 @@
--- Why a font gets no own glyphs, under the name of the error.
+-- Why a font gets no own glyphs, each reason with its error.
 use Rattle.std.specs.Prelude.{◌≡◌, ◌≢◌, ◌<◌, ◌≤◌, ℕ, ◌+◌, List, length, Option, Some, None, Ok, Err}
 use Rattle.subsetter_base.specs.declared.error.Error.{Error}
 use Rattle.subsetter_base.specs.declared.error.Error.TheVariants.{MalformedFont, OverflowError, OutOfMemory}
@@ -36,12 +36,17 @@ pub data IsUnmade (find : List ℕ → Option (List ℕ)) (s : Source) (own : Li
   -- maxp has no limits of composites, or they haven't 16 bits
   no_profile : {e : Error} → maxp_with (s.count + length own) (most_parts own) s.maxp ≡ Err e → IsUnmade find s own e
   -- a table's place or length doesn't fit 32 bits
-  too_large : {e : Error} (offsets : List ℕ) (metrics : List LongHorMetric) (boxes : List Bounds) (maxp : List ℕ) → AreOffsets s offsets → AreMetrics s metrics → own_boxes s own ≡ Ok boxes → maxp_with (s.count + length own) (most_parts own) s.maxp ≡ Ok maxp
-      → file_of (kind_word TrueType) (laid_with find s offsets metrics maxp (further own boxes)) ≡ Err e → IsUnmade find s own e
+  too_large : {e : Error} (offsets : List ℕ) (metrics : List LongHorMetric) (boxes : List Bounds) (maxp : List ℕ)
+      → AreOffsets s offsets → AreMetrics s metrics → own_boxes s own ≡ Ok boxes
+      → maxp_with (s.count + length own) (most_parts own) s.maxp ≡ Ok maxp
+      → file_of (kind_word TrueType) (laid_with find s offsets metrics maxp (further own boxes)) ≡ Err e
+      → IsUnmade find s own e
 
 pub data IsRefused (font : List ℕ) (own : List OwnGlyph) : Error → Type 0 where
   -- no known kind, a bad collection or a cut directory
   unopened : {e : Error} → opened (as_font font) ≡ Err e → IsRefused font own e
   -- a table is missing, or its field is cut
   unread : source_in (stored (as_font font)) ≡ None → IsRefused font own MalformedFont
-  unmade : {e : Error} (s : Source) → source_in (stored (as_font font)) ≡ Some s → IsUnmade (stored (as_font font)) s own e → IsRefused font own e
+  unmade : {e : Error} (s : Source) → source_in (stored (as_font font)) ≡ Some s
+      → IsUnmade (stored (as_font font)) s own e
+      → IsRefused font own e

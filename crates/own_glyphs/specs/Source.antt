@@ -8,7 +8,8 @@ use Rattle.subsetter_sfnt.specs.Fields.Loca.{loca_offset}
 use Rattle.subsetter_sfnt.specs.Fields.Maxp.{num_glyphs}
 use Rattle.subsetter_sfnt.specs.declared.fields.hmtx.LongHorMetric.{LongHorMetric}
 
--- where offsets of loca are long, how many glyphs there are (numGlyphs), and how many of them have an advance of their own (numberOfHMetrics)
+-- where offsets of loca are long, how many glyphs there are (numGlyphs), and how many of them have an advance of their
+-- own (numberOfHMetrics)
 pub record Source : Type 0 where
   pub glyf : List ℕ
   pub loca : List ℕ
@@ -32,7 +33,17 @@ source_in find = do
   hhea ← find (codes "hhea")
   pairs ← number_of_h_metrics hhea
   hmtx ← find (codes "hmtx")
-  Some (record { glyf = glyf; loca = loca; head = head; long = not (format == 0); maxp = maxp; count = count; hhea = hhea; pairs = pairs; hmtx = hmtx })
+  Some (record {
+    glyf = glyf;
+    loca = loca;
+    head = head;
+    long = not (format == 0);
+    maxp = maxp;
+    count = count;
+    hhea = hhea;
+    pairs = pairs;
+    hmtx = hmtx;
+  })
 
 -- a look-up gives these values from a number on
 abbrev pub AreFrom : {A : Type 0} → (ℕ → Option A) → ℕ → List A → Type 0

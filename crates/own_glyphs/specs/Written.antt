@@ -1,5 +1,7 @@
--- The tables with further glyphs after those that they have (OpenType, "glyf", "loca", "head", "maxp", "hhea" and "hmtx").
-use Rattle.std.specs.Prelude.{◌<◌, ◌^◌, ℕ, ◌+◌, Bool, ◌||◌, List, [], ◌∷◌, ◌++◌, length, map, codes, Option, Some, None, nat_lt}
+-- The tables with further glyphs after those that they have (OpenType, "glyf", "loca", "head", "maxp", "hhea" and
+-- "hmtx").
+use Rattle.std.specs.Prelude.{◌<◌, ◌^◌, ℕ, ◌+◌, Bool, ◌||◌, List, [], ◌∷◌, ◌++◌, length, map, codes, Option, Some, None}
+use Rattle.std.specs.Prelude.{nat_lt}
 use Rattle.std.specs.List.{AllByRecursion, flat_map}
 use Rattle.std.specs.Int.{w16, cast_unsigned}
 use Rattle.subsetter_points.specs.declared.bounds.Bounds.{Bounds}
@@ -22,7 +24,11 @@ pub record Further : Type 0 where
 
 -- an own glyph: its left side bearing is the least x, so that no reader moves it
 abbrev pub drawn_in : OwnGlyph → Bounds → Further
-drawn_in o b = record { outline = parts_bytes (own_parts o.parts.now b); metric = record { advance_width = o.advance; lsb = cast_unsigned w16 b.x_min } }
+drawn_in o b =
+    record {
+      outline = parts_bytes (own_parts o.parts.now b);
+      metric = record { advance_width = o.advance; lsb = cast_unsigned w16 b.x_min };
+    }
 
 -- own glyphs, each in its box
 abbrev pub further : List OwnGlyph → List Bounds → List Further
@@ -62,8 +68,9 @@ offsets_with s offsets more = offsets ++ ends_from (length s.glyf) more
 abbrev pub metrics_with : List LongHorMetric → List Further → List LongHorMetric
 metrics_with metrics more = metrics ++ map (λ (f : Further). f.metric) more
 
--- the tables of so many glyphs, each with a pair in hmtx; the other tables of a subset stay
-abbrev pub tables_by : (List ℕ → Option (List ℕ)) → Source → List ℕ → List ℕ → List LongHorMetric → List ℕ → ℕ → FontTables
+-- the tables of n glyphs, each with a longHorMetric in hmtx; the other tables of a subset stay
+abbrev pub tables_by : (List ℕ → Option (List ℕ)) → Source → List ℕ → List ℕ → List LongHorMetric → List ℕ → ℕ
+    → FontTables
 tables_by find s glyf offsets metrics maxp n = record {
   cff = None;
   cvt = find (codes "cvt ");
@@ -79,9 +86,13 @@ tables_by find s glyf offsets metrics maxp n = record {
   prep = find (codes "prep");
 }
 
-abbrev pub tables_with : (List ℕ → Option (List ℕ)) → Source → List ℕ → List LongHorMetric → List ℕ → List Further → FontTables
-tables_with find s offsets metrics maxp more = tables_by find s (glyf_with s more) (offsets_with s offsets more) (metrics_with metrics more) maxp (s.count + length more)
+abbrev pub tables_with : (List ℕ → Option (List ℕ)) → Source → List ℕ → List LongHorMetric → List ℕ → List Further
+    → FontTables
+tables_with find s offsets metrics maxp more =
+    tables_by find s (glyf_with s more) (offsets_with s offsets more)
+    (metrics_with metrics more) maxp (s.count + length more)
 
 -- they are laid out, in ascending order of their tags
-abbrev pub laid_with : (List ℕ → Option (List ℕ)) → Source → List ℕ → List LongHorMetric → List ℕ → List Further → List Table
+abbrev pub laid_with : (List ℕ → Option (List ℕ)) → Source → List ℕ → List LongHorMetric → List ℕ → List Further
+    → List Table
 laid_with find s offsets metrics maxp more = present (rows (tables_with find s offsets metrics maxp more))

@@ -17,12 +17,12 @@ box_in b = record { x_min = b.x_min; y_min = b.y_min; x_max = b.x_max; y_max = b
 abbrev pub glyph_box : List (Option (List ℕ)) → ℕ → Option GlyphBox
 glyph_box entries glyph = option_map box_in (entry_at entries glyph >>= charstring_box)
 
--- the least box around those of so many glyphs, from one on
+-- the least box around those of n glyphs, from one on
 abbrev pub boxes_from : List (Option (List ℕ)) → ℕ → ℕ → Option GlyphBox
 boxes_from entries glyph zero = None
 boxes_from entries glyph (suc n) = joined (glyph_box entries glyph) (boxes_from entries (glyph + 1) n)
 
--- around the first glyphs of a table, so many from glyph 0 on; none of a table that can't be opened
+-- around the first `count` glyphs of a table; none of a table that can't be opened
 abbrev pub kept_box : List ℕ → ℕ → Option GlyphBox
 kept_box bytes count = do
   cff ← result_ok (opened bytes)

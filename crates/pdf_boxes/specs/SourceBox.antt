@@ -1,4 +1,5 @@
--- The boxes of glyphs of a `CFF ` table whose charstrings may call subroutines (Technical Note 5176, section 14; Technical Note 5177).
+-- The boxes of glyphs of a `CFF ` table whose charstrings may call subroutines (Technical Note 5176, section 14;
+-- Technical Note 5177).
 use Rattle.std.specs.Prelude.{ℕ, List, [], map, Option, option_map, ℤ, pos}
 use Rattle.std.specs.Option.{option_map_or, unwrap_or}
 use Rattle.std.specs.Result.{result_ok}
@@ -14,9 +15,10 @@ use Rattle.subsetter_points.specs.declared.bounds.Bounds.{Bounds}
 
 -- of a charstring under a private dict, run within these limits; none where it can't be
 unfoldable pub run_box : Cff → Limits → Private → List ℕ → Option Bounds
-run_box cff limits private charstring = result_ok (flat_form (library cff private) limits.tokens limits.depth charstring) >>= flat_box
+run_box cff limits private charstring =
+    result_ok (flat_form (library cff private) limits.tokens limits.depth charstring) >>= flat_box
 
--- of a glyph
+-- the box of what the charstring of a glyph draws
 unfoldable pub drawn_box : Cff → Limits → ℕ → Option Bounds
 drawn_box cff limits glyph = do
   charstring ← char_string cff glyph
@@ -35,7 +37,7 @@ glyph_top bytes limits glyph = result_ok (opened bytes) >>= λ cff. top_in cff l
 abbrev pub top_or_zero : Cff → Limits → ℕ → ℤ
 top_or_zero cff limits glyph = unwrap_or (top_in cff limits glyph) (pos 0)
 
--- of glyphs
+-- the greatest y of each glyph, 0 of one that has none
 abbrev pub tops_in : Cff → Limits → List ℕ → List ℤ
 tops_in cff limits glyphs = map (top_or_zero cff limits) glyphs
 

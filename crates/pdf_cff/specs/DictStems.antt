@@ -16,7 +16,8 @@ stem_one units None = None
 stem_one units (Some x) = stem_by units (x ∷ [])
 
 abbrev pub stem_saying : ℕ → Saying
-stem_saying units operator operand = if bytes_eq operator stem_operator then option_map Some (stem_one units operand) else None
+stem_saying units operator operand =
+    if bytes_eq operator stem_operator then option_map Some (stem_one units operand) else None
 
 abbrev pub joined : Option (Option ℕ) → Option ℕ
 joined said = option_and_then (λ stem. stem) said

@@ -15,7 +15,7 @@ abbrev pub in_thousandths : List Number → Option ℕ
 in_thousandths (x ∷ []) = option_and_then as_u32 (thousand x)
 in_thousandths _ = None
 
--- so many thousandths of a unit in thousandths of the em, to the nearest, halves up; units to the em are above 0
+-- n thousandths of a unit in thousandths of the em, to the nearest, halves up; units per em are above 0
 abbrev pub of_em : ℕ → ℕ → ℕ
 of_em units n = (2 * n + units) / (2 * units)
 

@@ -25,9 +25,11 @@ private_of found = unwrap_or found no_private
 
 -- those of the font dicts, in their order (section 18), else that of the top dict
 abbrev pub privates : Cff → List Private
-privates cff = if is_cid_keyed cff then map (λ d. private_of (private_at cff.bytes d)) (unwrap_or (font_dicts cff) []) else private_of (private_at cff.bytes cff.top) ∷ []
+privates cff =
+    if is_cid_keyed cff then map (λ d. private_of (private_at cff.bytes d)) (unwrap_or (font_dicts cff) [])
+    else private_of (private_at cff.bytes cff.top) ∷ []
 
--- both
+-- the name and the stem width of a font
 pub record CffValues : Type 0 where
   pub name : Option (List ℕ)
   pub stem : Option ℕ
@@ -37,4 +39,5 @@ cff_values_of units cff = record { name = first_name cff; stem = first_stem unit
 
 -- of a table that can't be opened nothing
 abbrev pub cff_values_in : ℕ → List ℕ → CffValues
-cff_values_in units bytes = unwrap_or (option_map (cff_values_of units) (result_ok (opened bytes))) (record { name = None; stem = None })
+cff_values_in units bytes =
+    unwrap_or (option_map (cff_values_of units) (result_ok (opened bytes))) (record { name = None; stem = None })

@@ -1,5 +1,6 @@
 -- The codes of glyphs in use (ISO 32000-1, 9.7.6.2).
-use Rattle.std.specs.Prelude.{◌≡◌, ◌<◌, ℕ, Bool, ◌==◌, ◌&&◌, nat_eq, if◌then◌else◌, List, [], ◌∷◌, map, length, get_or, Some}
+use Rattle.std.specs.Prelude.{◌≡◌, ◌<◌, ℕ, Bool, ◌==◌, ◌&&◌, nat_eq, if◌then◌else◌, List, [], ◌∷◌, map, length, get_or}
+use Rattle.std.specs.Prelude.{Some}
 use Rattle.std.specs.Cmp.Lexicographic.{pointwise}
 use Rattle.subsetter_base.specs.Indexes.{index_of, with_glyphs, HasAllAboveZero}
 use Rattle.subsetter_base.specs.Remap.{index_by, with_value}
@@ -19,7 +20,7 @@ used_of e = record { glyph = e.glyph; units = e.units.now }
 abbrev pub glyphs_of : List Used → List ℕ
 glyphs_of us = map (λ u. u.glyph) us
 
--- glyph 0 has no text
+-- a use of a glyph with its text; glyph 0 has none
 abbrev pub keyed : Used → Used
 keyed u = if u.glyph == 0 then record { glyph = 0; units = [] } else u
 
@@ -36,7 +37,8 @@ with_pairs pairs (u ∷ us) = with_pairs (with_value same pairs u) us
 abbrev pub pairs_of : List Used → List Used
 pairs_of us = with_pairs (record { glyph = 0; units = [] } ∷ []) (map keyed us)
 
--- The codes: the new numbers of the glyphs, which are 0 for glyph 0 and consecutive in order of use; the source's numbers; or the places of the pairs of a glyph and a text
+-- The codes: the new numbers of the glyphs, which are 0 for glyph 0 and consecutive in order of use; the source's
+-- numbers; or the places of the pairs of a glyph and a text
 abbrev pub AreCodes : Codes → List Used → List ℕ → Type 0
 AreCodes Consecutive us codes = map Some codes ≡ map (index_of (with_glyphs (0 ∷ []) (glyphs_of us))) (glyphs_of us)
 AreCodes Source us codes = codes ≡ glyphs_of us
@@ -58,7 +60,8 @@ glyph_at us i = get_or (glyphs_of us) i 0
 
 -- entries of one code have one glyph
 abbrev pub HaveOneGlyph : List Used → List ℕ → Type 0
-HaveOneGlyph us codes = (i j : ℕ) → i < length us → j < length us → get_or codes i 0 ≡ get_or codes j 0 → glyph_at us i ≡ glyph_at us j
+HaveOneGlyph us codes =
+    (i j : ℕ) → i < length us → j < length us → get_or codes i 0 ≡ get_or codes j 0 → glyph_at us i ≡ glyph_at us j
 
 -- code 0 is that of glyph 0
 abbrev pub HasZerothGlyph : List Used → List ℕ → Type 0

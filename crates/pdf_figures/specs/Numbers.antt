@@ -12,14 +12,22 @@ as_own (own ps a) = own ps a
 abbrev pub own_by : List Ink → ℕ → Ink
 own_by inks k = as_own (get_or inks k (own [] 0))
 
--- with so many glyphs in the font, what a glyph of an item is
+-- with `count` glyphs in the font, what a glyph of an item is
 abbrev pub ink_by : ℕ → List Ink → ℕ → Ink
 ink_by count inks g = if nat_lt g count then glyph g else own_by inks (g - count)
 
 abbrev pub figured_by : ℕ → List Ink → Item → Figured
-figured_by count inks i = record { ink = ink_by count inks i.glyph; text = i.text; x_advance = i.x_advance; y_advance = i.y_advance; x_offset = i.x_offset; y_offset = i.y_offset }
+figured_by count inks i =
+    record {
+      ink = ink_by count inks i.glyph;
+      text = i.text;
+      x_advance = i.x_advance;
+      y_advance = i.y_advance;
+      x_offset = i.x_offset;
+      y_offset = i.y_offset;
+    }
 
--- a glyph is one of so many
+-- a glyph is one of the font's `count` glyphs
 abbrev pub is_known_ink : ℕ → Ink → Bool
 is_known_ink count (glyph g) = nat_lt g count
 is_known_ink count (own ps a) = true

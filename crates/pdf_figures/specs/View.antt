@@ -21,14 +21,30 @@ ink_seen (Glyph g) = glyph g
 ink_seen (Own o) = own_seen o
 
 abbrev pub figure_seen : Figure → Figured
-figure_seen f = record { ink = ink_seen f.ink; text = f.text; x_advance = f.x_advance; y_advance = f.y_advance; x_offset = f.x_offset; y_offset = f.y_offset }
+figure_seen f =
+    record {
+      ink = ink_seen f.ink;
+      text = f.text;
+      x_advance = f.x_advance;
+      y_advance = f.y_advance;
+      x_offset = f.x_offset;
+      y_offset = f.y_offset;
+    }
 
 abbrev pub figures_seen : List Figure → List Figured
 figures_seen fs = map figure_seen fs
 
 -- what is left of a figure that is cut
 abbrev pub cut_seen : Uncut → Figured
-cut_seen u = record { ink = own (map drawn_of u.parts.items) 0; text = u.text; x_advance = u.x_advance; y_advance = u.y_advance; x_offset = u.x_offset; y_offset = u.y_offset }
+cut_seen u =
+    record {
+      ink = own (map drawn_of u.parts.items) 0;
+      text = u.text;
+      x_advance = u.x_advance;
+      y_advance = u.y_advance;
+      x_offset = u.x_offset;
+      y_offset = u.y_offset;
+    }
 
 -- ---- own glyphs by number
 
@@ -40,7 +56,7 @@ pub record Extends (old new : List OwnInk) : Type 0 where
   pub further : List OwnInk
   pub are : new ≡ old ++ further
 
--- after so many glyphs of the font this is the number of an own glyph
+-- this is the number of an own glyph, after the `count` glyphs of the font
 pub record IsNumberOf (count : ℕ) (os : List OwnInk) (i : Ink) (n : ℕ) : Type 0 where
   pub above : count ≤ n
   pub below : n < count + length os

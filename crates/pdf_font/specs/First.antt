@@ -15,12 +15,17 @@ use Rattle.pdf_font.specs.declared.font.PdfFont.{PdfFont}
 abbrev pub CanBeOpened : Font → Type 0
 CanBeOpened font = (e : Error) → ¬ (HasOpeningFaultAt font e)
 
-pub record IsFoundFirst (font : Font) (options : FontOptions) (us : List Used) (r : Result PdfFont FontError) : Type 0 where
+pub record IsFoundFirst (font : Font) (options : FontOptions) (us : List Used) (r : Result PdfFont FontError)
+    : Type 0 where
   -- that the face has no outlines
   pub bare : lacks_outlines font ≡ true → r ≡ Err BitmapsAlone
-  -- then a fault that stands against opening it, under its name
-  pub unopened : lacks_outlines font ≡ false → (e : Error) → HasOpeningFaultAt font e → (d : Error) × (r ≡ Err (Subset d)) × HasOpeningFaultAt font d
+  -- then a fault of opening it, with its error
+  pub unopened : lacks_outlines font ≡ false → (e : Error) → HasOpeningFaultAt font e
+      → (d : Error) × (r ≡ Err (Subset d)) × HasOpeningFaultAt font d
   -- then that `fsType` forbids it, and the caller holds no rights
-  pub forbidden : CanBeOpened font → is_permitted (permission (stored font (codes "OS/2"))) options.rights ≡ false → r ≡ Err (NotPermitted (permission (stored font (codes "OS/2"))))
+  pub forbidden : CanBeOpened font → is_permitted (permission (stored font (codes "OS/2"))) options.rights ≡ false
+      → r ≡ Err (NotPermitted (permission (stored font (codes "OS/2"))))
   -- then a text that is too long
-  pub long : CanBeOpened font → is_permitted (permission (stored font (codes "OS/2"))) options.rights ≡ true → has_long_text us ≡ true → r ≡ Err TextTooLong
+  pub long : CanBeOpened font → is_permitted (permission (stored font (codes "OS/2"))) options.rights ≡ true
+      → has_long_text us ≡ true
+      → r ≡ Err TextTooLong

@@ -31,22 +31,32 @@ box_at glyf at =
     option_and_then (λ c.
     option_and_then (λ d.
     Some (record { x_min = a; y_min = b; x_max = c; y_max = d }))
-    (signed_field glyf (at + 8))) (signed_field glyf (at + 6))) (signed_field glyf (at + 4))) (signed_field glyf (at + 2))
+    (signed_field glyf (at + 8))) (signed_field glyf (at + 6)))
+    (signed_field glyf (at + 4))) (signed_field glyf (at + 2))
 
 -- the box of a glyph, whose outline has a header of ten bytes unless it is empty
 abbrev pub glyph_box : Outlines → ℕ → Option GlyphBox
-glyph_box t g = option_and_then (λ from. option_and_then (λ to. if nat_le (from + 10) to then box_at t.glyf from else None) (entry t (g + 1))) (entry t g)
+glyph_box t g =
+    option_and_then (λ from.
+    option_and_then (λ to. if nat_le (from + 10) to then box_at t.glyf from else None) (entry t (g + 1)))
+    (entry t g)
 
 -- the least box around two
 abbrev pub around : GlyphBox → GlyphBox → GlyphBox
-around a b = record { x_min = int_min a.x_min b.x_min; y_min = int_min a.y_min b.y_min; x_max = int_max a.x_max b.x_max; y_max = int_max a.y_max b.y_max }
+around a b =
+    record {
+      x_min = int_min a.x_min b.x_min;
+      y_min = int_min a.y_min b.y_min;
+      x_max = int_max a.x_max b.x_max;
+      y_max = int_max a.y_max b.y_max;
+    }
 
 abbrev pub joined : Option GlyphBox → Option GlyphBox → Option GlyphBox
 joined None b = b
 joined (Some a) None = Some a
 joined (Some a) (Some b) = Some (around a b)
 
--- the least box around those of so many glyphs, from one on
+-- the least box around those of n glyphs, from one on
 abbrev pub boxes_from : Outlines → ℕ → ℕ → Option GlyphBox
 boxes_from t g zero = None
 boxes_from t g (suc n) = joined (glyph_box t g) (boxes_from t (g + 1) n)

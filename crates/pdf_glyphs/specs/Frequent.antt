@@ -1,5 +1,6 @@
 -- DW2, the most frequent column (ISO 32000-1, 9.7.4.3).
-use Rattle.std.specs.Prelude.{◌≡◌, ◌<◌, ◌≤◌, ℕ, nat_lt, ◌&&◌, Bool, if◌then◌else◌, List, [], ◌∷◌, length, get_or, count_by, ℤ, pos, neg_ℤ}
+use Rattle.std.specs.Prelude.{◌≡◌, ◌<◌, ◌≤◌, ℕ, nat_lt, ◌&&◌, Bool, if◌then◌else◌, List, [], ◌∷◌, length, get_or}
+use Rattle.std.specs.Prelude.{count_by, ℤ, pos, neg_ℤ}
 use Rattle.std.specs.Ordering.{int_eq}
 use Rattle.pdf_text.specs.declared.metrics.columns.Column.{Column}
 use Rattle.pdf_text.specs.declared.metrics.columns.DefaultColumn.{DefaultColumn}
@@ -19,9 +20,11 @@ default_of c = record { y = c.y; advance = c.advance }
 -- among all columns, the first of these that more have than n, and so on; else the one so far
 abbrev pub most_from : List Column → ℕ → DefaultColumn → List Column → DefaultColumn
 most_from all n d [] = d
-most_from all n d (c ∷ cs) = if nat_lt n (count all c.y c.advance) then most_from all (count all c.y c.advance) (default_of c) cs else most_from all n d cs
+most_from all n d (c ∷ cs) =
+    if nat_lt n (count all c.y c.advance) then most_from all (count all c.y c.advance) (default_of c) cs
+    else most_from all n d cs
 
--- PDF's own
+-- the default of DW2 (ISO 32000-1, Table 117): 880 and -1000
 abbrev pub own_default : DefaultColumn
 own_default = record { y = pos 880; advance = neg_ℤ (pos 1000) }
 

@@ -1,5 +1,7 @@
--- What advance heights and the origins of "VORG" vary by off a font's default (OpenType, "VVAR"): its items are found as those of "HVAR" are.
-use Rattle.std.specs.Prelude.{◌≡◌, ℕ, ◌^◌, nat_lt, if◌then◌else◌, ◌&&◌, int_le, int_lt, List, map, Option, IfSome, Result, Err, ℤ, pos, neg_ℤ, ◌+ℤ◌, unsigned_abs}
+-- What advance heights and the origins of "VORG" vary by off a font's default (OpenType, "VVAR"): its items are found
+-- as those of "HVAR" are.
+use Rattle.std.specs.Prelude.{◌≡◌, ℕ, ◌^◌, nat_lt, if◌then◌else◌, ◌&&◌, int_le, int_lt, List, map, Option, IfSome}
+use Rattle.std.specs.Prelude.{Result, Err, ℤ, pos, neg_ℤ, ◌+ℤ◌, unsigned_abs}
 use Rattle.std.specs.List.{slice_get}
 use Rattle.std.specs.Option.{unwrap_or}
 use Rattle.std.specs.Result.{result_unwrap_or}

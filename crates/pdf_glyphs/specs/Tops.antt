@@ -10,4 +10,5 @@ glyph_by cmap c = option_map (λ m. glyph_of m c) (option_and_then mapping cmap)
 
 -- the top of its box, if it has one
 abbrev pub top_of : Outlines → Option (List ℕ) → ℕ → Option ℤ
-top_of t cmap c = option_and_then (λ g. if g == 0 then None else option_map (λ b. b.y_max) (glyph_box t g)) (glyph_by cmap c)
+top_of t cmap c =
+    option_and_then (λ g. if g == 0 then None else option_map (λ b. b.y_max) (glyph_box t g)) (glyph_by cmap c)

@@ -1,5 +1,6 @@
 -- Vertical metrics of glyphs (OpenType, "vhea", "vmtx", "VORG"), as a PDF has them (ISO 32000-1, 9.7.4.3).
-use Rattle.std.specs.Prelude.{ℕ, zero, suc, ◌+◌, ◌-◌, ◌*◌, ◌/◌, ◌^◌, ◌==◌, min, nat_lt, if◌then◌else◌, List, [], ◌∷◌, slice_get, Option, Some, None, ℤ, pos, neg_ℤ, ◌+ℤ◌}
+use Rattle.std.specs.Prelude.{ℕ, zero, suc, ◌+◌, ◌-◌, ◌*◌, ◌/◌, ◌^◌, ◌==◌, min, nat_lt, if◌then◌else◌, List, [], ◌∷◌}
+use Rattle.std.specs.Prelude.{slice_get, Option, Some, None, ℤ, pos, neg_ℤ, ◌+ℤ◌}
 use Rattle.std.specs.Option.{option_and_then, option_copied, option_map, option_map_or, option_or, unwrap_or}
 use Rattle.pdf_text.specs.declared.metrics.columns.Column.{Column}
 use Rattle.subsetter_base.specs.Bytes.{field, signed_field}
@@ -17,11 +18,18 @@ pub record Vertical : Type 0 where
   pub outlines : Outlines
 
 abbrev pub vertical_view : VerticalTables → Vertical
-vertical_view t = record { vhea = option_copied t.vhea; vmtx = option_copied t.vmtx; vorg = option_copied t.vorg; outlines = outlines_view t.outlines }
+vertical_view t =
+    record {
+      vhea = option_copied t.vhea;
+      vmtx = option_copied t.vmtx;
+      vorg = option_copied t.vorg;
+      outlines = outlines_view t.outlines;
+    }
 
 -- ---- "vmtx"
 
--- numOfLongVerMetrics: for so many glyphs `vmtx` has an advance height and a top side bearing, for the others a bearing
+-- numOfLongVerMetrics: for this number of glyphs `vmtx` has an advance height and a top side bearing, for the others a
+-- bearing
 abbrev pub pair_count : Vertical → ℕ
 pair_count t = unwrap_or (field t.vhea 34 2) 0
 
@@ -29,7 +37,7 @@ pair_count t = unwrap_or (field t.vhea 34 2) 0
 abbrev pub advance_of : Vertical → ℕ → Option ℕ
 advance_of t g = if pair_count t == 0 then None else field t.vmtx (4 * min g (pair_count t - 1)) 2
 
--- the top side bearing
+-- topSideBearing of a glyph in `vmtx`: after its advance height, or alone
 abbrev pub bearing_of : Vertical → ℕ → Option ℤ
 bearing_of t g = signed_field t.vmtx (if nat_lt g (pair_count t) then 4 * g + 2 else 2 * (pair_count t + g))
 
@@ -42,14 +50,16 @@ pub record Origin : Type 0 where
 
 -- record number k after the header, if the table has it
 abbrev pub origin_at : Option (List ℕ) → ℕ → Option Origin
-origin_at vorg k = option_and_then (λ g. option_map (λ y. record { glyph = g; y = y }) (signed_field vorg (4 * k + 10))) (field vorg (4 * k + 8) 2)
+origin_at vorg k =
+    option_and_then (λ g. option_map (λ y. record { glyph = g; y = y }) (signed_field vorg (4 * k + 10)))
+    (field vorg (4 * k + 8) 2)
 
 -- the y that a record has for a glyph, else that of the later ones
 abbrev pub by_record : Option Origin → ℕ → Option ℤ → Option ℤ
 by_record None g later = later
 by_record (Some o) g later = if o.glyph == g then Some o.y else later
 
--- the y of a glyph by so many records, from one on
+-- the y of a glyph by the next n records, from record k on
 abbrev pub origin_from : Option (List ℕ) → ℕ → ℕ → ℕ → Option ℤ
 origin_from vorg k zero g = None
 origin_from vorg k (suc n) g = by_record (origin_at vorg k) g (origin_from vorg (k + 1) n g)
@@ -58,7 +68,7 @@ origin_from vorg k (suc n) g = by_record (origin_at vorg k) g (origin_from vorg 
 abbrev pub record_count : Option (List ℕ) → ℕ
 record_count vorg = unwrap_or (field vorg 6 2) 0
 
--- by all records
+-- vertOriginY of a glyph by all records of `VORG`
 abbrev pub origin_of : Option (List ℕ) → ℕ → Option ℤ
 origin_of vorg g = origin_from vorg 0 (record_count vorg) g
 
@@ -81,8 +91,8 @@ abbrev pub vorg_y_at : Option (List ℕ) → Option Variation → ℕ → Option
 vorg_y_at vorg None g = vorg_y vorg g
 vorg_y_at vorg (Some v) g = option_map (varied_origin v g) (vorg_y vorg g)
 
--- the y of the origin, in the font's units: of TrueType outlines the top of the box and the top side bearing, those of the default; else by
--- "VORG"; else by the top that is given, if one is
+-- the y of the origin, in the font's units: of TrueType outlines the top of the box and the top side bearing, those of
+-- the default; else by "VORG"; else by the top that is given, if one is
 abbrev pub origin_by : Option (List ℕ) → Vertical → Option Variation → Option ℤ → ℕ → Option ℤ
 origin_by (Some glyf) t v top g = by_top t g (box_top t.outlines g)
 origin_by None t v top g = option_or (vorg_y_at t.vorg v g) (option_and_then (by_top t g) top)
@@ -96,7 +106,12 @@ half w = pos (min ((w + 1) / 2) (2 ^ 31 - 1))
 
 -- advance and origin in thousandths: an advance goes downwards, and an origin that isn't said is PDF's own, 880
 abbrev pub column : ℕ → ℕ → ℕ → Option ℤ → Column
-column units w a y = record { advance = neg_ℤ (thousandths (pos a) units); x = half w; y = option_map_or (λ v. thousandths v units) y (pos 880) }
+column units w a y =
+    record {
+      advance = neg_ℤ (thousandths (pos a) units);
+      x = half w;
+      y = option_map_or (λ v. thousandths v units) y (pos 880);
+    }
 
 -- PDF's own column (DW2)
 abbrev pub own_column : ℕ → Column
@@ -109,7 +124,9 @@ advance_at t (Some v) g = option_map (varied_height v g) (advance_of t g)
 
 -- the column of a glyph that has a width, whose top may be given; PDF's own where it has no advance height
 abbrev pub metric_at : Vertical → Option Variation → Option ℤ → ℕ → ℕ → Column
-metric_at t v top g w = option_map_or (λ a. column (units_per_em t.outlines.head) w a (origin_y_at t v top g)) (advance_at t v g) (own_column w)
+metric_at t v top g w =
+    option_map_or (λ a. column (units_per_em t.outlines.head) w a (origin_y_at t v top g))
+    (advance_at t v g) (own_column w)
 
 -- of each glyph, whose tops are these from a place on, if they are given
 abbrev pub columns_from : Vertical → Option Variation → List ℤ → ℕ → List ℕ → List ℕ → List Column

@@ -1,5 +1,6 @@
 -- The named instance at a font's coordinates (OpenType, "fvar"), and its name (Technical Note 5902).
-use Rattle.std.specs.Prelude.{ℕ, ℤ, zero, suc, ◌+◌, ◌*◌, ◌==◌, ◌&&◌, ◌||◌, nat_le, nat_lt, Bool, false, if◌then◌else◌, List, [], ◌∷◌, ◌++◌, drop, is_some, codes, Option, Some, None}
+use Rattle.std.specs.Prelude.{ℕ, ℤ, zero, suc, ◌+◌, ◌*◌, ◌==◌, ◌&&◌, ◌||◌, nat_le, nat_lt, Bool, false, if◌then◌else◌}
+use Rattle.std.specs.Prelude.{List, [], ◌∷◌, ◌++◌, drop, is_some, codes, Option, Some, None}
 use Rattle.std.specs.Int.{w32, cast_signed}
 use Rattle.std.specs.Option.{option_and_then, option_map_or}
 use Rattle.std.specs.Ordering.{int_eq}
@@ -21,18 +22,23 @@ is_coordinate a settings bits = option_map_or (λ b. int_eq (cast_signed w32 b) 
 -- the bytes after the coordinates of all axes, four bytes each, where they are the font's
 abbrev pub after_coordinates : List Axis → List (Tag × ℤ) → List ℕ → Option (List ℕ)
 after_coordinates [] settings bytes = Some bytes
-after_coordinates (a ∷ axes) settings bytes = if is_coordinate a settings (number bytes 0 4) then after_coordinates axes settings (drop 4 bytes) else None
+after_coordinates (a ∷ axes) settings bytes =
+    if is_coordinate a settings (number bytes 0 4) then after_coordinates axes settings (drop 4 bytes) else None
 
 -- a record has subfamilyNameID, flags, the coordinates, and may have postScriptNameID after them
 abbrev pub past_flags : List Axis → List (Tag × ℤ) → List ℕ → Option (List ℕ)
 past_flags axes settings bytes = after_coordinates axes settings (drop 4 bytes)
 
--- the first of so many records of one size, from a place on, that has the font's coordinates
+-- the first of the next n records of one size, from a place on, that has the font's coordinates
 abbrev pub record_from : List Axis → List (Tag × ℤ) → List ℕ → ℕ → ℕ → ℕ → Option (List ℕ)
 record_from axes settings fvar size zero at = None
-record_from axes settings fvar size (suc n) at = option_and_then (λ bytes. if is_some (past_flags axes settings bytes) then Some bytes else record_from axes settings fvar size n (at + size)) (range fvar at size)
+record_from axes settings fvar size (suc n) at =
+    option_and_then (λ bytes.
+    if is_some (past_flags axes settings bytes) then Some bytes else record_from axes settings fvar size n (at + size))
+    (range fvar at size)
 
--- axesArrayOffset, axisCount, axisSize, instanceCount and instanceSize; the records of instances stand after those of the axes
+-- axesArrayOffset, axisCount, axisSize, instanceCount and instanceSize; the records of instances are after those of the
+-- axes
 unfoldable pub record_in : List Axis → List (Tag × ℤ) → List ℕ → Option (List ℕ)
 record_in axes settings fvar = do
   at ← number fvar 4 2
@@ -71,4 +77,6 @@ names_or name front id bytes = or_else (own_name name id) (hyphenated front (sub
 
 -- the name of the instance at the coordinates, with this prefix; no characters where there is none
 abbrev pub instance_name : Option (List ℕ) → List ℕ → List Axis → List (Tag × ℤ) → Option (List ℕ) → List ℕ
-instance_name name front axes settings fvar = option_map_or (λ bytes. names_or name front (own_id axes settings bytes) bytes) (option_and_then (record_in axes settings) fvar) []
+instance_name name front axes settings fvar =
+    option_map_or (λ bytes. names_or name front (own_id axes settings bytes) bytes)
+    (option_and_then (record_in axes settings) fvar) []

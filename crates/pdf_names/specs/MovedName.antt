@@ -10,11 +10,14 @@ use Rattle.subsetter_base.specs.Texts.{or_else}
 
 -- the name of the named instance at the coordinates, else the prefix with each coordinate that is off its default
 unfoldable pub whole_name : List ℕ → Option (List ℕ) → Option (List ℕ) → Movement → List ℕ
-whole_name front name fvar m = or_else (instance_name name front m.axes m.settings fvar) (front ++ axes_text m.axes m.settings)
+whole_name front name fvar m =
+    or_else (instance_name name front m.axes m.settings fvar) (front ++ axes_text m.axes m.settings)
 
--- a name of more than 120 bytes is cut to the front of its prefix, `-`, six letters by the rule of a subset's tag, and `...`
+-- a name of more than 120 bytes is cut to the front of its prefix, `-`, six letters by the rule of a subset's tag, and
+-- `...`
 unfoldable pub shortened : List ℕ → List ℕ → List ℕ
-shortened front text = if nat_le (length text) 120 then text else take 110 front ++ (codes "-" ++ (tag_of text ++ codes "..."))
+shortened front text =
+    if nat_le (length text) 120 then text else take 110 front ++ (codes "-" ++ (tag_of text ++ codes "..."))
 
 abbrev pub name_at : Option (List ℕ) → Option (List ℕ) → Movement → Option (List ℕ) → List ℕ
 name_at name fvar m cff = shortened (prefix name cff) (whole_name (prefix name cff) name fvar m)

@@ -36,7 +36,8 @@ pub record IsSheetOf (w : FontView) (ts : List (List ℕ)) (layout : Layout) (fi
   pub glyphs : List SheetGlyph
   pub are : AreGlyphsOf w ts glyphs
   pub whole : file ≡ file_of (sheet_values layout w.values glyphs)
-  pub at : AreInTable file (length (body_of (sheet_values layout w.values glyphs))) (sheet_values layout w.values glyphs)
+  pub at :
+      AreInTable file (length (body_of (sheet_values layout w.values glyphs))) (sheet_values layout w.values glyphs)
 
 -- the sheet has too many objects, bytes or columns
 pub record IsTooLargeFor (w : FontView) (ts : List (List ℕ)) (layout : Layout) : Type 0 where

@@ -14,7 +14,9 @@ use Rattle.pdf_objects.specs.declared.view.FontView.{FontView}
 pub record IsDescriptorOf (f : PdfFont) (d : Descriptor) : Type 0 where
   pub font_name : d.font_name.now ≡ f.descriptor.font_name.items
   pub flags : d.flags ≡ f.descriptor.values.flags
-  pub bounds : d.bounds ≡ f.descriptor.values.bounds.x_min ∷ f.descriptor.values.bounds.y_min ∷ f.descriptor.values.bounds.x_max ∷ f.descriptor.values.bounds.y_max ∷ []
+  pub bounds : d.bounds
+      ≡ f.descriptor.values.bounds.x_min ∷ f.descriptor.values.bounds.y_min ∷ f.descriptor.values.bounds.x_max
+      ∷ f.descriptor.values.bounds.y_max ∷ []
   pub italic_angle : d.italic_angle ≡ f.descriptor.values.italic_angle
   pub ascent : d.ascent ≡ f.descriptor.values.heights.ascent
   pub descent : d.descent ≡ f.descriptor.values.heights.descent

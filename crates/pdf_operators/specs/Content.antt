@@ -1,5 +1,8 @@
--- What a content stream says (ISO 32000-1, 7.8.2): strings and numbers of TJ, the text rise, and spans with an ActualText.
-use Rattle.std.specs.Prelude.{◌<◌, ℕ, ◌-◌, ◌+◌, ◌*◌, ◌^◌, ◌==◌, ◌&&◌, ◌||◌, nat_le, Bool, false, if◌then◌else◌, List, [], ◌∷◌, ◌++◌, map, length, All, option_to_list, codes, Option, Some, None, ℤ, pos, negsuc, neg_ℤ, unsigned_abs}
+-- What a content stream says (ISO 32000-1, 7.8.2): strings and numbers of TJ, the text rise, and spans with an
+-- ActualText.
+use Rattle.std.specs.Prelude.{◌<◌, ℕ, ◌-◌, ◌+◌, ◌*◌, ◌^◌, ◌==◌, ◌&&◌, ◌||◌, nat_le, Bool, false, if◌then◌else◌, List}
+use Rattle.std.specs.Prelude.{[], ◌∷◌, ◌++◌, map, length, All, option_to_list, codes, Option, Some, None, ℤ, pos}
+use Rattle.std.specs.Prelude.{negsuc, neg_ℤ, unsigned_abs}
 use Rattle.std.specs.List.{flat_map, slice_split}
 use Rattle.std.specs.Option.{option_map}
 use Rattle.std.specs.Ordering.{int_eq}
@@ -22,7 +25,11 @@ pub data Mark : Type 0 where
 
 -- a delimiter, apart from what is before it and after it (7.2.2); each of `<<` and `>>` is two tokens then
 abbrev pub apart : ℕ → List ℕ
-apart b = if b == 91 || b == 93 then 32 ∷ b ∷ 32 ∷ [] else if b == 60 || b == 47 then 32 ∷ b ∷ [] else if b == 62 then b ∷ 32 ∷ [] else b ∷ []
+apart b =
+    if b == 91 || b == 93 then 32 ∷ b ∷ 32 ∷ []
+    else if b == 60 || b == 47 then 32 ∷ b ∷ []
+    else if b == 62 then b ∷ 32 ∷ []
+    else b ∷ []
 
 abbrev pub tokens_in : List ℕ → List (List ℕ)
 tokens_in text = tokens (flat_map apart text)
@@ -31,7 +38,10 @@ tokens_in text = tokens (flat_map apart text)
 
 -- the millionths of a number with at most six digits after its point, if it has one (7.3.3)
 abbrev pub fraction_in : List ℕ → List ℕ → Option ℤ
-fraction_in whole rest = if all_ascii_digits whole && (all_ascii_digits rest && nat_le (length rest) 6) then Some (pos (1000000 * digits_value 10 whole + digits_value 10 rest * 10 ^ (6 - length rest))) else None
+fraction_in whole rest =
+    if all_ascii_digits whole && (all_ascii_digits rest && nat_le (length rest) 6)
+    then Some (pos (1000000 * digits_value 10 whole + digits_value 10 rest * 10 ^ (6 - length rest)))
+    else None
 
 abbrev pub parts_in : List (List ℕ) → Option ℤ
 parts_in (whole ∷ []) = fraction_in whole []
@@ -60,7 +70,8 @@ text_by _ = []
 
 -- of /Span << /ActualText <..> >>
 abbrev pub actual_in : List (List ℕ) → List Mark
-actual_in (tag ∷ first ∷ second ∷ key ∷ text ∷ close) = if bytes_eq key (codes "/ActualText") then text_by (hex_in text) else []
+actual_in (tag ∷ first ∷ second ∷ key ∷ text ∷ close) =
+    if bytes_eq key (codes "/ActualText") then text_by (hex_in text) else []
 actual_in _ = []
 
 abbrev pub rise_in : List (List ℕ) → List Mark
@@ -78,12 +89,18 @@ is_operator (b ∷ t) = is_letter b
 
 -- an operator with its operands
 abbrev pub said_by : List ℕ → List (List ℕ) → List Mark
-said_by t operands = if bytes_eq t (codes "TJ") then flat_map element_in operands else if bytes_eq t (codes "Ts") then rise_in operands else if bytes_eq t (codes "BDC") then actual_in operands else if bytes_eq t (codes "EMC") then ended ∷ [] else []
+said_by t operands =
+    if bytes_eq t (codes "TJ") then flat_map element_in operands
+    else if bytes_eq t (codes "Ts") then rise_in operands
+    else if bytes_eq t (codes "BDC") then actual_in operands
+    else if bytes_eq t (codes "EMC") then ended ∷ []
+    else []
 
--- operands stand before their operator
+-- operands come before their operator
 abbrev pub said_from : List (List ℕ) → List (List ℕ) → List Mark
 said_from operands [] = []
-said_from operands (t ∷ ts) = if is_operator t then said_by t operands ++ said_from [] ts else said_from (operands ++ t ∷ []) ts
+said_from operands (t ∷ ts) =
+    if is_operator t then said_by t operands ++ said_from [] ts else said_from (operands ++ t ∷ []) ts
 
 -- what a content stream says, in order
 abbrev pub said_in : List ℕ → List Mark
@@ -94,7 +111,7 @@ said_in text = said_from [] (tokens_in text)
 abbrev pub numbers : ℤ → List Mark
 numbers z = if int_eq z (pos 0) then [] else number z ∷ []
 
--- so many millionths, with the sign of a number
+-- n millionths, with the sign of a number
 abbrev pub sized : ℤ → ℕ → ℤ
 sized (pos k) n = pos n
 sized (negsuc k) n = neg_ℤ (pos n)

@@ -1,5 +1,6 @@
 -- The operators that show a run, as they are written (ISO 32000-1, 9.3.7, 9.4.3, 14.6 and 14.9.4).
-use Rattle.std.specs.Prelude.{ℕ, ◌+◌, ◌*◌, ◌/◌, ◌%◌, ◌==◌, ◌&&◌, not, nat_lt, Bool, if◌then◌else◌, List, [], ◌∷◌, ◌++◌, map, codes, decimal, Option, Some, None, ℤ, pos, unsigned_abs}
+use Rattle.std.specs.Prelude.{ℕ, ◌+◌, ◌*◌, ◌/◌, ◌%◌, ◌==◌, ◌&&◌, not, nat_lt, Bool, if◌then◌else◌, List, [], ◌∷◌, ◌++◌}
+use Rattle.std.specs.Prelude.{map, codes, decimal, Option, Some, None, ℤ, pos, unsigned_abs}
 use Rattle.std.specs.Fmt.{signed_decimal}
 use Rattle.std.specs.List.{flat_map}
 use Rattle.std.specs.Ordering.{int_eq}
@@ -38,15 +39,18 @@ units_of cs = flat_map utf16 cs
 abbrev pub three_digits : ℕ → List ℕ
 three_digits n = (48 + n / 100 % 10) ∷ (48 + n / 10 % 10) ∷ (48 + n % 10) ∷ []
 
--- so many millionths, with six digits after the point, or three, or none and no point, as few as say them
+-- n millionths, with six digits after the point, or three, or none and no point, as few as say them
 abbrev pub fraction : ℕ → List ℕ
-fraction n = if n == 0 then [] else if n % 1000 == 0 then 46 ∷ three_digits (n / 1000) else 46 ∷ (three_digits (n / 1000) ++ three_digits n)
+fraction n =
+    if n == 0 then []
+    else if n % 1000 == 0 then 46 ∷ three_digits (n / 1000)
+    else 46 ∷ (three_digits (n / 1000) ++ three_digits n)
 
--- so many millionths, and their sign
+-- the sign of a number, and n millionths
 abbrev pub millionths : ℤ → ℕ → List ℕ
 millionths z n = sign z ++ (decimal (n / 1000000) ++ fraction (n % 1000000))
 
--- so many thousandths of the em, at a size of so many thousandths
+-- the rise of z thousandths of the em, at a font size of `size` thousandths
 abbrev pub rise_text : ℕ → ℤ → List ℕ
 rise_text size z = millionths z (unsigned_abs z * size)
 
@@ -71,7 +75,7 @@ acts_of ops = map act_of ops
 
 -- ---- one of them, after what is open
 
--- nothing
+-- no array is open
 abbrev pub shut : OpenArray
 shut = record { strings = 0; codes = 0 }
 
@@ -94,7 +98,8 @@ further z = codes ">" ++ (signed_decimal z ++ codes "<")
 abbrev pub is_joined : OpenArray → ℤ → Bool
 is_joined o z = nat_lt 0 o.codes && (nat_lt o.codes 16383 && int_eq z (pos 0))
 
--- it goes into another string of the array, which has at most 8,191 elements (Annex C): 4,095 strings, a number before each, and one at the end
+-- it goes into another string of the array, which has at most 8,191 elements (Annex C): 4,095 strings, a number before
+-- each, and one at the end
 abbrev pub is_further : OpenArray → ℤ → Bool
 is_further o z = nat_lt 0 o.codes && (nat_lt o.strings 4095 && not (int_eq z (pos 0)))
 
@@ -116,7 +121,10 @@ act_text size pairs o (show z q) = leading o z ++ word (code_of pairs q)
 act_text size pairs o (back z) = last o ∷ (signed_decimal z ++ codes "]TJ\n")
 
 abbrev pub open_after_code : OpenArray → ℤ → OpenArray
-open_after_code o z = if is_joined o z then record { strings = o.strings; codes = o.codes + 1 } else if is_further o z then record { strings = o.strings + 1; codes = 1 } else record { strings = 1; codes = 1 }
+open_after_code o z =
+    if is_joined o z then record { strings = o.strings; codes = o.codes + 1 }
+    else if is_further o z then record { strings = o.strings + 1; codes = 1 }
+    else record { strings = 1; codes = 1 }
 
 abbrev pub open_after : OpenArray → Act → OpenArray
 open_after o (show z q) = open_after_code o z

@@ -21,7 +21,8 @@ pen_past a i = pen_of (a.x +ℤ i.x_advance) (a.y +ℤ i.y_advance)
 -- whether the shaper's pens have 32 bits after a pen
 abbrev pub are_pens : ℤ → ℤ → List Item → Bool
 are_pens x y [] = true
-are_pens x y (i ∷ is) = (fits (x +ℤ i.x_advance) && fits (y +ℤ i.y_advance)) && are_pens (x +ℤ i.x_advance) (y +ℤ i.y_advance) is
+are_pens x y (i ∷ is) =
+    (fits (x +ℤ i.x_advance) && fits (y +ℤ i.y_advance)) && are_pens (x +ℤ i.x_advance) (y +ℤ i.y_advance) is
 
 abbrev pub end_of : Direction → Advance → ℤ
 end_of d a = along d a.x a.y

@@ -1,5 +1,6 @@
 -- Where a reader's pen is taken, so that each glyph is where the shaper has it (ISO 32000-1, 9.4.4).
-use Rattle.std.specs.Prelude.{◌&&◌, nat_lt, Bool, true, false, if◌then◌else◌, List, [], ◌∷◌, ◌++◌, get_or, Option, Some, None, ℤ, pos, negsuc, ◌+ℤ◌, ◌-ℤ◌, ◌^◌}
+use Rattle.std.specs.Prelude.{◌&&◌, nat_lt, Bool, true, false, if◌then◌else◌, List, [], ◌∷◌, ◌++◌, get_or, Option, Some}
+use Rattle.std.specs.Prelude.{None, ℤ, pos, negsuc, ◌+ℤ◌, ◌-ℤ◌, ◌^◌}
 use Rattle.std.specs.Ordering.{int_eq}
 use Rattle.pdf_values.specs.Rounding.{thousandths}
 use Rattle.pdf_runs.specs.declared.codes.Pair.{Pair}
@@ -17,7 +18,7 @@ use Rattle.pdf_operators.specs.Operators.{Act, raise, show}
 
 -- ---- lengths
 
--- along the line
+-- the coordinate along the line: x, or y from top to bottom
 abbrev pub along : Direction → ℤ → ℤ → ℤ
 along LeftToRight x y = x
 along RightToLeft x y = x
@@ -38,7 +39,8 @@ metrics_of f Blank = no_metrics
 
 -- ---- one piece
 
--- where the shaper's pen is at a glyph, and then: it goes on by the advance, or before the glyph back by it, where glyphs are written from the last to the first
+-- where the shaper's pen is at a glyph, and then: it goes on by the advance, or before the glyph back by it, where
+-- glyphs are written from the last to the first
 abbrev pub pen_at : Bool → ℤ → ℤ → ℤ
 pen_at false z a = z
 pen_at true z a = z -ℤ a

@@ -1,5 +1,6 @@
 -- What a reader of a content stream draws, and the text that it extracts (ISO 32000-1, 9.4.4, 9.10 and 14.9.4).
-use Rattle.std.specs.Prelude.{◌≡◌, ◌<◌, ◌≤◌, ◌++◌, ℕ, ◌*◌, Bool, true, false, is_some, if◌then◌else◌, List, [], ◌∷◌, map, get_or, flat_map, All, Option, Some, None, ℤ, pos, ◌+ℤ◌, ◌-ℤ◌, ◌*ℤ◌, unsigned_abs}
+use Rattle.std.specs.Prelude.{◌≡◌, ◌<◌, ◌≤◌, ◌++◌, ℕ, ◌*◌, Bool, true, false, is_some, if◌then◌else◌, List, [], ◌∷◌}
+use Rattle.std.specs.Prelude.{map, get_or, flat_map, All, Option, Some, None, ℤ, pos, ◌+ℤ◌, ◌-ℤ◌, ◌*ℤ◌, unsigned_abs}
 use Rattle.subsetter_base.specs.Remap.{index_by}
 use Rattle.subsetter_base.specs.Texts.{utf16}
 use Rattle.pdf_values.specs.Rounding.{thousandths}
@@ -30,7 +31,8 @@ pub record Placed : Type 0 where
   pub at : ℤ
   pub rise : ℤ
 
--- after a code the pen goes on by its width, at a number it goes back, and Ts is the height (9.4.4); from a pen and a text rise on
+-- after a code the pen goes on by its width, at a number it goes back, and Ts is the height (9.4.4); from a pen and a
+-- text rise on
 abbrev pub placed : (ℕ → ℤ) → ℤ → ℤ → List Mark → List Placed
 placed width at up [] = []
 placed width at up (number z ∷ ms) = placed width (at -ℤ z) up ms
@@ -101,19 +103,25 @@ abbrev pub origins : Font → List Pair → List Placed → List Origin
 origins f pairs [] = []
 origins f pairs (p ∷ ps) = origin_of f (figure_in pairs p.code) p ++ origins f pairs ps
 
--- so many thousandths of the em, at a size of so many thousandths
+-- the rise of z thousandths of the em, at a font size of `size` thousandths
 abbrev pub risen : ℕ → ℤ → ℤ
 risen size z = sized z (unsigned_abs z * size)
 
 -- where a glyph is wanted, in thousandths of the em to the nearest
 abbrev pub aimed : Font → Direction → ℕ → Drawn → Origin
-aimed f d size g = record { glyph = g.glyph; at = thousandths (along d g.x g.y) f.units; rise = risen size (thousandths (above d g.y) f.units) }
+aimed f d size g =
+    record {
+      glyph = g.glyph;
+      at = thousandths (along d g.x g.y) f.units;
+      rise = risen size (thousandths (above d g.y) f.units);
+    }
 
 -- what a run's operators say
 abbrev pub run_marks : Font → Direction → Order → ℕ → List Pair → List Item → List Mark
 run_marks f d o size pairs is = flat_map (marks_of size pairs) (run_acts f d o is)
 
--- the glyphs that are wanted are drawn, each once, in the order in which they are written and where the shaper has them, to the nearest thousandth of the em
+-- the glyphs that are wanted are drawn, each once, in the order in which they are written and where the shaper has
+-- them, to the nearest thousandth of the em
 abbrev pub ArePlaced : Font → Direction → Order → ℕ → List Item → List Origin → Type 0
 ArePlaced f d o size is os = os ≡ map (aimed f d size) (turned (is_turned d o) (wanted f.inked.now (pos 0) (pos 0) is))
 
@@ -123,7 +131,8 @@ IsEnd f d is at = at ≡ thousandths (end_of d (advance_of is)) f.units
 
 -- twice a thousand times a length is at most the em away from twice its thousandths times the em
 abbrev pub ThousandthsAreNear : Type 0
-ThousandthsAreNear = (v : ℤ) (units : ℕ) → 0 < units → unsigned_abs ((pos (2 * units) *ℤ thousandths v units) -ℤ (pos 2000 *ℤ v)) ≤ units
+ThousandthsAreNear =
+    (v : ℤ) (units : ℕ) → 0 < units → unsigned_abs ((pos (2 * units) *ℤ thousandths v units) -ℤ (pos 2000 *ℤ v)) ≤ units
 
 -- texts that are extracted one after the other, joined in reading order
 abbrev pub reading : Direction → Order → List (List ℕ) → List ℕ
@@ -138,7 +147,8 @@ pub record IsExtracted (d : Direction) (o : Order) (is : List Item) (found : Lis
 -- ---- a run that is shown
 
 -- what a reader of the bytes finds: the run's text, its glyphs where the shaper has them, and the pen after the run
-pub record IsShown (f : Font) (d : Direction) (o : Order) (size : ℕ) (pairs : List Pair) (is : List Item) (bytes : List ℕ) : Type 0 where
+pub record IsShown (f : Font) (d : Direction) (o : Order) (size : ℕ) (pairs : List Pair) (is : List Item)
+    (bytes : List ℕ) : Type 0 where
   pub text : IsExtracted d o is (extracted (text_in pairs) false (said_in bytes))
   pub places : ArePlaced f d o size is (origins f pairs (placed (width_in f pairs) (pos 0) (pos 0) (said_in bytes)))
   pub pen : IsEnd f d is (pen_past (width_in f pairs) (pos 0) (said_in bytes))

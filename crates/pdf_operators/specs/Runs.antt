@@ -1,5 +1,7 @@
--- What shows a run: its pieces, each by its code, with an ActualText where codes don't say the text, or around a word with a glyph that is moved (ISO 32000-1, 14.9.4).
-use Rattle.std.specs.Prelude.{◌≡◌, ◌⊎◌, ℕ, ◌&&◌, ◌||◌, not, nat_lt, Bool, true, false, is_some, if◌then◌else◌, List, [], ◌∷◌, ◌++◌, length, map, flat_map, ℤ, pos}
+-- What shows a run: its pieces, each by its code, with an ActualText where codes don't say the text, or around a word
+-- with a glyph that is moved (ISO 32000-1, 14.9.4).
+use Rattle.std.specs.Prelude.{◌≡◌, ◌⊎◌, ℕ, ◌&&◌, ◌||◌, not, nat_lt, Bool, true, false, is_some, if◌then◌else◌, List, []}
+use Rattle.std.specs.Prelude.{◌∷◌, ◌++◌, length, map, flat_map, ℤ, pos}
 use Rattle.std.specs.List.{list_any}
 use Rattle.std.specs.Ordering.{int_eq}
 use Rattle.pdf_runs.specs.declared.codes.Pair.{Pair}
@@ -35,7 +37,8 @@ singles cs = map (λ (c : List Item). c ∷ []) cs
 abbrev pub word_parts : List (List Item) → List (List (List Item))
 word_parts w = if is_long w then singles w else w ∷ []
 
--- what has one ActualText or none: from left to right a word, as some readers take a span's width from its first glyph to its last and break the word there; else a cluster
+-- what has one ActualText or none: from left to right a word, as some readers take a span's width from its first glyph
+-- to its last and break the word there; else a cluster
 abbrev pub parts : Direction → List (List Item) → List (List (List Item))
 parts LeftToRight cs = flat_map word_parts (words cs)
 parts RightToLeft cs = singles cs
@@ -68,7 +71,8 @@ abbrev pub part_pieces : Font → Direction → Stop → List (List Item) → Li
 part_pieces f d s cs = turned s.is_turned (pieces_of_clusters d f.inked.now cs)
 
 abbrev pub part_acts : Font → Direction → Stop → List (List Item) → List Act
-part_acts f d s cs = in_span (is_spanned d cs (part_pieces f d s cs)) (text_of_all cs) (laid f d s (part_pieces f d s cs))
+part_acts f d s cs =
+    in_span (is_spanned d cs (part_pieces f d s cs)) (text_of_all cs) (laid f d s (part_pieces f d s cs))
 
 abbrev pub part_stop : Font → Direction → Stop → List (List Item) → Stop
 part_stop f d s cs = stop_after f d s (part_pieces f d s cs)
@@ -108,7 +112,9 @@ run_acts f d o is = acts_after f d (end_of d (advance_of is)) (start (is_turned 
 
 -- whether all is shown, where the numbers have 32 bits and each ActualText has room
 abbrev pub is_laid : Font → Direction → Order → List Item → Bool
-is_laid f d o is = are_pens (pos 0) (pos 0) is && are_shown f d (end_of d (advance_of is)) (start (is_turned d o) (advance_of is)) (run_parts d o is)
+is_laid f d o is =
+    are_pens (pos 0) (pos 0) is
+    && are_shown f d (end_of d (advance_of is)) (start (is_turned d o) (advance_of is)) (run_parts d o is)
 
 -- whether glyphs can be shown: they are a run of the font, numbers have 32 bits, and each ActualText has room
 abbrev pub is_valid : Font → Direction → Order → List Item → Bool
@@ -116,8 +122,11 @@ is_valid f d o is = is_run d (length f.metrics.now) is && is_laid f d o is
 
 -- why pieces have no codes, and which pairs there are then
 abbrev pub IsFull : List Pair → List Pair → List Piece → RunError → Type 0
-IsFull pairs new ps e = ((e ≡ OutOfMemory) × HasFirst pairs new ps) ⊎ ((e ≡ Overfull) × IsOverfull pairs ps × (new ≡ pairs))
+IsFull pairs new ps e =
+    ((e ≡ OutOfMemory) × HasFirst pairs new ps) ⊎ ((e ≡ Overfull) × IsOverfull pairs ps × (new ≡ pairs))
 
 -- why a run isn't shown, and which pairs there are then
 abbrev pub IsRefused : Font → Direction → Order → List Pair → List Pair → List Item → RunError → Type 0
-IsRefused f d o pairs new is e = ((e ≡ InvalidText) × (is_valid f d o is ≡ false) × (new ≡ pairs)) ⊎ IsFull pairs new (pieces_of_run d f.inked.now is) e
+IsRefused f d o pairs new is e =
+    ((e ≡ InvalidText) × (is_valid f d o is ≡ false) × (new ≡ pairs))
+    ⊎ IsFull pairs new (pieces_of_run d f.inked.now is) e

@@ -14,7 +14,7 @@ own_metrics units o = record { displacement = pos (thousandths o.advance units);
 abbrev pub has_parts : OwnInk → Bool
 has_parts o = nat_lt 0 (length o.parts.items)
 
--- of the first glyphs, so many, whether they have ink; those of which nothing is known have
+-- of the first `count` glyphs, whether they have ink; those of which nothing is known have
 abbrev pub first_inked : ℕ → List Bool → List Bool
 first_inked count known = take (min count (length known)) known ++ replicate (count - min count (length known)) true
 

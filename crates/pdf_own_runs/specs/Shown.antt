@@ -26,7 +26,8 @@ use Rattle.pdf_own_runs.specs.Fonts.{IsWithOwn}
 -- ---- items of a font with own glyphs
 
 -- operators show items, by the font with own glyphs after its own
-pub record IsShownBy (f : Font) (known : List Bool) (own : List OwnInk) (d : Direction) (o : Order) (size : ℕ) (old new : List Pair) (js : List Item) (text : List ℕ) : Type 0 where
+pub record IsShownBy (f : Font) (known : List Bool) (own : List OwnInk) (d : Direction) (o : Order) (size : ℕ)
+    (old new : List Pair) (js : List Item) (text : List ℕ) : Type 0 where
   pub font : Font
   pub with_own : IsWithOwn f known own font
   pub valid : is_valid font d o js ≡ true
@@ -37,14 +38,17 @@ pub record IsShownBy (f : Font) (known : List Bool) (own : List OwnInk) (d : Dir
   pub coded : AreCoded new (pieces_of_run d font.inked.now js)
 
 -- that font refuses them
-pub record IsRefusedBy (f : Font) (known : List Bool) (own : List OwnInk) (d : Direction) (o : Order) (pairs new : List Pair) (js : List Item) (e : RunError) : Type 0 where
+pub record IsRefusedBy (f : Font) (known : List Bool) (own : List OwnInk) (d : Direction) (o : Order)
+    (pairs new : List Pair) (js : List Item) (e : RunError) : Type 0 where
   pub font : Font
   pub with_own : IsWithOwn f known own font
   pub refused : IsRefused font d o pairs new js e
 
 -- why items aren't shown, and which pairs there are then
-abbrev pub IsUnshown : Font → List Bool → List OwnInk → Direction → Order → List Pair → List Pair → List Item → RunError → Type 0
-IsUnshown f known own d o pairs new js e = ((e ≡ OutOfMemory) × (new ≡ pairs)) ⊎ IsRefusedBy f known own d o pairs new js e
+abbrev pub IsUnshown : Font → List Bool → List OwnInk → Direction → Order → List Pair → List Pair → List Item → RunError
+    → Type 0
+IsUnshown f known own d o pairs new js e =
+    ((e ≡ OutOfMemory) × (new ≡ pairs)) ⊎ IsRefusedBy f known own d o pairs new js e
 
 -- ---- a run
 
@@ -54,19 +58,23 @@ pub record AreFigures (count : ℕ) (c : Choice) (own : List OwnInk) (d : Direct
   pub run : is_run d (count + length own) js ≡ true
 
 -- operators show a run: by items that are its figures
-pub record IsShownWithOwn (f : Font) (c : Choice) (d : Direction) (o : Order) (size : ℕ) (pairs new : List Pair) (own : List OwnInk) (is : List Item) (bytes : List ℕ) : Type 0 where
+pub record IsShownWithOwn (f : Font) (c : Choice) (d : Direction) (o : Order) (size : ℕ) (pairs new : List Pair)
+    (own : List OwnInk) (is : List Item) (bytes : List ℕ) : Type 0 where
   pub items : List Item
   pub figures : AreFigures (length f.metrics.now) c own d is items
   pub shown : IsShownBy f c.inked.now own d o size pairs new items bytes
   -- so a reader finds the run's text
   pub text : IsExtracted d o is (extracted (text_in new) false (said_in bytes))
   -- what is drawn, with the parts of own glyphs in their place, is the run's glyphs where the shaper has them
-  pub drawn : flat_map (expanded (length f.metrics.now) (inks_of own)) (wanted shown.font.inked.now (pos 0) (pos 0) items) ≡ wanted c.inked.now (pos 0) (pos 0) is
+  pub drawn : flat_map (expanded (length f.metrics.now) (inks_of own))
+      (wanted shown.font.inked.now (pos 0) (pos 0) items)
+      ≡ wanted c.inked.now (pos 0) (pos 0) is
   -- after it the pen is where the shaper has it
   pub pen : IsEnd f d is (pen_past (width_in shown.font new) (pos 0) (said_in bytes))
 
 -- the items that are the figures of a run aren't shown
-pub record AreUnshown (f : Font) (c : Choice) (d : Direction) (o : Order) (pairs new : List Pair) (own : List OwnInk) (is : List Item) (e : RunError) : Type 0 where
+pub record AreUnshown (f : Font) (c : Choice) (d : Direction) (o : Order) (pairs new : List Pair) (own : List OwnInk)
+    (is : List Item) (e : RunError) : Type 0 where
   pub items : List Item
   pub figures : AreFigures (length f.metrics.now) c own d is items
   pub unshown : IsUnshown f c.inked.now own d o pairs new items e
@@ -80,5 +88,8 @@ pub data IsUnfigured (f : Font) (d : Direction) (own : List OwnInk) (is : List I
   no_memory : IsUnfigured f d own is OutOfMemory
 
 -- why a run isn't shown, and which pairs there are then
-abbrev pub IsUnshownWithOwn : Font → Choice → Direction → Order → List Pair → List Pair → List OwnInk → List Item → RunError → Type 0
-IsUnshownWithOwn f c d o pairs new own is e = (IsUnfigured f d own is e × (new ≡ pairs)) ⊎ AreUnshown f c d o pairs new own is e
+abbrev pub IsUnshownWithOwn : Font → Choice → Direction → Order → List Pair → List Pair → List OwnInk → List Item
+    → RunError
+    → Type 0
+IsUnshownWithOwn f c d o pairs new own is e =
+    (IsUnfigured f d own is e × (new ≡ pairs)) ⊎ AreUnshown f c d o pairs new own is e

@@ -1,5 +1,7 @@
--- The codes of what is drawn and said: each pair of a figure and a character has one, and its CID is the code (ISO 32000-1, 9.7.6.2).
-use Rattle.std.specs.Prelude.{◌≡◌, ◌<◌, ◌⊎◌, is_some, ℕ, ◌==◌, ◌&&◌, Bool, true, false, if◌then◌else◌, List, [], ◌∷◌, map, length, take, Option, Some, None}
+-- The codes of what is drawn and said: each pair of a figure and a character has one, and its CID is the code (ISO
+-- 32000-1, 9.7.6.2).
+use Rattle.std.specs.Prelude.{◌≡◌, ◌<◌, ◌⊎◌, is_some, ℕ, ◌==◌, ◌&&◌, Bool, true, false, if◌then◌else◌, List, [], ◌∷◌}
+use Rattle.std.specs.Prelude.{map, length, take, Option, Some, None}
 use Rattle.subsetter_base.specs.declared.error.Error.{Error}
 use Rattle.subsetter_base.specs.declared.error.Error.TheVariants.{OutOfMemory, OverflowError}
 use Rattle.subsetter_base.specs.Remap.{index_by, with_value}
@@ -43,18 +45,19 @@ with_pairs pairs (p ∷ ps) = with_pairs (with_value same pairs (pair_of p)) ps
 abbrev pub AreCodes : List Pair → List Piece → List ℕ → Type 0
 AreCodes pairs ps codes = map Some codes ≡ map (λ (p : Piece). index_by same pairs (pair_of p)) ps
 
--- no code is left
+-- there would be more than 65535 pairs, so that no code is left
 abbrev pub IsOverfull : List Pair → List Piece → Type 0
 IsOverfull pairs ps = 65535 < length (with_pairs pairs ps)
 
--- pairs with those of the first pieces, so many
+-- pairs with those of the first `count` pieces
 pub record HasFirst (pairs new : List Pair) (ps : List Piece) : Type 0 where
   pub count : ℕ
   pub first : new ≡ with_pairs pairs (take count ps)
 
 -- why pieces have no codes: memory ran out at one of them, or there are too many, and then the pairs stay
 abbrev pub IsUncoded : List Pair → List Pair → List Piece → Error → Type 0
-IsUncoded pairs new ps e = ((e ≡ OutOfMemory) × HasFirst pairs new ps) ⊎ ((e ≡ OverflowError) × IsOverfull pairs ps × (new ≡ pairs))
+IsUncoded pairs new ps e =
+    ((e ≡ OutOfMemory) × HasFirst pairs new ps) ⊎ ((e ≡ OverflowError) × IsOverfull pairs ps × (new ≡ pairs))
 
 -- values that others don't have, with one more
 abbrev pub with_new : {A : Type 0} → (A → A → Bool) → List A → List A → A → List A

@@ -1,5 +1,6 @@
 -- The glyphs of a shaped run, in visual order.
-use Rattle.std.specs.Prelude.{ℕ, ◌-◌, Bool, true, ◌&&◌, nat_lt, is_some, List, [], ◌∷◌, reverse, Option, Some, None, pos}
+use Rattle.std.specs.Prelude.{ℕ, ◌-◌, Bool, true, ◌&&◌, nat_lt, is_some, List, [], ◌∷◌, reverse, Option, Some, None}
+use Rattle.std.specs.Prelude.{pos}
 use Rattle.std.specs.Borrow.{Bor}
 use Rattle.std.specs.List.{list_all}
 use Rattle.std.specs.Ordering.{int_eq}
@@ -13,7 +14,7 @@ visual LeftToRight xs = xs
 visual RightToLeft xs = reverse xs
 visual TopToBottom xs = xs
 
--- the place in reading order of what is seen at a place, of so many
+-- the place in reading order of what is seen at a place, of `count` places
 abbrev pub in_reading : Direction → ℕ → ℕ → ℕ
 in_reading LeftToRight count place = place
 in_reading RightToLeft count place = count - 1 - place
@@ -48,6 +49,6 @@ are_known count is = list_all (λ (i : Item). nat_lt i.glyph count) is
 abbrev pub are_along : Direction → List Item → Bool
 are_along d is = list_all (is_along d) is
 
--- a run of a font with so many glyphs
+-- a run of a font with `count` glyphs
 abbrev pub is_run : Direction → ℕ → List Item → Bool
 is_run d count is = is_begun is && are_known count is && are_along d is

@@ -1,5 +1,6 @@
 -- Laws of runs: what is said, where the pen goes, and what is drawn.
-use Rattle.std.specs.Prelude.{◌≡◌, ℕ, Bool, true, false, not, ◌&&◌, if◌then◌else◌, List, [], ◌∷◌, ◌++◌, flat_map, option_to_list, ℤ, pos, ◌+ℤ◌}
+use Rattle.std.specs.Prelude.{◌≡◌, ℕ, Bool, true, false, not, ◌&&◌, if◌then◌else◌, List, [], ◌∷◌, ◌++◌, flat_map}
+use Rattle.std.specs.Prelude.{option_to_list, ℤ, pos, ◌+ℤ◌}
 use Rattle.std.specs.List.{list_all}
 use Rattle.pdf_runs.specs.declared.items.Direction.{Direction}
 use Rattle.pdf_runs.specs.declared.items.Item.{Item}
@@ -33,7 +34,9 @@ said ps = flat_map (λ (p : Piece). option_to_list p.says) ps
 
 -- what pieces say, in reading order, is the text of the clusters in reading order
 abbrev pub TextIsSaid : Type 0
-TextIsSaid = (d : Direction) (inked : List Bool) (is : List Item) → visual d (said (pieces_of_run d inked is)) ≡ flat_map text_of (visual d (clusters is))
+TextIsSaid =
+    (d : Direction) (inked : List Bool) (is : List Item)
+    → visual d (said (pieces_of_run d inked is)) ≡ flat_map text_of (visual d (clusters is))
 
 -- ---- where the pen goes
 
@@ -44,7 +47,10 @@ total f (a ∷ more) = f a +ℤ total f more
 
 -- the pen goes on by the sum of the run's advances
 abbrev pub PenGoesOn : Type 0
-PenGoesOn = (d : Direction) (inked : List Bool) (is : List Item) → (total (λ (p : Piece). p.x_advance) (pieces_of_run d inked is) ≡ total (λ (i : Item). i.x_advance) is) × (total (λ (p : Piece). p.y_advance) (pieces_of_run d inked is) ≡ total (λ (i : Item). i.y_advance) is)
+PenGoesOn =
+    (d : Direction) (inked : List Bool) (is : List Item)
+    → (total (λ (p : Piece). p.x_advance) (pieces_of_run d inked is) ≡ total (λ (i : Item). i.x_advance) is)
+    × (total (λ (p : Piece). p.y_advance) (pieces_of_run d inked is) ≡ total (λ (i : Item). i.y_advance) is)
 
 -- ---- what is drawn
 
@@ -66,8 +72,12 @@ drawn x y (p ∷ ps) = drawn_at p.figure (x +ℤ p.x) (y +ℤ p.y) ++ drawn (x +
 -- the glyphs that the shaper wants, without those that have neither ink nor advance
 abbrev pub wanted : List Bool → ℤ → ℤ → List Item → List Drawn
 wanted inked x y [] = []
-wanted inked x y (i ∷ is) = (if is_bare inked i then [] else record { glyph = i.glyph; x = x +ℤ i.x_offset; y = y +ℤ i.y_offset } ∷ []) ++ wanted inked (x +ℤ i.x_advance) (y +ℤ i.y_advance) is
+wanted inked x y (i ∷ is) =
+    (if is_bare inked i then [] else record { glyph = i.glyph; x = x +ℤ i.x_offset; y = y +ℤ i.y_offset } ∷ [])
+    ++ wanted inked (x +ℤ i.x_advance) (y +ℤ i.y_advance) is
 
 -- the pieces draw the run's glyphs, each once, in order and where the shaper has them
 abbrev pub GlyphsAreDrawn : Type 0
-GlyphsAreDrawn = (d : Direction) (inked : List Bool) (x y : ℤ) (is : List Item) → drawn x y (pieces_of_run d inked is) ≡ wanted inked x y is
+GlyphsAreDrawn =
+    (d : Direction) (inked : List Bool) (x y : ℤ) (is : List Item)
+    → drawn x y (pieces_of_run d inked is) ≡ wanted inked x y is

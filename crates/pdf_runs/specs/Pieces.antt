@@ -1,5 +1,6 @@
--- What stands for the glyphs of a run: figures that each say at most one character.
-use Rattle.std.specs.Prelude.{ℕ, ◌+◌, Bool, true, not, ◌&&◌, if◌then◌else◌, nat_lt, List, [], ◌∷◌, ◌++◌, length, get_or, map, take, drop, slice_get, flat_map, Option, Some, pos}
+-- What draws the glyphs of a run: figures that each say at most one character.
+use Rattle.std.specs.Prelude.{ℕ, ◌+◌, Bool, true, not, ◌&&◌, if◌then◌else◌, nat_lt, List, [], ◌∷◌, ◌++◌, length, get_or}
+use Rattle.std.specs.Prelude.{map, take, drop, slice_get, flat_map, Option, Some, pos}
 use Rattle.std.specs.List.{position_or_len}
 use Rattle.std.specs.Ordering.{int_eq}
 use Rattle.pdf_runs.specs.declared.items.Direction.{Direction}
@@ -22,7 +23,15 @@ figure_of inked i = if is_bare inked i then Blank else Source i.glyph
 
 -- a glyph, and what it says
 abbrev pub piece_of : List Bool → Item → Option ℕ → Piece
-piece_of inked i c = record { figure = figure_of inked i; says = c; x = i.x_offset; y = i.y_offset; x_advance = i.x_advance; y_advance = i.y_advance }
+piece_of inked i c =
+    record {
+      figure = figure_of inked i;
+      says = c;
+      x = i.x_offset;
+      y = i.y_offset;
+      x_advance = i.x_advance;
+      y_advance = i.y_advance;
+    }
 
 -- a blank without advance says a character
 abbrev pub blank_of : ℕ → Piece
@@ -34,7 +43,9 @@ bearer cs = let place = position_or_len (λ c. not (is_mark c)) cs in if nat_lt 
 
 -- a glyph and its characters as they are seen: it says the bearer, and blanks the others
 abbrev pub spread : List Bool → Item → List ℕ → List Piece
-spread inked i cs = map blank_of (take (bearer cs) cs) ++ piece_of inked i (slice_get cs (bearer cs)) ∷ map blank_of (drop (bearer cs + 1) cs)
+spread inked i cs =
+    map blank_of (take (bearer cs) cs) ++ piece_of inked i (slice_get cs (bearer cs))
+    ∷ map blank_of (drop (bearer cs + 1) cs)
 
 -- glyphs, each with its characters as they are seen
 abbrev pub spread_all : List Bool → List Item → List (List ℕ) → List Piece

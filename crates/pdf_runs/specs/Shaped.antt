@@ -1,5 +1,6 @@
 -- Items of glyphs that have cluster numbers.
-use Rattle.std.specs.Prelude.{ℕ, ◌+◌, ◌-◌, ◌==◌, ◌&&◌, nat_le, nat_lt, Bool, true, false, if◌then◌else◌, List, [], ◌∷◌, length, map, take, drop, slice_get, unwrap_or, Option, Some, None, ℤ}
+use Rattle.std.specs.Prelude.{ℕ, ◌+◌, ◌-◌, ◌==◌, ◌&&◌, nat_le, nat_lt, Bool, true, false, if◌then◌else◌, List, [], ◌∷◌}
+use Rattle.std.specs.Prelude.{length, map, take, drop, slice_get, unwrap_or, Option, Some, None, ℤ}
 use Rattle.std.specs.Borrow.{Bor}
 use Rattle.std.specs.List.{list_all, prefix_len}
 use Rattle.std.specs.Option.{option_map}
@@ -57,7 +58,7 @@ are_ordered d before (p ∷ ps) = follows d before p && are_ordered d (Some p) p
 
 -- ---- the text of a cluster
 
--- the next place of so many that is another one, or the end
+-- the next place, of `count` places, that is another one, or the end
 abbrev pub next_place : ℕ → ℕ → List ℕ → ℕ
 next_place count p [] = count
 next_place count p (q ∷ qs) = if q == p then next_place count p qs else q
@@ -91,10 +92,26 @@ abbrev pub text_seen : Option (Bor (List ℕ)) → Option (List ℕ)
 text_seen t = option_map (λ (b : Bor (List ℕ)). b.now) t
 
 abbrev pub seen : Item → Labelled
-seen i = record { glyph = i.glyph; text = text_seen i.text; x_advance = i.x_advance; y_advance = i.y_advance; x_offset = i.x_offset; y_offset = i.y_offset }
+seen i =
+    record {
+      glyph = i.glyph;
+      text = text_seen i.text;
+      x_advance = i.x_advance;
+      y_advance = i.y_advance;
+      x_offset = i.x_offset;
+      y_offset = i.y_offset;
+    }
 
 abbrev pub labelled : Shaped → Option (List ℕ) → Labelled
-labelled g t = record { glyph = g.glyph; text = t; x_advance = g.x_advance; y_advance = g.y_advance; x_offset = g.x_offset; y_offset = g.y_offset }
+labelled g t =
+    record {
+      glyph = g.glyph;
+      text = t;
+      x_advance = g.x_advance;
+      y_advance = g.y_advance;
+      x_offset = g.x_offset;
+      y_offset = g.y_offset;
+    }
 
 -- glyphs with their places after another
 abbrev pub all_labelled : Direction → List ℕ → Option ℕ → List ℕ → List Shaped → List Labelled

@@ -7,7 +7,7 @@ one_each zero cs = []
 one_each (suc n) [] = [] ∷ one_each n []
 one_each (suc n) (c ∷ cs) = (c ∷ []) ∷ one_each n cs
 
--- how many characters the first of so many glyphs has: one, and those that are left over
+-- how many characters the first of `count` glyphs has: one, and those that are left over
 abbrev pub first_count : ℕ → List ℕ → ℕ
 first_count count cs = 1 + (length cs - count)
 

@@ -1,5 +1,6 @@
 -- A PDF file (ISO 32000-1, 7.5): header, objects, cross-reference table and trailer.
-use Rattle.std.specs.Prelude.{◌<◌, ℕ, zero, suc, ◌+◌, ◌*◌, ◌/◌, ◌%◌, List, [], ◌∷◌, ◌++◌, length, get_or, take, drop, codes, decimal}
+use Rattle.std.specs.Prelude.{◌<◌, ℕ, zero, suc, ◌+◌, ◌*◌, ◌/◌, ◌%◌, List, [], ◌∷◌, ◌++◌, length, get_or, take, drop}
+use Rattle.std.specs.Prelude.{codes, decimal}
 use Rattle.std.specs.List.{concat}
 use Rattle.std.specs.Str.Parse.{digits_value}
 use Rattle.pdf_text.specs.Objects.{objects_from, offsets_from, IsObjectAt}
@@ -18,7 +19,7 @@ offsets_of values = offsets_from (length header) (objects_from 1 values)
 
 -- ---- the cross-reference table (7.5.4)
 
--- so many digits of a number
+-- the last n digits of a number
 abbrev pub digits : ℕ → ℕ → List ℕ
 digits zero n = []
 digits (suc count) n = digits count (n / 10) ++ ((48 + n % 10) ∷ [])
@@ -39,10 +40,13 @@ table_front size = codes "xref\n0 " ++ (decimal size ++ codes "\n0000000000 6553
 
 -- size: one more than the number of objects; start: where the table begins (7.5.5)
 abbrev pub trailer : ℕ → ℕ → List ℕ
-trailer size start = codes "trailer\n<< /Size " ++ (decimal size ++ (codes " /Root 1 0 R >>\nstartxref\n" ++ (decimal start ++ codes "\n%%EOF\n")))
+trailer size start =
+    codes "trailer\n<< /Size "
+    ++ (decimal size ++ (codes " /Root 1 0 R >>\nstartxref\n" ++ (decimal start ++ codes "\n%%EOF\n")))
 
 abbrev pub table_and_trailer : List ℕ → ℕ → List ℕ
-table_and_trailer offsets start = table_front (length offsets + 1) ++ (rows offsets ++ trailer (length offsets + 1) start)
+table_and_trailer offsets start =
+    table_front (length offsets + 1) ++ (rows offsets ++ trailer (length offsets + 1) start)
 
 -- the file whose objects have these values
 abbrev pub file_of : List (List ℕ) → List ℕ
@@ -50,13 +54,19 @@ file_of values = body_of values ++ table_and_trailer (offsets_of values) (length
 
 -- ---- the law
 
--- what the entry of an object says, in a table that begins at an offset, of so many objects: an entry has 20 bytes
+-- what the entry of an object says, in a table that begins at an offset, of `count` objects: an entry has 20 bytes
 abbrev pub listed_offset : List ℕ → ℕ → ℕ → ℕ → ℕ
-listed_offset file start count n = digits_value 10 (take 10 (drop (20 * n) (drop (start + length (table_front (count + 1))) file)))
+listed_offset file start count n =
+    digits_value 10 (take 10 (drop (20 * n) (drop (start + length (table_front (count + 1))) file)))
 
--- the entry of each object says where it begins, from there on stands the object, and it goes on to the next one, or to the table
+-- the entry of each object says where it begins, the object is there, and it goes on to the next one, or to the table
 abbrev pub AreInTable : List ℕ → ℕ → List (List ℕ) → Type 0
-AreInTable file start values = (k : ℕ) → k < length values → IsObjectAt file (listed_offset file start (length values) k) (get_or (offsets_of values) (k + 1) start) (1 + k) (get_or values k [])
+AreInTable file start values =
+    (k : ℕ) → k < length values
+    → IsObjectAt file (listed_offset file start (length values) k)
+    (get_or (offsets_of values) (k + 1) start) (1 + k) (get_or values k [])
 
 abbrev pub ObjectsAreInTable : Type 0
-ObjectsAreInTable = (values : List (List ℕ)) → length (body_of values) < 10000000000 → AreInTable (file_of values) (length (body_of values)) values
+ObjectsAreInTable =
+    (values : List (List ℕ)) → length (body_of values) < 10000000000
+    → AreInTable (file_of values) (length (body_of values)) values

@@ -18,7 +18,8 @@ pub record Showing : Type 0 where
 -- after a token, and in an ActualText or in none
 abbrev pub shown_from : List ℕ → Option (List ℕ) → List (List ℕ) → List Showing
 shown_from last actual [] = []
-shown_from last actual (t ∷ ts) = if bytes_eq t (codes "Tj") then record { string = hex_in last; actual = actual } ∷ shown_from t actual ts
+shown_from last actual (t ∷ ts) =
+    if bytes_eq t (codes "Tj") then record { string = hex_in last; actual = actual } ∷ shown_from t actual ts
     else if bytes_eq t (codes "EMC") then shown_from t None ts
     else if bytes_eq last (codes "/ActualText") then shown_from t (hex_in t) ts
     else shown_from t actual ts
@@ -31,7 +32,8 @@ shown_in text = shown_from [] None (tokens text)
 
 -- the code of a glyph; and its text after a byte order mark, where the code doesn't say it
 abbrev pub showing : SheetGlyph → Showing
-showing g = record { string = Some (g.code ∷ []); actual = if g.is_said then None else Some (65279 ∷ units_of g.text.now) }
+showing g =
+    record { string = Some (g.code ∷ []); actual = if g.is_said then None else Some (65279 ∷ units_of g.text.now) }
 
 -- a code of 16 bits, and characters
 pub record IsShowable (g : SheetGlyph) : Type 0 where
@@ -40,4 +42,6 @@ pub record IsShowable (g : SheetGlyph) : Type 0 where
 
 -- the pages show each glyph, in order
 abbrev pub AreShown : Type 0
-AreShown = (layout : Layout) (vertical : Bool) (gs : List SheetGlyph) → All IsShowable gs → flat_map (λ p. shown_in (content (frame_of layout vertical gs) p)) (pages_of layout gs) ≡ map showing gs
+AreShown =
+    (layout : Layout) (vertical : Bool) (gs : List SheetGlyph) → All IsShowable gs
+    → flat_map (λ p. shown_in (content (frame_of layout vertical gs) p)) (pages_of layout gs) ≡ map showing gs

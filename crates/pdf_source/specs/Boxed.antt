@@ -1,5 +1,7 @@
--- A new font whose `head` has the box of the kept glyphs (OpenType, "head", "Table Directory", "Calculating Checksums").
-use Rattle.std.specs.Prelude.{◌≡◌, ◌⊎◌, ℕ, ◌+◌, ◌*◌, ◌/◌, ◌&&◌, nat_le, is_some, Bool, if◌then◌else◌, List, [], ◌∷◌, ◌++◌, length, take, drop, codes, Option, Some, None, ℤ}
+-- A new font whose `head` has the box of the kept glyphs (OpenType, "head", "Table Directory", "Calculating
+-- Checksums").
+use Rattle.std.specs.Prelude.{◌≡◌, ◌⊎◌, ℕ, ◌+◌, ◌*◌, ◌/◌, ◌&&◌, nat_le, is_some, Bool, if◌then◌else◌, List, [], ◌∷◌}
+use Rattle.std.specs.Prelude.{◌++◌, length, take, drop, codes, Option, Some, None, ℤ}
 use Rattle.std.specs.Int.{w16, w32, cast_unsigned, to_be_bytes}
 use Rattle.std.specs.Option.{option_and_then, option_map, option_map_or}
 use Rattle.subsetter_sfnt.specs.Laying.Checksum.{checksum}
@@ -36,7 +38,8 @@ if_room box head = if nat_le 44 (length head) then with_box box head else head
 abbrev pub boxed_tables : GlyphBox → FontTables → FontTables
 boxed_tables b t = record t { head = option_map (if_room (box_bytes b)) t.head }
 
--- two files that differ in sixteen bytes: a checksum in the directory, and in `head` checkSumAdjustment, and xMin, yMin, xMax and yMax
+-- two files that differ in sixteen bytes: a checksum in the directory, and in `head` checkSumAdjustment, and xMin,
+-- yMin, xMax and yMax
 pub record Differ (x y : List ℕ) : Type 0 where
   pub front : List ℕ
   pub between : List ℕ
@@ -94,15 +97,20 @@ boxed_at p box file = if is_in p (length file) then settled p (summed p (blank p
 abbrev pub one_if : Bool → ℕ
 one_if there = if there then 1 else 0
 
--- tags ascend: the record of `head` stands after those of `CFF `, `cvt `, `fpgm` and `glyf`
+-- tags ascend: the record of `head` is after those of `CFF `, `cvt `, `fpgm` and `glyf`
 abbrev pub records_before : (List ℕ → Option (List ℕ)) → ℕ
-records_before find = one_if (is_some (find (codes "CFF "))) + (one_if (is_some (find (codes "cvt "))) + (one_if (is_some (find (codes "fpgm"))) + one_if (is_some (find (codes "glyf")))))
+records_before find =
+    one_if (is_some (find (codes "CFF ")))
+    + (one_if (is_some (find (codes "cvt ")))
+    + (one_if (is_some (find (codes "fpgm"))) + one_if (is_some (find (codes "glyf")))))
 
 abbrev pub place_of : ℕ → TableRecord → HeadPlace
 place_of before r = record { record_at = 12 + 16 * before; offset = r.offset; size = r.length }
 
 abbrev pub place_by : List ℕ → List ℕ → Option HeadPlace
-place_by file directory = option_map (place_of (records_before (table_in file directory))) (find_record (codes "head") (directory_records (length directory / 16) directory))
+place_by file directory =
+    option_map (place_of (records_before (table_in file directory)))
+    (find_record (codes "head") (directory_records (length directory / 16) directory))
 
 unfoldable pub head_place : List ℕ → Option HeadPlace
 head_place file = option_and_then (place_by file) (records_at file 0)

@@ -18,8 +18,8 @@ abbrev pub cff_box : Option (List ℕ) → ℕ → Option GlyphBox
 cff_box None count = None
 cff_box (Some cff) count = kept_box cff count
 
--- the stem of the `CFF ` of the source; of a source without one that of the new font, whose private dicts have the blends of outlines in
--- CFF2 resolved
+-- the stem of the `CFF ` of the source; of a source without one that of the new font, whose private dicts have the
+-- blends of outlines in CFF2 resolved
 abbrev pub font_stem_by : Option (List ℕ) → (List ℕ → Option (List ℕ)) → (List ℕ → Option (List ℕ)) → Option ℕ
 font_stem_by None find new = (cff_values_by new).stem
 font_stem_by (Some cff) find new = (cff_values_by find).stem

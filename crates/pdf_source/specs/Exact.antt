@@ -16,7 +16,7 @@ pub record Exact : Type 0 where
 abbrev pub exact_seen : ExactWidths → Exact
 exact_seen e = record { units_per_em = e.units_per_em; widths = e.widths.items }
 
--- the advances of so many glyphs, from one on
+-- the advances of n glyphs, from glyph g on
 abbrev pub advances_from : Measures → ℕ → ℕ → Result (List ℕ) Error
 advances_from m g zero = Ok []
 advances_from m g (suc n) = do

@@ -17,8 +17,8 @@ use Rattle.pdf_source.specs.declared.choice.FontOptions.{FontOptions}
 use Rattle.pdf_source.specs.declared.program.NewFont.{NewFont}
 use Rattle.pdf_source.specs.declared.program.Profile.{Profile as GivenProfile}
 
--- how many glyphs it has, their widths, in thousandths of the em and in the font's units, the values of the descriptor, and the box that the
--- `head` of the program gets
+-- how many glyphs it has, their widths, in thousandths of the em and in the font's units, the values of the descriptor,
+-- and the box that the `head` of the program gets
 pub record Profile : Type 0 where
   pub count : ℕ
   pub widths : List ℕ
@@ -27,15 +27,29 @@ pub record Profile : Type 0 where
   pub head_box : Option GlyphBox
 
 abbrev pub profile_seen : GivenProfile → Profile
-profile_seen p = record { count = p.count; widths = p.widths.items; exact = exact_seen p.exact; values = p.values; head_box = p.head_box }
+profile_seen p =
+    record {
+      count = p.count;
+      widths = p.widths.items;
+      exact = exact_seen p.exact;
+      values = p.values;
+      head_box = p.head_box;
+    }
 
-unfoldable pub profile_in : (List ℕ → Option (List ℕ)) → List (Tag × ℤ) → FontOptions → ℕ → List ℕ → Result Profile Error
+unfoldable pub profile_in : (List ℕ → Option (List ℕ)) → List (Tag × ℤ) → FontOptions → ℕ → List ℕ
+    → Result Profile Error
 profile_in find settings options requested file = do
   directory ← opened (as_font file)
   count ← count_in (flavor_in file) (table_in file directory) requested
   widths ← widths_of (table_in file directory) count
   exact ← exact_of (table_in file directory) count
-  Ok (record { count = count; widths = widths; exact = exact; values = values_in find (table_in file directory) count options settings; head_box = program_box find (table_in file directory) count options.bounds })
+  Ok (record {
+    count = count;
+    widths = widths;
+    exact = exact;
+    values = values_in find (table_in file directory) count options settings;
+    head_box = program_box find (table_in file directory) count options.bounds;
+  })
 
 -- and the program, whose widths are the advances
 pub record Made : Type 0 where

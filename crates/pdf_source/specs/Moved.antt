@@ -55,8 +55,8 @@ can_move None None cff2 = is_some cff2
 abbrev pub moves : (List ℕ → Option (List ℕ)) → Bool
 moves find = can_move (find (codes "glyf")) (find (codes "CFF ")) (find (codes "CFF2"))
 
--- the least box around so many glyphs of the new font: by the headers of its `glyf`, or by the charstrings of its `CFF ` where they were
--- made of `CFF2`; of other outlines it isn't known
+-- the least box around the first `count` glyphs of the new font: by the headers of its `glyf`, or by the charstrings of
+-- its `CFF ` where they were made of `CFF2`; of other outlines it isn't known
 abbrev pub kept_by : Option (List ℕ) → Bool → (List ℕ → Option (List ℕ)) → ℕ → Option GlyphBox
 kept_by (Some glyf) moving new count = boxes_from (outlines_of new) 0 count
 kept_by None true new count = cff_box (new (codes "CFF ")) count
@@ -72,7 +72,8 @@ program_box find new count choice = head_box (bounds_by (moves find) choice) (ke
 -- elsewhere than at its default; none of outlines that don't move
 abbrev pub location_of : Bool → (List ℕ → Option (List ℕ)) → List (Tag × ℤ) → Option Location
 location_of false find settings = None
-location_of true find settings = location_by (result_ok (normalized_coordinates find settings)) (axes_in (find (codes "fvar")))
+location_of true find settings =
+    location_by (result_ok (normalized_coordinates find settings)) (axes_in (find (codes "fvar")))
 
 abbrev pub location_in : (List ℕ → Option (List ℕ)) → List (Tag × ℤ) → Option Location
 location_in find settings = location_of (moves find) find settings
@@ -83,8 +84,12 @@ movement_of find settings p = record { at = p.at; axes = p.axes; settings = sett
 -- off its default FontBBox holds the kept glyphs, where their boxes are known
 abbrev pub values_by : Option Location → Known → (List ℕ → Option (List ℕ)) → Bounds → List (Tag × ℤ) → Values
 values_by None known find choice settings = values_of (tables_of find) known None (bounds_by (moves find) choice)
-values_by (Some p) known find choice settings = values_of (tables_of find) known (Some (movement_of find settings p)) (bounds_by (moves find) Kept)
+values_by (Some p) known find choice settings =
+    values_of (tables_of find) known (Some (movement_of find settings p)) (bounds_by (moves find) Kept)
 
 -- the values of the descriptor, of the tables that look-ups find in the source and in the new font
-abbrev pub values_in : (List ℕ → Option (List ℕ)) → (List ℕ → Option (List ℕ)) → ℕ → FontOptions → List (Tag × ℤ) → Values
-values_in find new count options settings = values_by (location_in find settings) (known_of find options.limits (font_stem find new) (kept_in find new count)) find options.bounds settings
+abbrev pub values_in : (List ℕ → Option (List ℕ)) → (List ℕ → Option (List ℕ)) → ℕ → FontOptions → List (Tag × ℤ)
+    → Values
+values_in find new count options settings =
+    values_by (location_in find settings)
+    (known_of find options.limits (font_stem find new) (kept_in find new count)) find options.bounds settings

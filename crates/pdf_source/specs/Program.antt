@@ -9,7 +9,8 @@ use Rattle.subsetter_sfnt.specs.Read.{as_font, table, table_in}
 use Rattle.subsetter_sfnt.specs.declared.flavor.FontFlavor.{FontFlavor}
 use Rattle.subsetter_sfnt.specs.declared.flavor.FontFlavor.TheVariants.{TrueType, Cff}
 use Rattle.pdf_text.specs.declared.values.ProgramKind.{ProgramKind}
-use Rattle.pdf_text.specs.declared.values.ProgramKind.TheVariants.{TrueType as TrueTypeFile, BareCff, OpenType as OpenTypeFile}
+use Rattle.pdf_text.specs.declared.values.ProgramKind.TheVariants.{TrueType as TrueTypeFile, BareCff}
+use Rattle.pdf_text.specs.declared.values.ProgramKind.TheVariants.{OpenType as OpenTypeFile}
 use Rattle.pdf_values.specs.declared.looks.bounds.GlyphBox.{GlyphBox}
 use Rattle.pdf_source.specs.Boxed.{boxed_if}
 use Rattle.pdf_source.specs.declared.choice.ProgramChoice.{ProgramChoice}
@@ -36,14 +37,15 @@ flavor_by word = if word == 0x4F54544F then Cff else TrueType
 abbrev pub flavor_in : List ℕ → FontFlavor
 flavor_in file = option_map_or flavor_by (number file 0 4) TrueType
 
--- how many glyphs there are: of TrueType by its `maxp`, which a PDF wants it to have (ISO 32000-1, 9.9); of CFF as many as were requested, with glyph 0
+-- how many glyphs there are: of TrueType by its `maxp`, which a PDF wants it to have (ISO 32000-1, 9.9); of CFF as many
+-- as were requested, with glyph 0
 abbrev pub count_in : FontFlavor → (List ℕ → Option (List ℕ)) → ℕ → Result ℕ Error
 count_in Cff find requested = Ok requested
 count_in TrueType find requested = do
   maxp ← ok_or (find (codes "maxp")) MalformedFont
   ok_or (number maxp 4 2) MalformedFont
 
--- the `CFF ` of a file
+-- the bytes of `CFF ` in an OpenType file
 unfoldable pub bare_cff : List ℕ → Result (List ℕ) Error
 bare_cff file = do
   directory ← opened (as_font file)

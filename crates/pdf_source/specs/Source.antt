@@ -11,13 +11,25 @@ use Rattle.pdf_source.specs.Cff.{cff_values_by}
 use Rattle.pdf_source.specs.declared.tag.SubsetTag.{SubsetTag}
 
 abbrev pub tables_of : (List ℕ → Option (List ℕ)) → SourceTables
-tables_of find = record { head = find (codes "head"); hhea = find (codes "hhea"); os2 = find (codes "OS/2"); post = find (codes "post") }
+tables_of find =
+    record {
+      head = find (codes "head");
+      hhea = find (codes "hhea");
+      os2 = find (codes "OS/2");
+      post = find (codes "post");
+    }
 
 abbrev pub outlines_of : (List ℕ → Option (List ℕ)) → Outlines
 outlines_of find = record { head = find (codes "head"); loca = find (codes "loca"); glyf = find (codes "glyf") }
 
 abbrev pub vertical_of : (List ℕ → Option (List ℕ)) → Vertical
-vertical_of find = record { vhea = find (codes "vhea"); vmtx = find (codes "vmtx"); vorg = find (codes "VORG"); outlines = outlines_of find }
+vertical_of find =
+    record {
+      vhea = find (codes "vhea");
+      vmtx = find (codes "vmtx");
+      vorg = find (codes "VORG");
+      outlines = outlines_of find;
+    }
 
 -- boxes are known of outlines that may move: of others that of `head` is taken
 abbrev pub bounds_by : Bool → Bounds → Bounds

@@ -1,5 +1,6 @@
 -- The tops of glyphs of the source, in the font's units: by the header in `glyf`, or by the charstring in `CFF `.
-use Rattle.std.specs.Prelude.{ℕ, ◌==◌, ◌&&◌, not, is_some, Bool, true, false, if◌then◌else◌, List, [], codes, Option, Some, None, ℤ}
+use Rattle.std.specs.Prelude.{ℕ, ◌==◌, ◌&&◌, not, is_some, Bool, true, false, if◌then◌else◌, List, [], codes, Option}
+use Rattle.std.specs.Prelude.{Some, None, ℤ}
 use Rattle.std.specs.Option.{option_and_then}
 use Rattle.subsetter_type2.specs.declared.limits.Limits.{Limits}
 use Rattle.pdf_boxes.specs.SourceBox.{glyph_top, glyph_tops}
@@ -34,7 +35,8 @@ known_of find limits stem kept = record {
 
 -- with `vmtx` and without `VORG` the top and its bearing say the origin; where there is `glyf` they do so always
 abbrev pub are_wanted : (List ℕ → Option (List ℕ)) → Bool
-are_wanted find = not (is_some (find (codes "glyf"))) && (is_some (find (codes "vmtx")) && not (is_some (find (codes "VORG"))))
+are_wanted find =
+    not (is_some (find (codes "glyf"))) && (is_some (find (codes "vmtx")) && not (is_some (find (codes "VORG"))))
 
 abbrev pub tops_if : Bool → Option (List ℕ) → Limits → List ℕ → List ℤ
 tops_if false cff limits glyphs = []

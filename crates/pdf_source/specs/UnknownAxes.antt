@@ -22,7 +22,8 @@ is_listed axes before tag = not (has_axis axes tag) && not (is_set before tag)
 -- the tags of settings that come after others
 abbrev pub unknown_after : List Axis → List (Tag × ℤ) → List (Tag × ℤ) → List Tag
 unknown_after axes before [] = []
-unknown_after axes before (s ∷ settings) = (if is_listed axes before s.0 then s.0 ∷ [] else []) ++ unknown_after axes (before ++ s ∷ []) settings
+unknown_after axes before (s ∷ settings) =
+    (if is_listed axes before s.0 then s.0 ∷ [] else []) ++ unknown_after axes (before ++ s ∷ []) settings
 
 -- of a font whose `fvar` is missing or can't be read all are unknown
 abbrev pub unknown_axes : (List ℕ → Option (List ℕ)) → List (Tag × ℤ) → List Tag

@@ -1,4 +1,5 @@
--- A new font whose `CFF ` has the advances of `hmtx` as its widths (ISO 19005-2, 6.2.11.5; OpenType, "Organization of an OpenType Font").
+-- A new font whose `CFF ` has the advances of `hmtx` as its widths (ISO 19005-2, 6.2.11.5; OpenType, "Organization of
+-- an OpenType Font").
 use Rattle.std.specs.Prelude.{ℕ, nat_le, if◌then◌else◌, List, length, codes, unwrap_or, Option, Some, None}
 use Rattle.std.specs.Result.{result_ok}
 use Rattle.subsetter_base.specs.Options.{◌>>=◌}
@@ -40,7 +41,8 @@ widened_in find advances = do
   result_ok (file_of (kind_word Cff) (present (rows (tables_with find head new))))
 
 abbrev pub widened_by : List ℕ → List ℕ → Option (List ℕ)
-widened_by advances file = result_ok (opened (as_font file)) >>= λ directory. widened_in (table_in file directory) advances
+widened_by advances file =
+    result_ok (opened (as_font file)) >>= λ directory. widened_in (table_in file directory) advances
 
 -- and else the file itself
 unfoldable pub widened : List ℕ → List ℕ → List ℕ

@@ -1,5 +1,6 @@
 -- The indirect objects of a font (ISO 32000-1, 7.3.8 and 7.3.10), and where each begins.
-use Rattle.std.specs.Prelude.{◌≡◌, ◌<◌, ℕ, ◌+◌, Bool, true, false, List, [], ◌∷◌, ◌++◌, map, length, get_or, Option, Some, None, is_some, codes, decimal, if◌then◌else◌}
+use Rattle.std.specs.Prelude.{◌≡◌, ◌<◌, ℕ, ◌+◌, Bool, true, false, List, [], ◌∷◌, ◌++◌, map, length, get_or, Option}
+use Rattle.std.specs.Prelude.{Some, None, is_some, codes, decimal, if◌then◌else◌}
 use Rattle.std.specs.List.{concat}
 use Rattle.std.specs.Option.{option_copied, option_map}
 use Rattle.std.specs.Global.{Vec}
@@ -8,7 +9,8 @@ use Rattle.pdf_text.specs.declared.values.FontValues.{FontValues}
 use Rattle.pdf_text.specs.declared.values.References.{References}
 use Rattle.pdf_text.specs.declared.objects.Object.{Object}
 use Rattle.pdf_text.specs.declared.objects.FontDictionaries.{FontDictionaries}
-use Rattle.pdf_text.specs.declared.objects.Object.TheVariants.{Font, CidFont, FontDescriptor, FontFile, ToUnicode, CidToGidMap, CidSet, Cmap}
+use Rattle.pdf_text.specs.declared.objects.Object.TheVariants.{Font, CidFont, FontDescriptor, FontFile, ToUnicode}
+use Rattle.pdf_text.specs.declared.objects.Object.TheVariants.{CidToGidMap, CidSet, Cmap}
 use Rattle.pdf_text.specs.Dictionaries.Descriptor.{descriptor_entries}
 use Rattle.pdf_text.specs.Dictionaries.Entries.{entry, dictionary}
 use Rattle.pdf_text.specs.Dictionaries.Fonts.{font_entries, cid_font_entries}
@@ -44,7 +46,8 @@ bytes_of Cmap v = text_of_cmap v.encoding
 
 -- the end of a stream's dictionary, and its bytes (7.3.8.1)
 abbrev pub stream_end : List ℕ → List ℕ
-stream_end bytes = entry (codes "Length") (decimal (length bytes)) ++ (codes ">>\nstream\n" ++ (bytes ++ codes "\nendstream"))
+stream_end bytes =
+    entry (codes "Length") (decimal (length bytes)) ++ (codes ">>\nstream\n" ++ (bytes ++ codes "\nendstream"))
 
 abbrev pub value_end : Option (List ℕ) → List ℕ
 value_end None = codes ">>"
@@ -64,7 +67,9 @@ when true o = o ∷ []
 when false o = []
 
 abbrev pub objects_by : Bool → Bool → Bool → List Object
-objects_by has_map cid_set cmap = Font ∷ CidFont ∷ FontDescriptor ∷ FontFile ∷ ToUnicode ∷ (when has_map CidToGidMap ++ (when cid_set CidSet ++ when cmap Cmap))
+objects_by has_map cid_set cmap =
+    Font ∷ CidFont ∷ FontDescriptor ∷ FontFile ∷ ToUnicode
+    ∷ (when has_map CidToGidMap ++ (when cid_set CidSet ++ when cmap Cmap))
 
 abbrev pub objects_of : FontValues → List Object
 objects_of v = objects_by (is_some v.cid_to_gid_map) (is_some v.cid_set) (is_some v.encoding)
@@ -73,7 +78,7 @@ objects_of v = objects_by (is_some v.cid_to_gid_map) (is_some v.cid_set) (is_som
 abbrev pub most_objects : FontValues → ℕ
 most_objects v = 7 + length (when (is_some v.cid_to_gid_map) CidToGidMap)
 
--- how many objects stand before a CIDSet, and before a CMap
+-- how many objects are before a CIDSet, and before a CMap
 abbrev pub before_set : Bool → ℕ
 before_set has_map = 5 + length (when has_map CidToGidMap)
 
@@ -81,7 +86,16 @@ abbrev pub before_cmap : Bool → Bool → ℕ
 before_cmap has_map cid_set = before_set has_map + length (when cid_set CidSet)
 
 abbrev pub references_by : ℕ → Bool → Bool → References
-references_by first has_map cid_set = record { cid_font = first + 1; descriptor = first + 2; program = first + 3; to_unicode = first + 4; cid_to_gid_map = first + 5; cid_set = first + before_set has_map; encoding = first + before_cmap has_map cid_set }
+references_by first has_map cid_set =
+    record {
+      cid_font = first + 1;
+      descriptor = first + 2;
+      program = first + 3;
+      to_unicode = first + 4;
+      cid_to_gid_map = first + 5;
+      cid_set = first + before_set has_map;
+      encoding = first + before_cmap has_map cid_set;
+    }
 
 abbrev pub references_from : ℕ → FontValues → References
 references_from first v = references_by first (is_some v.cid_to_gid_map) (is_some v.cid_set)
@@ -97,14 +111,16 @@ number_of first r CidToGidMap = r.cid_to_gid_map
 number_of first r CidSet = r.cid_set
 number_of first r Cmap = r.encoding
 
--- the numbers of objects, of which so many stand before
+-- the numbers of objects, after `before` others
 abbrev pub numbers : ℕ → ℕ → List Object → List ℕ
 numbers first before [] = []
 numbers first before (o ∷ os) = (first + before) ∷ numbers first (before + 1) os
 
 -- each object is referred to by the number that it has
 abbrev pub AreReferredTo : Type 0
-AreReferredTo = (first : ℕ) (v : FontValues) → map (number_of first (references_from first v)) (objects_of v) ≡ numbers first 0 (objects_of v)
+AreReferredTo =
+    (first : ℕ) (v : FontValues)
+    → map (number_of first (references_from first v)) (objects_of v) ≡ numbers first 0 (objects_of v)
 
 -- ---- one after the other
 
@@ -113,7 +129,7 @@ abbrev pub objects_from : ℕ → List (List ℕ) → List (List ℕ)
 objects_from n [] = []
 objects_from n (value ∷ values) = object_text n value ∷ objects_from (n + 1) values
 
--- where each of some texts begins, of which so many bytes stand before
+-- where each of some texts begins, after `before` bytes
 abbrev pub offsets_from : ℕ → List (List ℕ) → List ℕ
 offsets_from before [] = []
 offsets_from before (t ∷ ts) = before ∷ offsets_from (before + length t) ts
@@ -127,7 +143,7 @@ font_objects first v = objects_from first (values_of v (references_from first v)
 
 -- ---- the law
 
--- from one offset of a text to another stands an object: its number, its value, and nothing else
+-- from one offset of a text to another there is an object: its number, its value, and nothing else
 pub record IsObjectAt (text : List ℕ) (offset end n : ℕ) (value : List ℕ) : Type 0 where
   pub before : List ℕ
   pub after : List ℕ
@@ -135,19 +151,27 @@ pub record IsObjectAt (text : List ℕ) (offset end n : ℕ) (value : List ℕ) 
   pub begins : length before ≡ offset
   pub ends : offset + length (object_text n value) ≡ end
 
--- each object stands from its offset to that of the next, or to the end of the text
+-- each object goes from its offset to that of the next, or to the end of the text
 abbrev pub AreAt : Type 0
-AreAt = (first : ℕ) (values : List (List ℕ)) (k : ℕ) → k < length values → let ts = objects_from first values in IsObjectAt (concat ts) (get_or (offsets_from 0 ts) k 0) (get_or (offsets_from 0 ts) (k + 1) (length (concat ts))) (first + k) (get_or values k [])
+AreAt =
+    (first : ℕ) (values : List (List ℕ)) (k : ℕ) → k < length values
+    → let ts = objects_from first values in
+    IsObjectAt (concat ts) (get_or (offsets_from 0 ts) k 0)
+    (get_or (offsets_from 0 ts) (k + 1) (length (concat ts))) (first + k) (get_or values k [])
 
--- at the offsets stand the objects of a font
+-- the objects of a font are at the offsets
 abbrev pub AreFontObjectsAt : ℕ → FontValues → List ℕ → List ℕ → Type 0
-AreFontObjectsAt first v text offsets = (k : ℕ) → k < length (objects_of v) → IsObjectAt text (get_or offsets k 0) (get_or offsets (k + 1) (length text)) (first + k) (get_or (values_of v (references_from first v) (objects_of v)) k [])
+AreFontObjectsAt first v text offsets =
+    (k : ℕ) → k < length (objects_of v)
+    → IsObjectAt text (get_or offsets k 0) (get_or offsets (k + 1) (length text))
+    (first + k) (get_or (values_of v (references_from first v) (objects_of v)) k [])
 
 -- ---- dictionaries alone
 
 -- a dictionary, if it is wanted
 abbrev pub IsDictionaryWhen : Bool → List ℕ → Option (Vec ℕ) → Type 0
-IsDictionaryWhen wanted entries text = option_map (λ (t : Vec ℕ). t.items) text ≡ (if wanted then Some (dictionary entries) else None)
+IsDictionaryWhen wanted entries text =
+    option_map (λ (t : Vec ℕ). t.items) text ≡ (if wanted then Some (dictionary entries) else None)
 
 pub record AreDictionaries (v : FontValues) (r : References) (d : FontDictionaries) : Type 0 where
   pub font : d.font.items ≡ dictionary (entries_of Font v r)

@@ -1,10 +1,12 @@
 -- The strings of a text of PDF without comments (ISO 32000-1, 7.3.4).
-use Rattle.std.specs.Prelude.{ℕ, zero, suc, ◌+◌, ◌==◌, ◌||◌, ◌&&◌, Bool, true, false, if◌then◌else◌, List, [], ◌∷◌, ◌++◌}
+use Rattle.std.specs.Prelude.{ℕ, zero, suc, ◌+◌, ◌==◌, ◌||◌, ◌&&◌, Bool, true, false, if◌then◌else◌, List, [], ◌∷◌}
+use Rattle.std.specs.Prelude.{◌++◌}
 use Rattle.pdf_text.specs.declared.strings.Place.{Place}
 use Rattle.pdf_text.specs.declared.strings.Place.TheVariants.{Outside, Angle, Hexadecimal, Literal, Escaped}
 use Rattle.pdf_text.specs.declared.strings.StringRange.{StringRange}
 
--- after a parenthesis (40) or an angle (60) a string may begin; `<<` begins a dictionary, and `<>` is a string of no bytes
+-- after a parenthesis (40) or an angle (60) a string may begin; `<<` begins a dictionary, and `<>` is a string of no
+-- bytes
 abbrev pub from_outside : ℕ → Place
 from_outside b = if b == 40 then Literal 0 else if b == 60 then Angle else Outside
 
@@ -18,7 +20,11 @@ closed (suc depth) = Literal depth
 
 -- in a literal string parentheses are in pairs, and a backslash (92) takes the meaning from the byte after it (7.3.4.2)
 abbrev pub from_literal : ℕ → ℕ → Place
-from_literal depth b = if b == 92 then Escaped depth else if b == 40 then Literal (depth + 1) else if b == 41 then closed depth else Literal depth
+from_literal depth b =
+    if b == 92 then Escaped depth
+    else if b == 40 then Literal (depth + 1)
+    else if b == 41 then closed depth
+    else Literal depth
 
 -- where the byte after this one is
 abbrev pub next : Place → ℕ → Place
@@ -50,7 +56,9 @@ when_last false start end = []
 
 abbrev pub strings_from : Place → ℕ → ℕ → List ℕ → List StringRange
 strings_from place start at [] = []
-strings_from place start at (b ∷ text) = when_last (is_last place b) (start_at place start at) (at + 1) ++ strings_from (next place b) (start_at place start at) (at + 1) text
+strings_from place start at (b ∷ text) =
+    when_last (is_last place b) (start_at place start at) (at + 1)
+    ++ strings_from (next place b) (start_at place start at) (at + 1) text
 
 -- the strings of a text, each with what begins and ends it
 abbrev pub strings_in : List ℕ → List StringRange

@@ -1,5 +1,7 @@
--- What draws the codes of a text: the program, and with TrueType outlines the map from CIDs to its glyphs (ISO 32000-1, 9.7.4.2).
-use Rattle.std.specs.Prelude.{◌≡◌, ◌⊎◌, ◌<◌, ◌+◌, ◌&&◌, ℕ, Bool, true, false, List, [], ◌∷◌, length, map, slice_get, codes, Option, Some, None, unwrap_or, Err, pos}
+-- What draws the codes of a text: the program, and with TrueType outlines the map from CIDs to its glyphs (ISO 32000-1,
+-- 9.7.4.2).
+use Rattle.std.specs.Prelude.{◌≡◌, ◌⊎◌, ◌<◌, ◌+◌, ◌&&◌, ℕ, Bool, true, false, List, [], ◌∷◌, length, map, slice_get}
+use Rattle.std.specs.Prelude.{codes, Option, Some, None, unwrap_or, Err, pos}
 use Rattle.std.specs.List.{list_all}
 use Rattle.std.specs.Ordering.{int_eq}
 use Rattle.subsetter_base.specs.Options.{◌>>=◌}
@@ -35,8 +37,9 @@ glyph_count file = count_by (stored (as_font file))
 abbrev pub IsUncounted : List ℕ → Error → Type 0
 IsUncounted file e = (opened (as_font file) ≡ Err e) ⊎ ((e ≡ MalformedFont) × (glyph_count file ≡ None))
 
--- the glyphs of a file, and after them others, of which so many are own ones; a map leads there
-pub record HasMore (file : List ℕ) (others : List OwnGlyph) (owns : ℕ) (ds : List Drawing) (program : List ℕ) (map : Option (List ℕ)) : Type 0 where
+-- the glyphs of a file, and after them others, of which the first `owns` are own ones; a map leads there
+pub record HasMore (file : List ℕ) (others : List OwnGlyph) (owns : ℕ) (ds : List Drawing) (program : List ℕ)
+    (map : Option (List ℕ)) : Type 0 where
   pub glyphs : HasOwnGlyphs file others program
   pub number : ℕ
   pub number_is : glyph_count file ≡ Some number
@@ -51,11 +54,12 @@ abbrev pub AreMapped : List ℕ → List OwnGlyph → ℕ → List Drawing → L
 AreMapped file [] owns ds program map = HasNoMore file ds program map
 AreMapped file (o ∷ others) owns ds program map = HasMore file (o ∷ others) owns ds program map
 
--- why others don't come after them, under the name of the error
+-- why others don't come after them, each reason with its error
 pub data IsUnmapped (file : List ℕ) (others : List OwnGlyph) (owns : ℕ) : Error → Type 0 where
   uncounted : {e : Error} → IsUncounted file e → IsUnmapped file others owns e
   -- more than 65,535 glyphs
-  crowded : (number : ℕ) → glyph_count file ≡ Some number → 65535 < number + owns → IsUnmapped file others owns OverflowError
+  crowded : (number : ℕ) → glyph_count file ≡ Some number → 65535 < number + owns
+      → IsUnmapped file others owns OverflowError
   -- the file gets no others
   refused : {e : Error} → IsRefused file others e → IsUnmapped file others owns e
 
@@ -88,7 +92,8 @@ abbrev pub with_advances : List ℕ → List ℕ → List ℕ
 with_advances advances cff = unwrap_or (with_widths cff advances) cff
 
 -- of each code the charstring of its figure, whose CID is the code, with its advance
-pub record AreRepeated (cff : List ℕ) (others : List OwnGlyph) (advances : List ℕ) (ds : List Drawing) (program : List ℕ) (map : Option (List ℕ)) : Type 0 where
+pub record AreRepeated (cff : List ℕ) (others : List OwnGlyph) (advances : List ℕ) (ds : List Drawing)
+    (program : List ℕ) (map : Option (List ℕ)) : Type 0 where
   pub still : are_still others ≡ true
   pub again : List ℕ
   pub figures : HasFigures (figures_of others ds) cff again
@@ -103,13 +108,15 @@ pub data IsUnrepeated (cff : List ℕ) (others : List OwnGlyph) (ds : List Drawi
 
 -- ---- both
 
--- each code draws its glyph of a subset, or one of others that come after these, of which so many are own ones; in the program codes have these advances
-abbrev pub AreDrawn : ProgramKind → List ℕ → List OwnGlyph → ℕ → List ℕ → List Drawing → List ℕ → Option (List ℕ) → Type 0
+-- each code draws its glyph of a subset, or one of others that come after these, of which the first `owns` are own
+-- ones; in the program codes have these advances
+abbrev pub AreDrawn : ProgramKind → List ℕ → List OwnGlyph → ℕ → List ℕ → List Drawing → List ℕ → Option (List ℕ)
+    → Type 0
 AreDrawn TrueType subset others owns advances ds program map = AreMapped subset others owns ds program map
 AreDrawn BareCff subset others owns advances ds program map = AreRepeated subset others advances ds program map
 AreDrawn OpenType subset others owns advances ds program map = AreRepeated subset others advances ds program map
 
--- why they aren't drawn, under the name of the error; with TrueType outlines only others can be refused
+-- why they aren't drawn, each reason with its error; with TrueType outlines only others can be refused
 abbrev pub HasDrawingFault : ProgramKind → List ℕ → List OwnGlyph → ℕ → List Drawing → Error → Type 0
 HasDrawingFault TrueType subset others owns ds e = (0 < length others) × IsUnmapped subset others owns e
 HasDrawingFault BareCff subset others owns ds e = IsUnrepeated subset others ds e

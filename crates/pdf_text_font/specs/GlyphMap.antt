@@ -5,7 +5,8 @@ use Rattle.subsetter_base.specs.Bytes.{number}
 use Rattle.pdf_text_font.specs.declared.pairs.Drawing.{Drawing}
 use Rattle.pdf_text_font.specs.declared.pairs.Drawing.TheVariants.{Glyph, Own, Nothing}
 
--- the number of the glyph that draws a code: so many own glyphs are after the others, from this number on, and after them the blank
+-- the number of the glyph that draws a code: `owns` own glyphs are after the others, from number `first` on, and after
+-- them the blank
 abbrev pub glyph_number : ℕ → ℕ → Drawing → ℕ
 glyph_number first owns (Glyph n) = n
 glyph_number first owns (Own k) = first + min k owns

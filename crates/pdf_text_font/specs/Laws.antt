@@ -12,13 +12,20 @@ use Rattle.pdf_text_font.specs.declared.pairs.Drawing.TheVariants.{Nothing}
 
 -- a reader of the map finds of each code the number of its glyph
 abbrev pub MapsAreRead : Type 0
-MapsAreRead = (first owns : ℕ) (ds : List Drawing) (k : ℕ) → k < length ds → glyph_number first owns (get_or ds k Nothing) < 65536 → glyph_in (map_bytes first owns ds) k ≡ Some (glyph_number first owns (get_or ds k Nothing))
+MapsAreRead =
+    (first owns : ℕ) (ds : List Drawing) (k : ℕ) → k < length ds → glyph_number first owns (get_or ds k Nothing) < 65536
+    → glyph_in (map_bytes first owns ds) k ≡ Some (glyph_number first owns (get_or ds k Nothing))
 
 -- own glyphs whose parts' glyphs have these numbers keep their parts, in order and in their places, and their advances
 abbrev pub OwnGlyphsAreKept : Type 0
-OwnGlyphsAreKept = (number : ℕ → ℕ) (own : List OwnInk) → own_by own (parts_by (all_parts own) (map (λ (p : Placed). number p.glyph) (all_parts own)))
-    ≡ map (λ (o : OwnInk). record { parts = map (λ (p : Placed). part_by p (number p.glyph)) o.parts.items; advance = o.advance }) own
+OwnGlyphsAreKept =
+    (number : ℕ → ℕ) (own : List OwnInk)
+    → own_by own (parts_by (all_parts own) (map (λ (p : Placed). number p.glyph) (all_parts own)))
+    ≡ map (λ (o : OwnInk).
+    record { parts = map (λ (p : Placed). part_by p (number p.glyph)) o.parts.items; advance = o.advance })
+    own
 
 -- a reader of ToUnicode finds a line for each code above 0, and no other
 abbrev pub TextsAreRead : Type 0
-TextsAreRead = (ps : List Pair) → length ps ≤ 65536 → SayCharacters ps → mapping_in (cmap_text (lines_of ps)) ≡ Some (lines_of ps)
+TextsAreRead =
+    (ps : List Pair) → length ps ≤ 65536 → SayCharacters ps → mapping_in (cmap_text (lines_of ps)) ≡ Some (lines_of ps)

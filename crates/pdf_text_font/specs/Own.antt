@@ -1,4 +1,5 @@
--- Own glyphs of a subset: their parts under the numbers that these have there (OpenType, "glyf", composite glyph description).
+-- Own glyphs of a subset: their parts under the numbers that these have there (OpenType, "glyf", composite glyph
+-- description).
 use Rattle.std.specs.Prelude.{ℕ, Bool, true, false, List, [], ◌∷◌, ◌++◌, length, map, take, drop, flat_map}
 use Rattle.cid_embed.specs.Width.{thousandths}
 use Rattle.own_glyphs.specs.declared.glyph.OwnGlyph.{OwnGlyph}
@@ -32,7 +33,8 @@ added_seen g = record { parts = g.parts.now; advance = g.advance }
 -- own glyphs, whose parts these are, one after the other
 abbrev pub own_by : List OwnInk → List Part → List Added
 own_by [] ps = []
-own_by (o ∷ os) ps = record { parts = take (length o.parts.items) ps; advance = o.advance } ∷ own_by os (drop (length o.parts.items) ps)
+own_by (o ∷ os) ps =
+    record { parts = take (length o.parts.items) ps; advance = o.advance } ∷ own_by os (drop (length o.parts.items) ps)
 
 -- a blank, if one is wanted
 abbrev pub blanks : Bool → List Added

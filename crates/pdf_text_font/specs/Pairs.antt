@@ -19,7 +19,8 @@ by_code pairs = zeroth ∷ drop 1 pairs
 abbrev pub use_of : ℕ → Used
 use_of g = record { glyph = g; units = [] }
 
--- the glyph that a figure wants in the subset, of a source with so many glyphs; an own one and a blank want glyph 0, which each subset has
+-- the glyph that a figure wants in the subset, of a source with `count` glyphs; an own one and a blank want glyph 0,
+-- which each subset has
 abbrev pub glyph_of : ℕ → Figure → ℕ
 glyph_of count (Source g) = if nat_lt g count then g else 0
 glyph_of count Blank = 0
@@ -36,11 +37,12 @@ uses_of count ps parts = map (code_use count) ps ++ map part_use parts
 
 -- ---- by code
 
--- the own glyph with this number, of so many, or nothing
+-- the own glyph with this number, of `owns`, or nothing
 abbrev pub own_or_nothing : ℕ → ℕ → Drawing
 own_or_nothing owns k = if nat_lt k owns then Own k else Nothing
 
--- what draws a figure, where the glyph that it wants has this number in the subset: glyphs after those of the source are own ones
+-- what draws a figure, where the glyph that it wants has this number in the subset: glyphs after those of the source
+-- are own ones
 abbrev pub drawing_of : ℕ → ℕ → Figure → ℕ → Drawing
 drawing_of count owns (Source g) n = if nat_lt g count then Glyph n else own_or_nothing owns (g - count)
 drawing_of count owns Blank n = Nothing

@@ -45,9 +45,12 @@ each_of c = c.each.items
 abbrev pub columns_by : List Drawing → Option Columns → Option (List Column)
 columns_by ds columns = option_map (λ (c : Columns). values_of no_column c.each.items [] ds) columns
 
--- of a subset that draws the codes so, with others after its glyphs, of which the first are these own ones: each CID is its code
-pub record IsByCode (options : FontOptions) (own : List OwnInk) (ps : List Pair) (ds : List Drawing) (others : List OwnGlyph) (s : PdfFont) (t : TextFont) : Type 0 where
-  pub drawn : AreDrawn s.kind s.program.items others (length own) t.font.exact_widths.items ds t.font.program.items (option_map (λ m. m.items) t.cid_to_gid_map)
+-- of a subset that draws the codes so, with others after its glyphs, of which the first are these own ones: each CID is
+-- its code
+pub record IsByCode (options : FontOptions) (own : List OwnInk) (ps : List Pair) (ds : List Drawing)
+    (others : List OwnGlyph) (s : PdfFont) (t : TextFont) : Type 0 where
+  pub drawn : AreDrawn s.kind s.program.items others (length own) t.font.exact_widths.items
+      ds t.font.program.items (option_map (λ m. m.items) t.cid_to_gid_map)
   pub kind : t.font.kind ≡ s.kind
   pub count : t.font.glyph_count ≡ length ps
   -- the width of a code is that of its glyph, in thousandths of the em and in the font's units; that of a blank is 0
@@ -56,7 +59,8 @@ pub record IsByCode (options : FontOptions) (own : List OwnInk) (ps : List Pair)
   pub units : t.font.units_per_em ≡ s.units_per_em
   pub default_width : IsMostFrequent t.font.widths.items t.font.default_width
   pub columns : option_map each_of t.font.columns ≡ columns_by ds s.columns
-  pub default_column : option_map (λ (c : Columns). c.default) t.font.columns ≡ option_map (λ (c : Columns). c.default) s.columns
+  pub default_column : option_map (λ (c : Columns). c.default) t.font.columns
+      ≡ option_map (λ (c : Columns). c.default) s.columns
   pub name : t.font.descriptor.font_name.items ≡ renamed options.tag t.font.program.items s.descriptor.font_name.items
   pub values : t.font.descriptor.values ≡ s.descriptor.values
   pub unknown_axes : t.font.unknown_axes.items ≡ s.unknown_axes.items
@@ -83,9 +87,11 @@ parts_in own ps s = parts_by (all_parts own) (drop (length ps) s.cids.items)
 
 -- the own glyphs, of these parts, and a blank, if a code draws one
 abbrev pub AreOthers : ℕ → List OwnInk → List Pair → PdfFont → List OwnGlyph → Type 0
-AreOthers count own ps s others = map added_seen others ≡ added own (parts_in own ps s) (has_blank (drawn_by count own ps s))
+AreOthers count own ps s others =
+    map added_seen others ≡ added own (parts_in own ps s) (has_blank (drawn_by count own ps s))
 
-pub record IsOfSubset (options : FontOptions) (count : ℕ) (own : List OwnInk) (ps : List Pair) (s : PdfFont) (t : TextFont) : Type 0 where
+pub record IsOfSubset (options : FontOptions) (count : ℕ) (own : List OwnInk) (ps : List Pair) (s : PdfFont)
+    (t : TextFont) : Type 0 where
   pub others : List OwnGlyph
   pub others_are : AreOthers count own ps s others
   pub by : IsByCode options own ps (drawn_by count own ps s) others s t
@@ -98,19 +104,28 @@ pub record HasSubsetFault (count : ℕ) (own : List OwnInk) (ps : List Pair) (s 
 
 -- ---- of a source
 
--- the font of a text with these pairs, code 0 among them: their figures are glyphs of the source, of which there are so many, and after these own ones
-pub record IsTextFont (font : Font) (settings : List (Tag × ℤ)) (options : FontOptions) (count : ℕ) (own : List OwnInk) (ps : List Pair) (t : TextFont) : Type 0 where
-  -- what a PDF has of the subset of glyph 0, the glyphs that the codes want, and the parts of own ones, each once, in order of use
+-- the font of a text with these pairs, code 0 among them: their figures are glyphs of the source, of which there are so
+-- many, and after these own ones
+pub record IsTextFont (font : Font) (settings : List (Tag × ℤ)) (options : FontOptions) (count : ℕ) (own : List OwnInk)
+    (ps : List Pair) (t : TextFont) : Type 0 where
+  -- what a PDF has of the subset of glyph 0, the glyphs that the codes want, and the parts of own ones, each once, in
+  -- order of use
   pub subset : PdfFont
   pub made : IsPdfFont font settings (subset_options options) (uses_of count ps (all_parts own)) subset
   pub by : IsOfSubset options count own ps subset t
 
 -- there is no subset of these glyphs
-pub record HasNoSubset (font : Font) (settings : List (Tag × ℤ)) (options : FontOptions) (us : List Used) (e : FontError) : Type 0 where
+pub record HasNoSubset (font : Font) (settings : List (Tag × ℤ)) (options : FontOptions) (us : List Used)
+    (e : FontError) : Type 0 where
   pub order : List ℕ
   pub fault : HasFontFault font settings (subset_options options) us order e
 
 -- why there is none: there is no subset; or there is one, which doesn't draw the codes
-pub data HasTextFault (font : Font) (settings : List (Tag × ℤ)) (options : FontOptions) (count : ℕ) (own : List OwnInk) (ps : List Pair) : FontError → Type 0 where
-  in_subset : {e : FontError} → HasNoSubset font settings options (uses_of count ps (all_parts own)) e → HasTextFault font settings options count own ps e
-  in_drawing : {e : Error} (subset : PdfFont) → IsPdfFont font settings (subset_options options) (uses_of count ps (all_parts own)) subset → HasSubsetFault count own ps subset e → HasTextFault font settings options count own ps (Subset e)
+pub data HasTextFault (font : Font) (settings : List (Tag × ℤ)) (options : FontOptions) (count : ℕ) (own : List OwnInk)
+    (ps : List Pair) : FontError → Type 0 where
+  in_subset : {e : FontError} → HasNoSubset font settings options (uses_of count ps (all_parts own)) e
+      → HasTextFault font settings options count own ps e
+  in_drawing : {e : Error} (subset : PdfFont)
+      → IsPdfFont font settings (subset_options options) (uses_of count ps (all_parts own)) subset
+      → HasSubsetFault count own ps subset e
+      → HasTextFault font settings options count own ps (Subset e)

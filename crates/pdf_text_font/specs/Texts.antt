@@ -1,5 +1,6 @@
 -- ToUnicode of a text: a line for each code above 0 (ISO 32000-1, 9.10.3).
-use Rattle.std.specs.Prelude.{◌<◌, ℕ, ◌+◌, ◌-◌, ◌/◌, ◌%◌, nat_lt, if◌then◌else◌, List, [], ◌∷◌, drop, All, Option, Some, None}
+use Rattle.std.specs.Prelude.{◌<◌, ℕ, ◌+◌, ◌-◌, ◌/◌, ◌%◌, nat_lt, if◌then◌else◌, List, [], ◌∷◌, drop, All, Option, Some}
+use Rattle.std.specs.Prelude.{None}
 use Rattle.subsetter_base.specs.Texts.{utf16}
 use Rattle.pdf_text.specs.Cmaps.Cmap.{Line}
 use Rattle.pdf_codes.specs.Units.{is_left_out}
@@ -25,7 +26,7 @@ abbrev pub lines_from : ℕ → List Pair → List Line
 lines_from code [] = []
 lines_from code (p ∷ ps) = line_of code p ∷ lines_from (code + 1) ps
 
--- code 0 has none
+-- the lines of all codes but 0, which has no text
 abbrev pub lines_of : List Pair → List Line
 lines_of ps = lines_from 1 (drop 1 ps)
 

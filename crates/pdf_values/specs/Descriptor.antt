@@ -21,7 +21,13 @@ pub record SourceTables : Type 0 where
   pub post : Option (List ℕ)
 
 abbrev pub tables_view : Tables → SourceTables
-tables_view t = record { head = option_copied t.head; hhea = option_copied t.hhea; os2 = option_copied t.os2; post = option_copied t.post }
+tables_view t =
+    record {
+      head = option_copied t.head;
+      hhea = option_copied t.hhea;
+      os2 = option_copied t.os2;
+      post = option_copied t.post;
+    }
 
 -- of a font that is moved, if it is; then FontBBox of `head` is that of its default
 abbrev pub values_of : SourceTables → Known → Option Movement → Bounds → Values

@@ -1,4 +1,5 @@
--- The fields that are read of `head` (OpenType, "head - Font Header Table"), `hhea` ("hhea - Horizontal Header Table") and `post` ("post - PostScript Table").
+-- The fields that are read of `head` (OpenType, "head - Font Header Table"), `hhea` ("hhea - Horizontal Header Table")
+-- and `post` ("post - PostScript Table").
 use Rattle.std.specs.Prelude.{ℕ, ◌==◌, Bool, false, if◌then◌else◌, List, Option, Some, None}
 use Rattle.std.specs.Option.{option_and_then, option_map_or, unwrap_or}
 use Rattle.pdf_values.specs.Fields.{has_bit}

@@ -9,7 +9,8 @@ use Rattle.subsetter_variation.specs.Items.ItemVariations.{whole_or_fault}
 use Rattle.subsetter_variation.specs.declared.locations.axes.Axis.{Axis}
 use Rattle.pdf_values.specs.declared.movement.Movement.{Movement as Given}
 
--- the normalized coordinates, in 16384ths; the axes, and settings of user coordinates, in 65536ths; and `MVAR`, if it is there
+-- the normalized coordinates, in 16384ths; the axes, and settings of user coordinates, in 65536ths; and `MVAR`, if it
+-- is there
 pub record Movement : Type 0 where
   pub at : List ℤ
   pub axes : List Axis
@@ -31,7 +32,8 @@ coordinate_on tag (Some m) = option_map (λ a. clamped a m.settings) (find_axis 
 -- what a metric varies by, in whole units; 0 where nothing is there to be read, or the font isn't moved
 abbrev pub delta_of : Option Movement → List ℕ → ℤ
 delta_of None tag = pos 0
-delta_of (Some m) tag = option_map_or (λ mvar. result_unwrap_or (whole_or_fault (metric_delta mvar m.at tag)) (pos 0)) m.mvar (pos 0)
+delta_of (Some m) tag =
+    option_map_or (λ mvar. result_unwrap_or (whole_or_fault (metric_delta mvar m.at tag)) (pos 0)) m.mvar (pos 0)
 
 -- a sum that a metric can be, else the metric
 abbrev pub if_small : ℤ → ℤ → ℤ

@@ -7,11 +7,16 @@ use Rattle.pdf_values.specs.declared.permission.Permission.{Permission}
 use Rattle.pdf_values.specs.declared.permission.Rights.{Rights}
 use Rattle.pdf_values.specs.declared.permission.Rights.TheVariants.{AsSaid, Held}
 use Rattle.pdf_values.specs.declared.permission.Usage.{Usage}
-use Rattle.pdf_values.specs.declared.permission.Usage.TheVariants.{Unsaid, Installable, Editable, PreviewAndPrint, Restricted}
+use Rattle.pdf_values.specs.declared.permission.Usage.TheVariants.{Unsaid, Installable, Editable, PreviewAndPrint}
+use Rattle.pdf_values.specs.declared.permission.Usage.TheVariants.{Restricted}
 
 -- bits 1 to 3 each name a usage; of several the freest counts, and with none a font is installable
 abbrev pub usage_of : ℕ → Usage
-usage_of n = if has_bit n 3 then Editable else if has_bit n 2 then PreviewAndPrint else if has_bit n 1 then Restricted else Installable
+usage_of n =
+    if has_bit n 3 then Editable
+    else if has_bit n 2 then PreviewAndPrint
+    else if has_bit n 1 then Restricted
+    else Installable
 
 -- versions 0 and 1 of `OS/2` assign bits 0 to 3 alone
 abbrev pub has_later_bits : Option (List ℕ) → Bool
@@ -19,7 +24,8 @@ has_later_bits os2 = option_map_or (nat_le 2) (version os2) false
 
 -- from version 2 on bit 8 forbids subsets, and bit 9 outlines
 abbrev pub permission_of : Bool → ℕ → Permission
-permission_of later n = record { usage = usage_of n; subsetting = not (later && has_bit n 8); outlines = not (later && has_bit n 9) }
+permission_of later n =
+    record { usage = usage_of n; subsetting = not (later && has_bit n 8); outlines = not (later && has_bit n 9) }
 
 -- a font that doesn't say forbids nothing
 abbrev pub unsaid : Permission

@@ -1,6 +1,7 @@
--- A charstring whose width says another advance (Technical Note 5176, section 15 "Private DICT Data"; Technical Note 5177, section 3.1 "Type 2
--- Charstring Organization").
-use Rattle.std.specs.Prelude.{ℕ, nat_lt, ◌&&◌, Bool, true, false, if◌then◌else◌, int_le, List, [], ◌++◌, Option, Some, None, option_map, ℤ, pos, negsuc, ◌+ℤ◌, ◌-ℤ◌}
+-- A charstring whose width says another advance (Technical Note 5176, section 15 "Private DICT Data"; Technical Note
+-- 5177, section 3.1 "Type 2 Charstring Organization").
+use Rattle.std.specs.Prelude.{ℕ, nat_lt, ◌&&◌, Bool, true, false, if◌then◌else◌, int_le, List, [], ◌++◌, Option, Some}
+use Rattle.std.specs.Prelude.{None, option_map, ℤ, pos, negsuc, ◌+ℤ◌, ◌-ℤ◌}
 use Rattle.std.specs.Ordering.{int_eq}
 use Rattle.subsetter_base.specs.Options.{◌>>=◌}
 use Rattle.subsetter_cffdata.specs.declared.numerals.charstring_number.CharStringNumber.{CharStringNumber}
@@ -30,7 +31,8 @@ difference nominal advance = nominal >>= λ n. short (pos advance -ℤ n)
 
 -- the width that says an advance: none for defaultWidthX, else the difference from nominalWidthX
 abbrev pub wanted : Defaults → ℕ → Option (Option CharStringNumber)
-wanted d advance = if is_advance (advance_of d None) advance then Some None else option_map Some (difference d.nominal advance)
+wanted d advance =
+    if is_advance (advance_of d None) advance then Some None else option_map Some (difference d.nominal advance)
 
 -- the stack holds 48 numbers (appendix B)
 abbrev pub has_room : Option CharStringNumber → ℕ → Bool
@@ -45,7 +47,8 @@ pub record Change : Type 0 where
 abbrev pub change_by : Defaults → ℕ → Opening → Option Change
 change_by d advance o =
     if is_advance (advance_of d o.width) advance then None
-    else (wanted d advance >>= λ width. if has_room width o.operands then Some (record { width = width; body = o.body }) else None)
+    else (wanted d advance >>= λ width. if has_room width o.operands then Some (record { width = width; body = o.body })
+    else None)
 
 -- none where the width says the advance, or no width can say it
 unfoldable pub change_of : Defaults → ℕ → List ℕ → Option Change

@@ -27,12 +27,17 @@ whole_or_zero (Some operands) = whole_of_one operands
 
 -- of the entries of a private dict the last of each operator counts
 unfoldable pub defaults_of : List Entry → Defaults
-defaults_of es = record { default = whole_or_zero (last_of default_width_operator es); nominal = whole_or_zero (last_of nominal_width_operator es) }
+defaults_of es =
+    record {
+      default = whole_or_zero (last_of default_width_operator es);
+      nominal = whole_or_zero (last_of nominal_width_operator es);
+    }
 
 -- by the numbers of font dicts
 abbrev pub defaults_by : Table → Option CIDMetadata → List Defaults
 defaults_by table None = defaults_of (private_view table.private).entries ∷ []
-defaults_by table (Some keyed) = map (λ (f : FontDict). defaults_of (private_view f.private).entries) keyed.font_dicts.items
+defaults_by table (Some keyed) =
+    map (λ (f : FontDict). defaults_of (private_view f.private).entries) keyed.font_dicts.items
 
 abbrev pub all_defaults : Table → List Defaults
 all_defaults table = defaults_by table table.cid

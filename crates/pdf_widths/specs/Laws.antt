@@ -1,5 +1,6 @@
 -- Laws of a table with other widths: each glyph draws as before, and its width is its advance.
-use Rattle.std.specs.Prelude.{◌≡◌, ℕ, suc, ◌%◌, ◌<◌, ◌≤◌, List, [], ◌∷◌, ◌++◌, length, slice_index, Option, Some, None, Ok, pos}
+use Rattle.std.specs.Prelude.{◌≡◌, ℕ, suc, ◌%◌, ◌<◌, ◌≤◌, List, [], ◌∷◌, ◌++◌, length, slice_index, Option, Some, None}
+use Rattle.std.specs.Prelude.{Ok, pos}
 use Rattle.std.specs.Option.{option_map_or}
 use Rattle.subsetter_cffdata.specs.declared.numerals.charstring_number.CharStringNumber.{CharStringNumber}
 use Rattle.subsetter_type2.specs.Runs.Machine.{Event, Library, Trace, trace}
@@ -27,11 +28,20 @@ pub record DifferInWidth (old new : Option CharStringNumber) (u v : Trace) : Typ
   pub left : List CharStringNumber
   -- the first operator is one that takes a width, and it has as many operands beside it as it takes, modulo 2
   pub takes : parity first ≡ Some (length operands % 2)
-  pub one : u ≡ record { events = record { operator = one_byte first; operands = number_list old ++ operands; mask = mask } ∷ events; left = left }
-  pub other : v ≡ record { events = record { operator = one_byte first; operands = number_list new ++ operands; mask = mask } ∷ events; left = left }
+  pub one : u
+      ≡ record {
+        events = record { operator = one_byte first; operands = number_list old ++ operands; mask = mask } ∷ events;
+        left = left;
+      }
+  pub other : v
+      ≡ record {
+        events = record { operator = one_byte first; operands = number_list new ++ operands; mask = mask } ∷ events;
+        left = left;
+      }
 
 -- a charstring becomes one with the same trace but for the width, in one token more, and the width says the advance
-pub record ChangesWidth (library : Library) (tokens depth : ℕ) (d : Defaults) (advance : ℕ) (c : Change) (u : Trace) : Type 0 where
+pub record ChangesWidth (library : Library) (tokens depth : ℕ) (d : Defaults) (advance : ℕ) (c : Change) (u : Trace)
+    : Type 0 where
   pub new : Trace
   pub new_is : trace library (suc tokens) depth (text c) ≡ Some new
   pub old_width : Option CharStringNumber
@@ -39,8 +49,10 @@ pub record ChangesWidth (library : Library) (tokens depth : ℕ) (d : Defaults) 
   pub says : advance_of d c.width ≡ Some (pos advance)
 
 abbrev pub TracesChangeWidths : Type 0
-TracesChangeWidths = (library : Library) (tokens depth : ℕ) (d : Defaults) (advance : ℕ) (charstring : List ℕ) (c : Change) (u : Trace)
-    → 1 ≤ depth → change_of d advance charstring ≡ Some c → trace library tokens depth charstring ≡ Some u → ChangesWidth library tokens depth d advance c u
+TracesChangeWidths =
+    (library : Library) (tokens depth : ℕ) (d : Defaults) (advance : ℕ) (charstring : List ℕ) (c : Change) (u : Trace)
+    → 1 ≤ depth → change_of d advance charstring ≡ Some c → trace library tokens depth charstring ≡ Some u
+    → ChangesWidth library tokens depth d advance c u
 
 -- ---- tables
 abbrev pub changed : Defaults → ℕ → List ℕ → List ℕ
@@ -65,5 +77,6 @@ pub record HaveWidths (advances old new : List ℕ) : Type 0 where
 
 -- of the table of a subset
 abbrev pub TablesChangeWidths : Type 0
-TablesChangeWidths = (source : List ℕ) (tokens depth : ℕ) (glyphs advances old new : List ℕ) → 1 ≤ length glyphs → length glyphs ≤ 65535
+TablesChangeWidths =
+    (source : List ℕ) (tokens depth : ℕ) (glyphs advances old new : List ℕ) → 1 ≤ length glyphs → length glyphs ≤ 65535
     → cff_subset source tokens depth glyphs ≡ Ok old → with_widths old advances ≡ Some new → HaveWidths advances old new

@@ -1,12 +1,14 @@
--- The width before a charstring: the operand more than its first operator takes (Technical Note 5177, section 3.1 "Type 2 Charstring
--- Organization" and section 4 "Charstring Operators").
-use Rattle.std.specs.Prelude.{ℕ, zero, suc, ◌+◌, ◌-◌, ◌%◌, ◌==◌, ◌||◌, if◌then◌else◌, List, [], ◌∷◌, Option, Some, None, option_map}
+-- The width before a charstring: the operand more than its first operator takes (Technical Note 5177, section 3.1 "Type
+-- 2 Charstring Organization" and section 4 "Charstring Operators").
+use Rattle.std.specs.Prelude.{ℕ, zero, suc, ◌+◌, ◌-◌, ◌%◌, ◌==◌, ◌||◌, if◌then◌else◌, List, [], ◌∷◌, Option, Some, None}
+use Rattle.std.specs.Prelude.{option_map}
 use Rattle.subsetter_base.specs.Options.{◌>>=◌}
 use Rattle.subsetter_cffdata.specs.declared.numerals.charstring_number.CharStringNumber.{CharStringNumber}
 use Rattle.subsetter_cffdata.specs.Numerals.CharStringNumber.{number_at}
 use Rattle.subsetter_type2.specs.Token.{one_byte_effect}
 use Rattle.subsetter_type2.specs.declared.token.Effect.{Effect}
-use Rattle.subsetter_type2.specs.declared.token.Effect.TheVariants.{CountsStems, Draws, CallsLocal, CallsGlobal, Returns, Ends, Masks}
+use Rattle.subsetter_type2.specs.declared.token.Effect.TheVariants.{CountsStems, Draws, CallsLocal, CallsGlobal}
+use Rattle.subsetter_type2.specs.declared.token.Effect.TheVariants.{Returns, Ends, Masks}
 use Rattle.pdf_widths.specs.declared.opening.FirstOperator.{FirstOperator}
 
 -- ---- the first operator
@@ -15,14 +17,16 @@ operator_at operands [] = None
 operator_at operands (b ∷ bytes) = Some (record { operands = operands; operator = b })
 
 -- here, where no number is at the front, else after it
-abbrev pub here_or_after : Option FirstOperator → (List ℕ → Option FirstOperator) → Option (CharStringNumber × List ℕ) → Option FirstOperator
+abbrev pub here_or_after : Option FirstOperator → (List ℕ → Option FirstOperator) → Option (CharStringNumber × List ℕ)
+    → Option FirstOperator
 here_or_after here following None = here
 here_or_after here following (Some r) = following r.1
 
--- after so many numbers, and fewer than so many more
+-- the first operator, after `operands` numbers, and fewer than n more
 unfoldable pub first_operator : ℕ → ℕ → List ℕ → Option FirstOperator
 first_operator zero operands bytes = None
-first_operator (suc left) operands bytes = here_or_after (operator_at operands bytes) (first_operator left (operands + 1)) (number_at bytes)
+first_operator (suc left) operands bytes =
+    here_or_after (operator_at operands bytes) (first_operator left (operands + 1)) (number_at bytes)
 
 -- of operators that draw, rmoveto takes two operands, and vmoveto and hmoveto one; a path begins with no other one
 abbrev pub move_parity : ℕ → Option ℕ

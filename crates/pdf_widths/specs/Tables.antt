@@ -1,5 +1,6 @@
 -- A `CFF ` table whose charstrings say other advances (Technical Note 5176, section 14 "CharStrings INDEX").
-use Rattle.std.specs.Prelude.{ℕ, ◌+◌, ◌^◌, ◌==◌, ◌&&◌, ◌||◌, nat_lt, Bool, false, if◌then◌else◌, List, [], ◌∷◌, ◌++◌, length, take, is_some, Option, Some, None, option_map}
+use Rattle.std.specs.Prelude.{ℕ, ◌+◌, ◌^◌, ◌==◌, ◌&&◌, ◌||◌, nat_lt, Bool, false, if◌then◌else◌, List, [], ◌∷◌, ◌++◌}
+use Rattle.std.specs.Prelude.{length, take, is_some, Option, Some, None, option_map}
 use Rattle.std.specs.List.{concat}
 use Rattle.std.specs.Option.{option_map_or, option_or}
 use Rattle.std.specs.Result.{result_ok}
@@ -45,7 +46,10 @@ front cff = last_of char_strings_operator cff.top >>= offset_operand >>= λ offs
 
 -- an INDEX has fewer than 65536 items, and offsets of 32 bits
 abbrev pub laid_out : List ℕ → List (List ℕ) → Option (List ℕ)
-laid_out front charstrings = if nat_lt (length charstrings) 65536 && nat_lt (length (concat charstrings) + 1) (2 ^ 32) then Some (front ++ index charstrings) else None
+laid_out front charstrings =
+    if nat_lt (length charstrings) 65536 && nat_lt (length (concat charstrings) + 1) (2 ^ 32)
+    then Some (front ++ index charstrings)
+    else None
 
 unfoldable pub rebuilt : Cff → List ℕ → Option (List ℕ)
 rebuilt cff advances = do
@@ -55,11 +59,13 @@ rebuilt cff advances = do
 
 -- there are as many charstrings as advances
 abbrev pub are_as_many : Cff → List ℕ → Bool
-are_as_many cff advances = (option_map_or length (char_strings cff) 0 == length advances) && nat_lt (length advances) 65536
+are_as_many cff advances =
+    (option_map_or length (char_strings cff) 0 == length advances) && nat_lt (length advances) 65536
 
 -- and one of them becomes another one
 abbrev pub with_widths_of : Cff → List ℕ → Option (List ℕ)
-with_widths_of cff advances = if are_as_many cff advances && differs_from cff 0 advances then rebuilt cff advances else None
+with_widths_of cff advances =
+    if are_as_many cff advances && differs_from cff 0 advances then rebuilt cff advances else None
 
 -- of a table whose CharStrings INDEX is at its end; none where no charstring becomes another one
 unfoldable pub with_widths : List ℕ → List ℕ → Option (List ℕ)

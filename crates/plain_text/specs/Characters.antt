@@ -11,7 +11,9 @@ is_separator c = c == 0x2028 || c == 0x2029
 
 -- Bidi_Control
 abbrev pub is_direction : ℕ → Bool
-is_direction c = (c == 0x061C || (nat_le 0x200E c && nat_le c 0x200F)) || ((nat_le 0x202A c && nat_le c 0x202E) || (nat_le 0x2066 c && nat_le c 0x2069))
+is_direction c =
+    (c == 0x061C || (nat_le 0x200E c && nat_le c 0x200F))
+    || ((nat_le 0x202A c && nat_le c 0x202E) || (nat_le 0x2066 c && nat_le c 0x2069))
 
 abbrev pub is_plain : ℕ → Bool
 is_plain c = not (is_control c || (is_separator c || is_direction c))

@@ -1,5 +1,7 @@
--- The arguments, read from left to right: the plain form `[OPTIONS] IN OUT INDEX [GID[,GID..]]`, else IN with options before and after it.
-use Rattle.std.specs.Prelude.{ℕ, Bool, true, false, not, ◌&&◌, ◌||◌, ◌==◌, nat_lt, if◌then◌else◌, List, [], ◌∷◌, length, slice_index, Option, Some, None, codes, is_some, Result, Ok, Err, unwrap_or}
+-- The arguments, read from left to right: the plain form `[OPTIONS] IN OUT INDEX [GID[,GID..]]`, else IN with options
+-- before and after it.
+use Rattle.std.specs.Prelude.{ℕ, Bool, true, false, not, ◌&&◌, ◌||◌, ◌==◌, nat_lt, if◌then◌else◌, List, [], ◌∷◌, length}
+use Rattle.std.specs.Prelude.{slice_index, Option, Some, None, codes, is_some, Result, Ok, Err, unwrap_or}
 use Rattle.std.specs.Option.{option_map, option_or}
 use Rattle.std.specs.List.{before_first, after_first}
 use Rattle.std.specs.Char.{is_ascii_digit}
@@ -13,16 +15,21 @@ use Rattle.subset_args.specs.Options.{Choice, setting_of, kind_of, with_switch, 
 use Rattle.subset_args.specs.declared.jobs.command.Topic.{Topic}
 use Rattle.subset_args.specs.declared.jobs.command.Topic.TheVariants.{Axes, Info}
 use Rattle.subset_args.specs.declared.mistakes.Wrong.{Wrong}
-use Rattle.subset_args.specs.declared.mistakes.Wrong.TheVariants.{NoInput, NoOutput, NoIndex, NoGlyphs, Further, Late, ShownLate, BatchLate, Unknown, NoValue, BesideOption, Index, Glyph, BesideInput, NoSource, NoPdf, OutputTwice}
+use Rattle.subset_args.specs.declared.mistakes.Wrong.TheVariants.{NoInput, NoOutput, NoIndex, NoGlyphs, Further, Late}
+use Rattle.subset_args.specs.declared.mistakes.Wrong.TheVariants.{ShownLate, BatchLate, Unknown, NoValue, BesideOption}
+use Rattle.subset_args.specs.declared.mistakes.Wrong.TheVariants.{Index, Glyph, BesideInput, NoSource, NoPdf}
+use Rattle.subset_args.specs.declared.mistakes.Wrong.TheVariants.{OutputTwice}
 use Rattle.subset_args.specs.declared.options.names.Setting.{Setting}
 use Rattle.subset_args.specs.declared.options.names.Kind.{Kind}
-use Rattle.subset_args.specs.declared.options.names.Kind.TheVariants.{Switch as IsSwitch, Setting as IsSetting, Help, Version, End, Place}
+use Rattle.subset_args.specs.declared.options.names.Kind.TheVariants.{Switch as IsSwitch, Setting as IsSetting, Help}
+use Rattle.subset_args.specs.declared.options.names.Kind.TheVariants.{Version, End, Place}
 
 -- ---- words
 
 -- what a first argument shows, if it is `--axes` or `--info`
 abbrev pub topic_of : List ℕ → Option Topic
-topic_of word = if bytes_eq word (codes "--axes") then Some Axes else (if bytes_eq word (codes "--info") then Some Info else None)
+topic_of word =
+    if bytes_eq word (codes "--axes") then Some Axes else (if bytes_eq word (codes "--info") then Some Info else None)
 
 -- whether the first argument is `--batch`
 abbrev pub is_batch : List ℕ → Bool
@@ -44,7 +51,12 @@ long_setting word = if bytes_eq word (codes "-o") then None else setting_of word
 
 -- an option and its value in one word, `--name=value`
 abbrev pub joined : List ℕ → Option Given
-joined word = if has_byte is_equals word then option_map (λ s. record { setting = s; word = before_first is_equals word; value = after_first is_equals word }) (long_setting (before_first is_equals word)) else None
+joined word =
+    if has_byte is_equals word
+    then option_map (λ s.
+    record { setting = s; word = before_first is_equals word; value = after_first is_equals word })
+    (long_setting (before_first is_equals word))
+    else None
 
 -- `--axes`, `--info` and `--batch` come first
 abbrev pub not_first : List ℕ → Option Wrong
@@ -80,7 +92,8 @@ wrong_pdf choice output = elim choice.pdf [ Some file ↦ wrong_file output file
 
 -- ---- the plain form
 
--- what is requested, in either form: IN, OUT if it is given, INDEX, and the list of glyphs that is an argument of its own
+-- what is requested, in either form: IN, OUT if it is given, INDEX, and the list of glyphs that is an argument of its
+-- own
 pub record Asked : Type 0 where
   pub choice : Choice
   pub input : List ℕ
@@ -115,21 +128,27 @@ listed_after true (other ∷ word ∷ words) = refused Further word
 
 -- IN, OUT and INDEX, and what is after them
 abbrev pub plain_with : Choice → List ℕ → List ℕ → ℕ → List (List ℕ) → Result Asked Fault
-plain_with choice input output index words = listed_after (are_given choice) words >>= λ listed. unless (wrong_pdf choice (Some output)) (Ok (record { choice = choice; input = input; output = Some output; index = index; listed = listed }))
+plain_with choice input output index words =
+    listed_after (are_given choice) words
+    >>= λ listed. unless (wrong_pdf choice (Some output))
+    (Ok (record { choice = choice; input = input; output = Some output; index = index; listed = listed }))
 
 abbrev pub plain_at : Choice → List ℕ → List ℕ → List (List ℕ) → Result Asked Fault
 plain_at choice input output [] = refused NoIndex []
-plain_at choice input output (index ∷ words) = or_refused Index index (number_in_bits 32 index) >>= λ i. plain_with choice input output i words
+plain_at choice input output (index ∷ words) =
+    or_refused Index index (number_in_bits 32 index) >>= λ i. plain_with choice input output i words
 
 -- the arguments from IN on, in the plain form
 unfoldable pub plain : Choice → List (List ℕ) → Result Asked Fault
 plain choice [] = refused NoInput []
 plain choice (input ∷ []) = refused NoOutput []
-plain choice (input ∷ output ∷ words) = if names_position choice then refused BesideInput output else plain_at choice input output words
+plain choice (input ∷ output ∷ words) =
+    if names_position choice then refused BesideInput output else plain_at choice input output words
 
 -- ---- options
 
--- what the options before arguments that are none say: that help or the version is wanted, or what is chosen, and whether `--` is before these arguments
+-- what the options before arguments that are none say: that help or the version is wanted, or what is chosen, and
+-- whether `--` is before these arguments
 pub data Options : Type 0 where
   helped : Options
   versioned : Options
@@ -143,10 +162,12 @@ joined_at choice is_after word words = if not is_after && is_ok (plain choice wo
 abbrev pub unless_after : Bool → List ℕ → Options → Result Options Fault
 unless_after is_after word options = if is_after then refused Late word else Ok options
 
--- the options before IN, or after it, besides what is chosen already; where an option is before them, the first argument is its value
+-- the options before IN, or after it, besides what is chosen already; where an option is before them, the first
+-- argument is its value
 abbrev pub parsed : Option (Setting × List ℕ) → Choice → Bool → List (List ℕ) → Result Options Fault
 parsed (Some option) choice is_after [] = refused NoValue option.1
-parsed (Some option) choice is_after (value ∷ words) = with_setting option.0 option.1 value choice >>= λ more. parsed None more is_after words
+parsed (Some option) choice is_after (value ∷ words) =
+    with_setting option.0 option.1 value choice >>= λ more. parsed None more is_after words
 parsed None choice is_after [] = Ok (chosen choice false [])
 parsed None choice is_after (word ∷ words) = elim (kind_of word) [
   | IsSwitch switch ↦ with_switch switch word choice >>= λ more. parsed None more is_after words
@@ -170,7 +191,8 @@ abbrev pub free : Choice → List ℕ → Result Asked Fault
 free choice input =
     if not (has_output choice) then refused NoOutput []
     else if not (are_given choice) then refused NoSource []
-    else Ok (record { choice = choice; input = input; output = choice.output; index = unwrap_or choice.index 0; listed = None })
+    else Ok
+    (record { choice = choice; input = input; output = choice.output; index = unwrap_or choice.index 0; listed = None })
 
 -- ---- what is wrong where neither form is right
 
@@ -190,26 +212,35 @@ wrong_after word = if is_option (kind_of word) || is_some (joined word) then Som
 -- the first of these
 abbrev pub first_late : List (List ℕ) → Option Fault
 first_late [] = None
-first_late (word ∷ words) = elim (wrong_after word) [ Some wrong ↦ Some (record { wrong = wrong; word = word }) | None ↦ first_late words ]
+first_late (word ∷ words) =
+    elim (wrong_after word) [ Some wrong ↦ Some (record { wrong = wrong; word = word }) | None ↦ first_late words ]
 
 -- whether an argument says OUT or INDEX, as `-o`, `-oFILE` or `--face-index=0`
 abbrev pub says_position : List ℕ → Bool
-says_position word = bytes_eq (front word) (codes "--output-file") || (bytes_eq (front word) (codes "--face-index") || (nat_lt 1 (length word) && (slice_index word 0 == 45 && slice_index word 1 == 111)))
+says_position word =
+    bytes_eq (front word) (codes "--output-file")
+    || (bytes_eq (front word) (codes "--face-index")
+    || (nat_lt 1 (length word) && (slice_index word 0 == 45 && slice_index word 1 == 111)))
 
 abbrev pub say_position : List (List ℕ) → Bool
 say_position [] = false
 say_position (word ∷ words) = says_position word || say_position words
 
--- a second argument is beside IN: an option says OUT or INDEX; or else the plain form is meant, which is wrong so, or has an option after IN
+-- a second argument is beside IN: an option says OUT or INDEX; or else the plain form is meant, which is wrong so, or
+-- has an option after IN
 abbrev pub beside_input : Fault → Choice → List (List ℕ) → List ℕ → List (List ℕ) → Fault
-beside_input fault choice following word words = if names_position choice || say_position words then record { wrong = BesideInput; word = word } else unwrap_or (first_late following) fault
+beside_input fault choice following word words =
+    if names_position choice || say_position words then record { wrong = BesideInput; word = word }
+    else unwrap_or (first_late following) fault
 
 -- what is wrong with an argument in the place of IN or after it, by itself: none where it is after `--`
 abbrev pub wrong_at : Bool → List ℕ → Option Wrong
 wrong_at is_ended word = if is_ended then None else wrong_place word
 
 abbrev pub second : Fault → Choice → Bool → List (List ℕ) → List ℕ → List (List ℕ) → Fault
-second fault choice is_ended following word words = elim (wrong_at is_ended word) [ Some wrong ↦ record { wrong = wrong; word = word } | None ↦ beside_input fault choice following word words ]
+second fault choice is_ended following word words =
+    elim (wrong_at is_ended word)
+    [ Some wrong ↦ record { wrong = wrong; word = word } | None ↦ beside_input fault choice following word words ]
 
 -- ---- both forms
 
@@ -231,8 +262,11 @@ parsed_after choice is_ended words = if is_ended then Ok (chosen choice true wor
 -- the arguments from IN on, where they aren't of the plain form
 abbrev pub from_input : Fault → Choice → Bool → List (List ℕ) → Result Asked Fault
 from_input fault choice is_ended [] = Err fault
-from_input fault choice is_ended (input ∷ words) = elim (wrong_at is_ended input) [ Some wrong ↦ refused wrong input | None ↦ parsed_after choice is_ended words >>= alone fault input words ]
+from_input fault choice is_ended (input ∷ words) =
+    elim (wrong_at is_ended input)
+    [ Some wrong ↦ refused wrong input | None ↦ parsed_after choice is_ended words >>= alone fault input words ]
 
 -- the arguments from IN on
 unfoldable pub asked : Choice → Bool → List (List ℕ) → Result Asked Fault
-asked choice is_ended words = elim (plain choice words) [ Ok found ↦ Ok found | Err fault ↦ from_input fault choice is_ended words ]
+asked choice is_ended words =
+    elim (plain choice words) [ Ok found ↦ Ok found | Err fault ↦ from_input fault choice is_ended words ]

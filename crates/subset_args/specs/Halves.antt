@@ -9,7 +9,11 @@ halves d = record { count = d.count * 131072 / d.parts; more = not (d.count * 13
 
 -- one more digit, in front
 abbrev pub after_digit : ℕ → Halves → Halves
-after_digit b h = record { count = ((b - 48) * 131072 + h.count) / 10; more = h.more || not (((b - 48) * 131072 + h.count) % 10 == 0) }
+after_digit b h =
+    record {
+      count = ((b - 48) * 131072 + h.count) / 10;
+      more = h.more || not (((b - 48) * 131072 + h.count) % 10 == 0);
+    }
 
 -- those of the digits after a point
 abbrev pub halves_after : List ℕ → Halves

@@ -32,7 +32,7 @@ abbrev pub unless : {A : Type 0} → Option Fault → Result A Fault → Result 
 unless None more = more
 unless (Some fault) more = Err fault
 
--- ---- what the code answers
+-- ---- what the code returns
 
 abbrev pub fault_view : Mistake → Fault
 fault_view m = record { wrong = m.wrong; word = m.word.now }
@@ -46,7 +46,7 @@ abbrev pub Fails : {Y : Type 0} → Unread → Result Y Fault → Type 0
 Fails unread.OutOfMemory read = Unit {0}
 Fails (unread.Mistake m) read = read ≡ Err (fault_view m)
 
--- what is answered, seen by view, is what the reading gives, unless memory ran out
+-- the result, seen by view, is what the reading gives, unless memory ran out
 abbrev pub Gives : {X Y : Type 0} → (X → Y) → Result X Unread → Result Y Fault → Type 0
 Gives view (Ok x) read = read ≡ Ok (view x)
 Gives view (Err e) read = Fails e read

@@ -1,5 +1,6 @@
 -- The options, and what they choose.
-use Rattle.std.specs.Prelude.{Bool, true, false, if◌then◌else◌, ℕ, ◌==◌, ◌||◌, nat_lt, List, [], ◌∷◌, ◌++◌, length, Option, Some, None, Result, Ok, codes, is_some}
+use Rattle.std.specs.Prelude.{Bool, true, false, if◌then◌else◌, ℕ, ◌==◌, ◌||◌, nat_lt, List, [], ◌∷◌, ◌++◌, length}
+use Rattle.std.specs.Prelude.{Option, Some, None, Result, Ok, codes, is_some}
 use Rattle.std.specs.Str.{bytes_eq}
 use Rattle.subset_args.specs.Words.{number_in_bits}
 use Rattle.subset_args.specs.Limits.{Bounds, limits_in}
@@ -8,16 +9,23 @@ use Rattle.subset_args.specs.Mistakes.{Fault, refused, or_refused, ◌>>=◌}
 use Rattle.subset_args.specs.declared.mistakes.Wrong.TheVariants as wrong
 use Rattle.subset_args.specs.declared.mistakes.Wrong.TheVariants.{Twice}
 use Rattle.subset_args.specs.declared.options.names.Switch.{Switch}
-use Rattle.subset_args.specs.declared.options.names.Switch.TheVariants.{Widths, NoHinting, NoNames, NoGlyphNames, Small, Json, Quiet, Verbose, Vertical, Strict, AllowBlank}
+use Rattle.subset_args.specs.declared.options.names.Switch.TheVariants.{Widths, NoHinting, NoNames, NoGlyphNames, Small}
+use Rattle.subset_args.specs.declared.options.names.Switch.TheVariants.{Json, Quiet, Verbose, Vertical, Strict}
+use Rattle.subset_args.specs.declared.options.names.Switch.TheVariants.{AllowBlank}
 use Rattle.subset_args.specs.declared.options.names.Setting.{Setting}
-use Rattle.subset_args.specs.declared.options.names.Setting.TheVariants.{Limits, GidsFile, Text, At, Gids, FaceIndex, Output, TextFile, Unicodes, UnicodesFile, Pdf, Codes, Rights, MostInput}
+use Rattle.subset_args.specs.declared.options.names.Setting.TheVariants.{Limits, GidsFile, Text, At, Gids, FaceIndex}
+use Rattle.subset_args.specs.declared.options.names.Setting.TheVariants.{Output, TextFile, Unicodes, UnicodesFile, Pdf}
+use Rattle.subset_args.specs.declared.options.names.Setting.TheVariants.{Codes, Rights, MostInput}
 use Rattle.subset_args.specs.declared.options.names.Coding.{Coding}
-use Rattle.subset_args.specs.declared.options.names.Coding.TheVariants.{Consecutive, Source as InSource, Text as EachText}
+use Rattle.subset_args.specs.declared.options.names.Coding.TheVariants.{Consecutive, Source as InSource}
+use Rattle.subset_args.specs.declared.options.names.Coding.TheVariants.{Text as EachText}
 use Rattle.subset_args.specs.declared.options.names.Kind.{Kind}
-use Rattle.subset_args.specs.declared.options.names.Kind.TheVariants.{Switch as IsSwitch, Setting as IsSetting, Help, Version, End, Place}
+use Rattle.subset_args.specs.declared.options.names.Kind.TheVariants.{Switch as IsSwitch, Setting as IsSetting, Help}
+use Rattle.subset_args.specs.declared.options.names.Kind.TheVariants.{Version, End, Place}
 use Rattle.subset_args.specs.declared.options.chosen.Switches.{Switches}
 use Rattle.subset_args.specs.declared.listing.lists.FileKind.{FileKind}
-use Rattle.subset_args.specs.declared.listing.lists.FileKind.TheVariants.{Glyphs as OfGlyphs, Characters as OfCharacters, Text as OfText}
+use Rattle.subset_args.specs.declared.listing.lists.FileKind.TheVariants.{Glyphs as OfGlyphs}
+use Rattle.subset_args.specs.declared.listing.lists.FileKind.TheVariants.{Characters as OfCharacters, Text as OfText}
 
 -- the option without a value that an argument is
 abbrev pub switch_of : List ℕ → Option Switch
@@ -101,7 +109,8 @@ switched_on Vertical all = record all { vertical = true }
 switched_on Strict all = record all { strict = true }
 switched_on AllowBlank all = record all { allow_blank = true }
 
--- where the glyphs are found that an option requests: in a file, by the characters of a text, or in a list of glyphs or of characters
+-- where the glyphs are found that an option requests: in a file, by the characters of a text, or in a list of glyphs or
+-- of characters
 pub data GlyphSource : Type 0 where
   in_file : FileKind → List ℕ → GlyphSource
   by_text : List ℕ → GlyphSource
@@ -145,11 +154,37 @@ pub record Choice : Type 0 where
 
 -- nothing
 abbrev pub no_choice : Choice
-no_choice = record { switches = record { widths = false; no_hinting = false; no_names = false; no_glyph_names = false; small = false; json = false; quiet = false; verbose = false; vertical = false; strict = false; allow_blank = false }; limits = None; sources = []; at = None; output = None; index = None; most_input = None; pdf = None; coding = None; is_held = false }
+no_choice =
+    record {
+      switches = record {
+        widths = false;
+        no_hinting = false;
+        no_names = false;
+        no_glyph_names = false;
+        small = false;
+        json = false;
+        quiet = false;
+        verbose = false;
+        vertical = false;
+        strict = false;
+        allow_blank = false;
+      };
+      limits = None;
+      sources = [];
+      at = None;
+      output = None;
+      index = None;
+      most_input = None;
+      pdf = None;
+      coding = None;
+      is_held = false;
+    }
 
 -- with an option without a value
 abbrev pub with_switch : Switch → List ℕ → Choice → Result Choice Fault
-with_switch switch word choice = if is_on switch choice.switches then refused Twice word else Ok (record choice { switches = switched_on switch choice.switches })
+with_switch switch word choice =
+    if is_on switch choice.switches then refused Twice word
+    else Ok (record choice { switches = switched_on switch choice.switches })
 
 -- how the glyphs of a PDF get codes
 abbrev pub coding_in : List ℕ → Option Coding
@@ -168,21 +203,33 @@ once given word more = if given then refused Twice word else more
 
 -- with a further place where glyphs are found
 abbrev pub with_source : List ℕ → GlyphSource → Choice → Result Choice Fault
-with_source word source choice = or_refused Twice word (option_map (λ sources. record choice { sources = sources }) (with_more source choice.sources))
+with_source word source choice =
+    or_refused Twice word
+    (option_map (λ sources. record choice { sources = sources }) (with_more source choice.sources))
 
 -- with an option and its value
 abbrev pub with_setting : Setting → List ℕ → List ℕ → Choice → Result Choice Fault
-with_setting Limits word value choice = once (is_some choice.limits) word (or_refused wrong.Limits value (limits_in value) >>= λ limits. Ok (record choice { limits = Some limits }))
+with_setting Limits word value choice =
+    once (is_some choice.limits) word
+    (or_refused wrong.Limits value (limits_in value) >>= λ limits. Ok (record choice { limits = Some limits }))
 with_setting GidsFile word value choice = with_source word (in_file OfGlyphs value) choice
 with_setting Text word value choice = with_source word (by_text value) choice
 with_setting At word value choice = once (is_some choice.at) word (Ok (record choice { at = Some value }))
 with_setting Gids word value choice = with_source word (in_list value) choice
-with_setting FaceIndex word value choice = once (is_some choice.index) word (or_refused wrong.FaceIndex value (number_in_bits 32 value) >>= λ index. Ok (record choice { index = Some index }))
+with_setting FaceIndex word value choice =
+    once (is_some choice.index) word
+    (or_refused wrong.FaceIndex value (number_in_bits 32 value) >>= λ index. Ok (record choice { index = Some index }))
 with_setting Output word value choice = once (is_some choice.output) word (Ok (record choice { output = Some value }))
 with_setting TextFile word value choice = with_source word (in_file OfText value) choice
 with_setting Unicodes word value choice = with_source word (in_codes value) choice
 with_setting UnicodesFile word value choice = with_source word (in_file OfCharacters value) choice
 with_setting Pdf word value choice = once (is_some choice.pdf) word (Ok (record choice { pdf = Some value }))
-with_setting Codes word value choice = once (is_some choice.coding) word (or_refused wrong.Coding value (coding_in value) >>= λ coding. Ok (record choice { coding = Some coding }))
-with_setting Rights word value choice = once choice.is_held word (if holds_rights value then Ok (record choice { is_held = true }) else refused wrong.Rights value)
-with_setting MostInput word value choice = once (is_some choice.most_input) word (or_refused wrong.MostInput value (number_in_bits 32 value) >>= λ most. Ok (record choice { most_input = Some most }))
+with_setting Codes word value choice =
+    once (is_some choice.coding) word
+    (or_refused wrong.Coding value (coding_in value) >>= λ coding. Ok (record choice { coding = Some coding }))
+with_setting Rights word value choice =
+    once choice.is_held word
+    (if holds_rights value then Ok (record choice { is_held = true }) else refused wrong.Rights value)
+with_setting MostInput word value choice =
+    once (is_some choice.most_input) word (or_refused wrong.MostInput value (number_in_bits 32 value)
+    >>= λ most. Ok (record choice { most_input = Some most }))

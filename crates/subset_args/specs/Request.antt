@@ -1,12 +1,14 @@
 -- What the arguments after the program's name ask for, or what is wrong with them first.
-use Rattle.std.specs.Prelude.{ℕ, ℤ, Bool, true, false, not, nat_lt, ◌&&◌, ◌||◌, ◌==◌, if◌then◌else◌, List, [], ◌∷◌, map, length, Option, Some, None, codes, is_some, Result, Ok, Err}
+use Rattle.std.specs.Prelude.{ℕ, ℤ, Bool, true, false, not, nat_lt, ◌&&◌, ◌||◌, ◌==◌, if◌then◌else◌, List, [], ◌∷◌, map}
+use Rattle.std.specs.Prelude.{length, Option, Some, None, codes, is_some, Result, Ok, Err}
 use Rattle.std.specs.Option.{option_map, option_and_then}
 use Rattle.std.specs.List.{slice_split}
 use Rattle.std.specs.Str.{bytes_eq}
 use Rattle.subset_args.specs.Words.{number_in_bits}
 use Rattle.subsetter_base.specs.declared.tag.Tag.{Tag}
 use Rattle.subset_args.specs.Coordinates.{has_byte, is_equals, coordinates_in}
-use Rattle.subset_args.specs.Forms.{Asked, Options, helped, versioned, chosen, looks_like_option, topic_of, is_batch, is_option, wrong_pdf, parsed, asked}
+use Rattle.subset_args.specs.Forms.{Asked, Options, helped, versioned, chosen, looks_like_option, topic_of, is_batch}
+use Rattle.subset_args.specs.Forms.{is_option, wrong_pdf, parsed, asked}
 use Rattle.subset_args.specs.Limits.{Bounds}
 use Rattle.subset_args.specs.Listing.Lists.{FileList, every, these, characters, text_of, argument_list}
 use Rattle.subset_args.specs.Listing.Characters.{argument_characters}
@@ -14,9 +16,11 @@ use Rattle.subset_args.specs.Listing.Wrong.{list_fault}
 use Rattle.subset_args.specs.Mistakes.{Fault, refused, or_fault, unless, ◌>>=◌}
 use Rattle.subset_args.specs.Options.{GlyphSource, in_file, by_text, in_list, in_codes, Choice, kind_of, no_choice}
 use Rattle.subset_args.specs.declared.listing.lists.FileKind.{FileKind}
-use Rattle.subset_args.specs.declared.listing.lists.FileKind.TheVariants.{Glyphs as OfGlyphs, Characters as OfCharacters, Text as OfText}
+use Rattle.subset_args.specs.declared.listing.lists.FileKind.TheVariants.{Glyphs as OfGlyphs}
+use Rattle.subset_args.specs.declared.listing.lists.FileKind.TheVariants.{Characters as OfCharacters, Text as OfText}
 use Rattle.subset_args.specs.declared.listing.wrong.Listing.TheVariants.{Numbers, Glyphs, Codes, Coordinates}
-use Rattle.subset_args.specs.declared.mistakes.Wrong.TheVariants.{NoInput, NoGlyphs, InputTwice, Unknown, AfterShown, Index, NoBatchFile, AfterBatch}
+use Rattle.subset_args.specs.declared.mistakes.Wrong.TheVariants.{NoInput, NoGlyphs, InputTwice, Unknown, AfterShown}
+use Rattle.subset_args.specs.declared.mistakes.Wrong.TheVariants.{Index, NoBatchFile, AfterBatch}
 use Rattle.subset_args.specs.declared.options.chosen.PdfChoice.{PdfChoice}
 use Rattle.subset_args.specs.declared.options.chosen.Switches.{Switches}
 use Rattle.subset_args.specs.declared.jobs.command.Topic.{Topic}
@@ -99,11 +103,13 @@ requested_by (in_codes text) = or_fault (list_fault Codes text) (option_map of_l
 -- those of each option, in order
 abbrev pub each_requested : List GlyphSource → Result (List RequestedGlyphs) Fault
 each_requested [] = Ok []
-each_requested (source ∷ sources) = requested_by source >>= λ glyphs. each_requested sources >>= λ more. Ok (glyphs ∷ more)
+each_requested (source ∷ sources) =
+    requested_by source >>= λ glyphs. each_requested sources >>= λ more. Ok (glyphs ∷ more)
 
 -- which glyphs are asked for: those that an argument lists, or those of the options, one after another
 abbrev pub requested : Option (List ℕ) → List GlyphSource → Result (List RequestedGlyphs) Fault
-requested (Some list) sources = or_fault (list_fault Numbers list) (option_map (λ glyphs. listed glyphs ∷ []) (glyph_list list))
+requested (Some list) sources =
+    or_fault (list_fault Numbers list) (option_map (λ glyphs. listed glyphs ∷ []) (glyph_list list))
 requested None [] = refused NoGlyphs []
 requested None (source ∷ sources) = each_requested (source ∷ sources)
 
@@ -142,7 +148,8 @@ stream_kind (in_codes text) = None
 abbrev pub wrong_stream : Bool → List GlyphSource → Option Fault
 wrong_stream is_taken [] = None
 wrong_stream is_taken (source ∷ sources) = elim (stream_kind source) [
-  | Some kind ↦ if is_taken then Some (record { wrong = InputTwice; word = file_option kind }) else wrong_stream true sources
+  | Some kind ↦ if is_taken then Some (record { wrong = InputTwice; word = file_option kind })
+      else wrong_stream true sources
   | None ↦ wrong_stream is_taken sources
 ]
 
@@ -155,7 +162,13 @@ position_option (Some text) = or_fault (list_fault Coordinates text) (option_map
 
 -- how it is made
 abbrev pub pdf_choice : Choice → PdfChoice
-pdf_choice choice = record { vertical = choice.switches.vertical; coding = choice.coding; is_held = choice.is_held; allow_blank = choice.switches.allow_blank }
+pdf_choice choice =
+    record {
+      vertical = choice.switches.vertical;
+      coding = choice.coding;
+      is_held = choice.is_held;
+      allow_blank = choice.switches.allow_blank;
+    }
 
 abbrev pub pdf_of : Choice → Option PdfRequest
 pdf_of choice = option_map (λ file. record { file = file; choice = pdf_choice choice }) choice.pdf
@@ -163,15 +176,29 @@ pdf_of choice = option_map (λ file. record { file = file; choice = pdf_choice c
 -- ---- what is requested
 
 abbrev pub request_with : Asked → List RequestedGlyphs → Option Position → Request
-request_with a glyphs at = record { switches = a.choice.switches; limits = a.choice.limits; input = a.input; output = a.output; index = a.index; most_input = a.choice.most_input; glyphs = glyphs; position = at; pdf = pdf_of a.choice; by_option = not (is_some a.listed) }
+request_with a glyphs at =
+    record {
+      switches = a.choice.switches;
+      limits = a.choice.limits;
+      input = a.input;
+      output = a.output;
+      index = a.index;
+      most_input = a.choice.most_input;
+      glyphs = glyphs;
+      position = at;
+      pdf = pdf_of a.choice;
+      by_option = not (is_some a.listed);
+    }
 
 -- where no file is written twice
 abbrev pub request_at : Asked → List RequestedGlyphs → Result Request Fault
-request_at a glyphs = position_option a.choice.at >>= λ at. unless (wrong_pdf a.choice a.output) (Ok (request_with a glyphs at))
+request_at a glyphs =
+    position_option a.choice.at >>= λ at. unless (wrong_pdf a.choice a.output) (Ok (request_with a glyphs at))
 
 -- and standard input isn't read twice
 unfoldable pub request_of : Asked → Result Request Fault
-request_of a = unless (wrong_stream (is_stream a.input) a.choice.sources) (requested a.listed a.choice.sources >>= request_at a)
+request_of a =
+    unless (wrong_stream (is_stream a.input) a.choice.sources) (requested a.listed a.choice.sources >>= request_at a)
 
 -- what the arguments from IN on ask for
 abbrev pub request_from : Choice → Bool → List (List ℕ) → Result Request Fault
@@ -190,19 +217,25 @@ command_by_options words = parsed None no_choice false words >>= command_of
 
 -- an option is in the place of IN
 unfoldable pub instead_of : List ℕ → Fault → Fault
-instead_of input fault = if not (looks_like_option input) then fault else (if is_option (kind_of input) || is_some (topic_of input) then record { wrong = AfterShown; word = input } else record { wrong = Unknown; word = input })
+instead_of input fault =
+    if not (looks_like_option input) then fault
+    else (if is_option (kind_of input) || is_some (topic_of input) then record { wrong = AfterShown; word = input }
+    else record { wrong = Unknown; word = input })
 
 -- what is shown by the arguments `FONT [INDEX]`, with or without JSON; INDEX is 0 where it isn't given
 abbrev pub shown_of : Topic → Bool → List (List ℕ) → Result Command Fault
 shown_of topic json [] = refused NoInput []
 shown_of topic json (input ∷ []) = Ok (show topic json input 0)
-shown_of topic json (input ∷ index ∷ []) = or_fault (instead_of input (record { wrong = Index; word = index })) (option_map (show topic json input) (number_in_bits 32 index))
+shown_of topic json (input ∷ index ∷ []) =
+    or_fault (instead_of input (record { wrong = Index; word = index }))
+    (option_map (show topic json input) (number_in_bits 32 index))
 shown_of topic json (input ∷ index ∷ word ∷ words) = Err (instead_of input (record { wrong = AfterShown; word = word }))
 
 -- `--json` may be before them
 abbrev pub shown_by : Topic → List (List ℕ) → Result Command Fault
 shown_by topic [] = refused NoInput []
-shown_by topic (word ∷ words) = if bytes_eq word (codes "--json") then shown_of topic true words else shown_of topic false (word ∷ words)
+shown_by topic (word ∷ words) =
+    if bytes_eq word (codes "--json") then shown_of topic true words else shown_of topic false (word ∷ words)
 
 -- ---- the whole
 
@@ -212,7 +245,8 @@ batch_of [] = refused NoBatchFile []
 batch_of (file ∷ []) = Ok (batch file)
 batch_of (file ∷ word ∷ words) = refused AfterBatch word
 
--- what the arguments request: `--batch FILE`, `--axes [--json] FONT [INDEX]` or `--info` in its place, or the making of a subset
+-- what the arguments request: `--batch FILE`, `--axes [--json] FONT [INDEX]` or `--info` in its place, or the making of
+-- a subset
 abbrev pub command : List (List ℕ) → Result Command Fault
 command [] = command_by_options []
 command (word ∷ words) = if is_batch word then batch_of words else (elim (topic_of word) [

@@ -5,7 +5,9 @@ use Rattle.std.specs.Option.{option_copied, option_map}
 use Rattle.subset_args.specs.Limits.{limits_view}
 use Rattle.subset_args.specs.Forms.{Asked as AskedFor, Given as GivenValue, Options, helped, versioned, chosen}
 use Rattle.subset_args.specs.Options.{GlyphSource, in_file, by_text, in_list, in_codes, Choice}
-use Rattle.subset_args.specs.Request.{RequestedGlyphs, listed, every_glyph, of_characters, from, Position as Requested, at_coordinates, at_instance, PdfRequest, Request, Command as Wanted, help, version, subset, batch, show}
+use Rattle.subset_args.specs.Request.{RequestedGlyphs, listed, every_glyph, of_characters, from, Position as Requested}
+use Rattle.subset_args.specs.Request.{at_coordinates, at_instance, PdfRequest, Request, Command as Wanted, help}
+use Rattle.subset_args.specs.Request.{version, subset, batch, show}
 use Rattle.subset_args.specs.declared.options.names.Source.{Source}
 use Rattle.subset_args.specs.declared.options.names.Source.TheVariants.{File, Text, InList, Characters as InCodes}
 use Rattle.subset_args.specs.declared.options.sources.Sources.{Sources}
@@ -22,7 +24,8 @@ use Rattle.subset_args.specs.declared.jobs.command.Position.TheVariants.{Coordin
 use Rattle.subset_args.specs.declared.jobs.command.PdfJob.{PdfJob}
 use Rattle.subset_args.specs.declared.jobs.command.Job.{Job}
 use Rattle.subset_args.specs.declared.jobs.command.Command.{Command}
-use Rattle.subset_args.specs.declared.jobs.command.Command.TheVariants.{Help as ForHelp, Version as ForVersion, Subset, Batch, Show}
+use Rattle.subset_args.specs.declared.jobs.command.Command.TheVariants.{Help as ForHelp, Version as ForVersion, Subset}
+use Rattle.subset_args.specs.declared.jobs.command.Command.TheVariants.{Batch, Show}
 
 abbrev pub words_view : List (String Global) → List (List ℕ)
 words_view words = map (λ word. string_bytes word) words
@@ -40,10 +43,23 @@ sources_view (Two a b) = source_view a ∷ source_view b ∷ []
 sources_view (Three a b c) = source_view a ∷ source_view b ∷ source_view c ∷ []
 sources_view (Four a b c d) = source_view a ∷ source_view b ∷ source_view c ∷ source_view d ∷ []
 sources_view (Five a b c d e) = source_view a ∷ source_view b ∷ source_view c ∷ source_view d ∷ source_view e ∷ []
-sources_view (Six a b c d e f) = source_view a ∷ source_view b ∷ source_view c ∷ source_view d ∷ source_view e ∷ source_view f ∷ []
+sources_view (Six a b c d e f) =
+    source_view a ∷ source_view b ∷ source_view c ∷ source_view d ∷ source_view e ∷ source_view f ∷ []
 
 abbrev pub chosen_view : Chosen → Choice
-chosen_view c = record { switches = c.switches; limits = option_map limits_view c.limits; sources = sources_view c.sources; at = option_copied c.at; output = option_copied c.output; index = c.index; most_input = c.most_input; pdf = option_copied c.pdf; coding = c.coding; is_held = c.is_held }
+chosen_view c =
+    record {
+      switches = c.switches;
+      limits = option_map limits_view c.limits;
+      sources = sources_view c.sources;
+      at = option_copied c.at;
+      output = option_copied c.output;
+      index = c.index;
+      most_input = c.most_input;
+      pdf = option_copied c.pdf;
+      coding = c.coding;
+      is_held = c.is_held;
+    }
 
 abbrev pub given_view : Given → GivenValue
 given_view g = record { setting = g.setting; word = g.word.now; value = g.value.now }
@@ -54,7 +70,14 @@ parsed_view Version = versioned
 parsed_view (IsChosen choice is_ended words) = chosen (chosen_view choice) is_ended (words_view words.now)
 
 abbrev pub asked_view : Asked → AskedFor
-asked_view a = record { choice = chosen_view a.chosen; input = a.input.now; output = option_copied a.output; index = a.index; listed = option_copied a.listed }
+asked_view a =
+    record {
+      choice = chosen_view a.chosen;
+      input = a.input.now;
+      output = option_copied a.output;
+      index = a.index;
+      listed = option_copied a.listed;
+    }
 
 abbrev pub requested_view : Glyphs → RequestedGlyphs
 requested_view (Listed glyphs) = listed glyphs.items
@@ -71,7 +94,19 @@ abbrev pub pdf_view : PdfJob → PdfRequest
 pdf_view pdf = record { file = string_bytes pdf.file; choice = pdf.choice }
 
 abbrev pub job_view : Job → Request
-job_view job = record { switches = job.switches; limits = option_map limits_view job.limits; input = string_bytes job.input; output = option_map (λ name. string_bytes name) job.output; index = job.index; most_input = job.most_input; glyphs = map requested_view job.glyphs.items; position = option_map position_view job.position; pdf = option_map pdf_view job.pdf; by_option = job.by_option }
+job_view job =
+    record {
+      switches = job.switches;
+      limits = option_map limits_view job.limits;
+      input = string_bytes job.input;
+      output = option_map (λ name. string_bytes name) job.output;
+      index = job.index;
+      most_input = job.most_input;
+      glyphs = map requested_view job.glyphs.items;
+      position = option_map position_view job.position;
+      pdf = option_map pdf_view job.pdf;
+      by_option = job.by_option;
+    }
 
 abbrev pub command_view : Command → Wanted
 command_view ForHelp = help

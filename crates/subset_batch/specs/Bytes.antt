@@ -1,5 +1,6 @@
 -- Bytes of a text in JSON (RFC 8259).
-use Rattle.std.specs.Prelude.{ℕ, ◌+◌, ◌-◌, ◌*◌, ◌==◌, ◌&&◌, ◌||◌, nat_lt, nat_le, Bool, if◌then◌else◌, List, [], ◌∷◌, drop, Option, Some, None}
+use Rattle.std.specs.Prelude.{ℕ, ◌+◌, ◌-◌, ◌*◌, ◌==◌, ◌&&◌, ◌||◌, nat_lt, nat_le, Bool, if◌then◌else◌, List, [], ◌∷◌}
+use Rattle.std.specs.Prelude.{drop, Option, Some, None}
 use Rattle.std.specs.List.{before_first, position_or_len}
 use Rattle.subset_args.specs.Listing.Lists.{is_blank}
 
@@ -30,7 +31,7 @@ following b (x ∷ bytes) = if x == b then Some bytes else None
 
 -- ---- escapes (section 7)
 
--- what a letter after a backslash stands for: \" \\ \/ \b \f \n \r \t
+-- the byte that a letter after a backslash means: \" \\ \/ \b \f \n \r \t
 unfoldable pub escaped : ℕ → Option ℕ
 escaped e =
     if e == 34 then Some 34

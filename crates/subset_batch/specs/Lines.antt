@@ -15,7 +15,7 @@ is_blank_line bytes = is_blank_in (skip_ws bytes)
 abbrev pub line_if : ℕ → List ℕ → List (ℕ × List ℕ)
 line_if number bytes = if is_blank_line bytes then [] else (number, bytes) ∷ []
 
--- the last ones of so many lines, with their numbers from 1, but for blank ones
+-- lines, the last ones of `count`, with their numbers from 1, but for blank ones
 abbrev pub numbered : ℕ → List (List ℕ) → List (ℕ × List ℕ)
 numbered count [] = []
 numbered count (bytes ∷ following) = line_if (count - length following) bytes ++ numbered count following

@@ -4,7 +4,8 @@ use Rattle.std.specs.Str.{bytes_eq}
 use Rattle.subset_batch.specs.declared.kinds.Kind.{Kind}
 use Rattle.subset_batch.specs.declared.kinds.Kind.TheVariants.{Source, Flag, Single, Multiple}
 
--- what a value says (section 3): nothing for `false` and `null`, `true`, the text of a string or of a number as it is written, or the texts of an array
+-- what a value says (section 3): nothing for `false` and `null`, `true`, the text of a string or of a number as it is
+-- written, or the texts of an array
 pub data Value : Type 0 where
   absent : Value
   present : Value

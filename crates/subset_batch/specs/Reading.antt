@@ -1,5 +1,6 @@
 -- What a line in JSON (RFC 8259) requests, read from left to right, or what is wrong first.
-use Rattle.std.specs.Prelude.{ℕ, zero, suc, ◌+◌, ◌-◌, ◌*◌, ◌==◌, ◌&&◌, nat_lt, Bool, true, false, if◌then◌else◌, List, [], ◌∷◌, ◌++◌, length, Option, Some, None, Result, Ok, Err, codes}
+use Rattle.std.specs.Prelude.{ℕ, zero, suc, ◌+◌, ◌-◌, ◌*◌, ◌==◌, ◌&&◌, nat_lt, Bool, true, false, if◌then◌else◌, List}
+use Rattle.std.specs.Prelude.{[], ◌∷◌, ◌++◌, length, Option, Some, None, Result, Ok, Err, codes}
 use Rattle.std.specs.Char.{encode_utf8}
 use Rattle.std.proofs.Math.Utf8.{scalar}
 use Rattle.std.specs.Str.{bytes_eq, is_utf8}
@@ -11,7 +12,8 @@ use Rattle.subset_batch.specs.Numbers.{is_number}
 use Rattle.subset_batch.specs.Words.{request_words}
 use Rattle.subset_batch.specs.Members.{Value, absent, present, text, texts, Member, kind_of, fits, repeated}
 
--- what is wrong: something else is expected or a name isn't known, with so many bytes left, or two members have a name
+-- what is wrong: something else is expected or a name isn't known, with the number of bytes left, or two members have a
+-- name
 pub data Fault : Type 0 where
   expected : Wanted → ℕ → Fault
   unknown : List ℕ → ℕ → Fault
@@ -45,15 +47,20 @@ byte_at b wanted bytes = or_missing wanted bytes (following b bytes)
 abbrev pub with_front : {A : Type 0} → List A → Result (List A × List ℕ) Fault → Result (List A × List ℕ) Fault
 with_front front read = read >>= λ more. Ok (front ++ more.0, more.1)
 
--- what a step reads again and again, at most n times, until it says that no more follows; a step gives what it read, whether more follows, and the bytes after
-unfoldable pub many : {A : Type 0} → (List ℕ → Result (List A × Bool × List ℕ) Fault) → Wanted → ℕ → List ℕ → Result (List A × List ℕ) Fault
+-- what a step reads again and again, at most n times, until it says that no more follows; a step gives what it read,
+-- whether more follows, and the bytes after
+unfoldable pub many : {A : Type 0} → (List ℕ → Result (List A × Bool × List ℕ) Fault) → Wanted → ℕ → List ℕ
+    → Result (List A × List ℕ) Fault
 many step wanted zero bytes = missing wanted bytes
-many step wanted (suc n) bytes = step bytes >>= λ x. if x.1 then with_front x.0 (many step wanted n x.2) else Ok (x.0, x.2)
+many step wanted (suc n) bytes =
+    step bytes >>= λ x. if x.1 then with_front x.0 (many step wanted n x.2) else Ok (x.0, x.2)
 
--- value-separator or what closes an array or an object (sections 2, 4 and 5), with white space before it: whether a member follows, and the bytes after
+-- value-separator or what closes an array or an object (sections 2, 4 and 5), with white space before it: whether a
+-- member follows, and the bytes after
 abbrev pub separator_in : ℕ → Wanted → List ℕ → Result (Bool × List ℕ) Fault
 separator_in close wanted [] = missing wanted []
-separator_in close wanted (b ∷ bytes) = if b == 44 then Ok (true, skip_ws bytes) else (if b == close then Ok (false, bytes) else missing wanted (b ∷ bytes))
+separator_in close wanted (b ∷ bytes) =
+    if b == 44 then Ok (true, skip_ws bytes) else (if b == close then Ok (false, bytes) else missing wanted (b ∷ bytes))
 
 abbrev pub separator_at : ℕ → Wanted → List ℕ → Result (Bool × List ℕ) Fault
 separator_at close wanted bytes = separator_in close wanted (skip_ws bytes)
@@ -90,17 +97,21 @@ coded code rest bytes = if scalar code then Ok (encode_utf8 code, rest) else mis
 unfoldable pub unicode_at : List ℕ → Result (List ℕ × List ℕ) Fault
 unicode_at bytes = do
   unit ← unit_at bytes
-  if is_high unit.0 then (low_at unit.1 >>= λ low. coded (paired unit.0 low.0) low.1 bytes) else coded unit.0 unit.1 bytes
+  if is_high unit.0 then (low_at unit.1 >>= λ low. coded (paired unit.0 low.0) low.1 bytes)
+      else coded unit.0 unit.1 bytes
 
 -- after a backslash
 abbrev pub escape_at : List ℕ → Result (List ℕ × List ℕ) Fault
 escape_at [] = missing needs.Escape []
-escape_at (e ∷ bytes) = if e == 117 then unicode_at bytes else (or_missing needs.Escape (e ∷ bytes) (escaped e) >>= λ b. Ok (b ∷ [], bytes))
+escape_at (e ∷ bytes) =
+    if e == 117 then unicode_at bytes else (or_missing needs.Escape (e ∷ bytes) (escaped e) >>= λ b. Ok (b ∷ [], bytes))
 
 -- char: an escape, or a byte of an unescaped character, which is no control character
 abbrev pub char_at : List ℕ → Result (List ℕ × List ℕ) Fault
 char_at [] = missing needs.Quote []
-char_at (b ∷ bytes) = if b == 92 then escape_at bytes else (if nat_lt b 32 then missing needs.Character (b ∷ bytes) else Ok (b ∷ [], bytes))
+char_at (b ∷ bytes) =
+    if b == 92 then escape_at bytes
+    else (if nat_lt b 32 then missing needs.Character (b ∷ bytes) else Ok (b ∷ [], bytes))
 
 -- whether a string goes on, and the bytes after its quotation mark if it doesn't
 abbrev pub goes_on : List ℕ → Bool × List ℕ
@@ -113,7 +124,8 @@ char_step bytes = do
 
 -- the characters after the first quotation mark
 abbrev pub chars_at : List ℕ → Result (List ℕ × List ℕ) Fault
-chars_at bytes = elim (following 34 bytes) [ Some rest ↦ Ok ([], rest) | None ↦ many char_step needs.Quote (length bytes) bytes ]
+chars_at bytes =
+    elim (following 34 bytes) [ Some rest ↦ Ok ([], rest) | None ↦ many char_step needs.Quote (length bytes) bytes ]
 
 -- a text in UTF-8 (section 8.1)
 abbrev pub in_utf8 : List ℕ → List ℕ × List ℕ → Result (List ℕ × List ℕ) Fault
@@ -126,7 +138,8 @@ string_at bytes = chars_at bytes >>= in_utf8 bytes
 
 -- a string or a number
 abbrev pub number_at : Wanted → List ℕ → Result (List ℕ × List ℕ) Fault
-number_at wanted bytes = if is_number (word bytes) && is_utf8 (word bytes) then Ok (word bytes, past_word bytes) else missing wanted bytes
+number_at wanted bytes =
+    if is_number (word bytes) && is_utf8 (word bytes) then Ok (word bytes, past_word bytes) else missing wanted bytes
 
 abbrev pub item_at : Wanted → List ℕ → Result (List ℕ × List ℕ) Fault
 item_at wanted bytes = elim (following 34 bytes) [ Some rest ↦ string_at rest | None ↦ number_at wanted bytes ]
@@ -139,7 +152,9 @@ item_step bytes = do
 
 -- the members of an array (section 5), after its bracket
 abbrev pub items_in : List ℕ → Result (List (List ℕ) × List ℕ) Fault
-items_in bytes = elim (following 93 bytes) [ Some rest ↦ Ok ([], rest) | None ↦ many item_step needs.CommaOrBracket (length bytes) bytes ]
+items_in bytes =
+    elim (following 93 bytes)
+    [ Some rest ↦ Ok ([], rest) | None ↦ many item_step needs.CommaOrBracket (length bytes) bytes ]
 
 -- the literal names
 unfoldable pub literal : List ℕ → Option Value
@@ -192,7 +207,9 @@ member_step bytes = do
 
 -- the members after the brace
 abbrev pub members_in : List ℕ → Result (List Member × List ℕ) Fault
-members_in bytes = elim (following 125 bytes) [ Some rest ↦ Ok ([], rest) | None ↦ many member_step needs.CommaOrBrace (length bytes) bytes ]
+members_in bytes =
+    elim (following 125 bytes)
+    [ Some rest ↦ Ok ([], rest) | None ↦ many member_step needs.CommaOrBrace (length bytes) bytes ]
 
 -- members with names of their own
 abbrev pub distinct : List Member → Result (List Member) Fault

@@ -1,4 +1,4 @@
--- What values of the code stand for, and what functions that take memory answer.
+-- What values of the code mean, and what functions that take memory return.
 use Rattle.std.specs.Prelude.{◌≡◌, ℕ, List, [], ◌∷◌, map, String, string_bytes, Result, Ok, Err}
 use Rattle.std.specs.Char.{encode_utf8}
 use Rattle.std.specs.Global.{Global}
@@ -25,7 +25,7 @@ abbrev pub Fails : {Y : Type 0} → Unread → Result Y reading.Fault → Type 0
 Fails unread.OutOfMemory read = Unit {0}
 Fails (unread.Fault fault) read = read ≡ Err (fault_view fault)
 
--- what is answered, seen by view, is what the reading gives, unless memory ran out
+-- the result, seen by view, is what the reading gives, unless memory ran out
 abbrev pub Gives : {X Y : Type 0} → (X → Y) → Result X Unread → Result Y reading.Fault → Type 0
 Gives view (Ok x) read = read ≡ Ok (view x)
 Gives view (Err e) read = Fails e read

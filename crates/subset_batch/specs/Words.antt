@@ -1,4 +1,5 @@
--- What members request, as the words of a command line: options with their values, and IN after `--`, which is no option whatever it looks like.
+-- What members request, as the words of a command line: options with their values, and IN after `--`, which is no
+-- option whatever it looks like.
 use Rattle.std.specs.Prelude.{ℕ, Bool, if◌then◌else◌, List, [], ◌∷◌, ◌++◌, codes}
 use Rattle.std.specs.Str.{bytes_eq}
 use Rattle.subset_batch.specs.Members.{Value, absent, present, text, texts, Member}

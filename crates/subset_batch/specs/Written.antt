@@ -1,5 +1,6 @@
 -- Members as they are written: strings alone, without white space.
-use Rattle.std.specs.Prelude.{◌≡◌, ℕ, ◌/◌, ◌%◌, ◌+◌, ◌==◌, ◌&&◌, ◌||◌, nat_lt, Bool, true, if◌then◌else◌, List, [], ◌∷◌, ◌++◌, Some, None, codes}
+use Rattle.std.specs.Prelude.{◌≡◌, ℕ, ◌/◌, ◌%◌, ◌+◌, ◌==◌, ◌&&◌, ◌||◌, nat_lt, Bool, true, if◌then◌else◌, List, [], ◌∷◌}
+use Rattle.std.specs.Prelude.{◌++◌, Some, None, codes}
 use Rattle.std.specs.Str.{is_utf8}
 use Rattle.subset_batch.specs.declared.kinds.Kind.{Kind}
 use Rattle.subset_batch.specs.Members.{Value, absent, present, text, texts, Member, kind_of, fits, repeated}
@@ -35,12 +36,14 @@ written_value (texts ts) = codes "[" ++ strings [] ts ++ codes "]"
 
 abbrev pub written_members : List ℕ → List Member → List ℕ
 written_members before [] = []
-written_members before (m ∷ members) = before ++ quoted m.name ++ codes ":" ++ written_value m.value ++ written_members (codes ",") members
+written_members before (m ∷ members) =
+    before ++ quoted m.name ++ codes ":" ++ written_value m.value ++ written_members (codes ",") members
 
 abbrev pub written : List Member → List ℕ
 written members = codes "{" ++ written_members [] members ++ codes "}"
 
--- ---- what can be written: each name once, and one that a member may have, with a value that it may have, and texts in UTF-8
+-- ---- what can be written: each name once, and one that a member may have, with a value that it may have,
+-- and texts in UTF-8
 
 abbrev pub all_utf8 : List (List ℕ) → Bool
 all_utf8 [] = true

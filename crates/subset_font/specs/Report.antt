@@ -9,7 +9,13 @@ use Rattle.subset_font.specs.declared.making.outcome.Outcome.{Outcome}
 
 -- the numbers of what was made, with the names of the glyphs
 abbrev pub numbers_of : Outcome → Numbers
-numbers_of o = record { characters = o.made.picked.characters.items; names = map (λ name. name.now) o.names.items; glyphs = o.made.picked.glyphs.items; order = o.made.mapper }
+numbers_of o =
+    record {
+      characters = o.made.picked.characters.items;
+      names = map (λ name. name.now) o.names.items;
+      glyphs = o.made.picked.glyphs.items;
+      order = o.made.mapper;
+    }
 
 -- whether standard error gets a JSON object, in which the notes are: it does where the font goes to standard output
 abbrev pub has_notes : Form → Bool → Bool

@@ -1,8 +1,9 @@
 -- A coordinate of 65536ths as a decimal number.
-use Rattle.std.specs.Prelude.{ℕ, ◌+◌, ◌*◌, ◌/◌, ◌%◌, ◌^◌, ◌-◌, ◌==◌, false, if◌then◌else◌, List, [], ◌++◌, codes, decimal, ℤ, pos, int_lt, unsigned_abs}
+use Rattle.std.specs.Prelude.{ℕ, ◌+◌, ◌*◌, ◌/◌, ◌%◌, ◌^◌, ◌-◌, ◌==◌, false, if◌then◌else◌, List, [], ◌++◌, codes}
+use Rattle.std.specs.Prelude.{decimal, ℤ, pos, int_lt, unsigned_abs}
 use Rattle.std.specs.Fmt.{digits, padded_integral, format_spec}
 
--- at least so many digits
+-- at least `width` digits
 abbrev pub padded : ℕ → ℕ → List ℕ
 padded width n = padded_integral (format_spec 32 0 4 width (2 ^ 64 - 1)) false [] (digits 10 false n)
 
@@ -16,7 +17,8 @@ fraction n =
     else if n % 10 == 0 then codes "." ++ padded 4 (n / 10)
     else codes "." ++ padded 5 n
 
--- what is left of a unit, to the nearest 100000th, halves up: as 65536 is less than 100000, each 65536th has a text of its own, which is nearest to it
+-- what is left of a unit, to the nearest 100000th, halves up: as 65536 is less than 100000, each 65536th has a text of
+-- its own, which is nearest to it
 abbrev pub hundred_thousandths : ℕ → ℕ
 hundred_thousandths n = (n % 65536 * 100000 + 32768) / 65536
 

@@ -16,7 +16,8 @@ line_of character old (Some new) = name_of character ++ decimal old ++ codes " -
 -- a line for each glyph, in order
 abbrev pub lines_for : List ℕ → List (Option ℕ) → List ℕ → List ℕ
 lines_for order characters [] = []
-lines_for order characters (old ∷ glyphs) = line_of (first_character characters) old (index_of order old) ++ lines_for order (drop 1 characters) glyphs
+lines_for order characters (old ∷ glyphs) =
+    line_of (first_character characters) old (index_of order old) ++ lines_for order (drop 1 characters) glyphs
 
 -- a text as a line, which an empty one isn't
 abbrev pub last_line : List ℕ → List ℕ

@@ -68,7 +68,9 @@ comma_after_both notes [] = comma_after notes
 comma_after_both notes (c ∷ characters) = codes ","
 
 unfoldable pub all_strings : List Axis → List Note → List ℕ → Option ℕ → List ℕ
-all_strings axes notes characters index = coordinate_strings axes notes ++ missing_string (comma_after notes) characters ++ index_string (comma_after_both notes characters) index
+all_strings axes notes characters index =
+    coordinate_strings axes notes ++ missing_string (comma_after notes) characters
+    ++ index_string (comma_after_both notes characters) index
 
 abbrev pub notes_array : List Axis → List Note → List ℕ → Option ℕ → List ℕ
 notes_array axes notes characters index = codes "[" ++ all_strings axes notes characters index ++ codes "]"

@@ -2,7 +2,8 @@
 use Rattle.std.specs.Prelude.{ℕ, false, true, ◌^◌, ◌-◌, List, [], ◌∷◌, Option, None}
 use Rattle.std.specs.Fmt.{digits, padded_integral, format_spec}
 
--- the glyphs whose new numbers are printed, with the characters that they stand for, if they stand for one, their names, as far as there are any, and the old numbers in the order of the new ones
+-- the glyphs whose new numbers are printed, with the characters that they were found by, if by one, their names, as far
+-- as there are any, and the old numbers in the order of the new ones
 pub record Numbers : Type 0 where
   pub characters : List (Option ℕ)
   pub names : List (List ℕ)

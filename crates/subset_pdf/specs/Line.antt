@@ -1,5 +1,6 @@
 -- Glyphs with their texts as one run of a text, with the font's own advances (ISO 32000-1, 9.4.4 and 9.7.4.3).
-use Rattle.std.specs.Prelude.{◌≡◌, ℕ, ◌+◌, Bool, true, false, List, [], ◌∷◌, length, map, get_or, min, Some, Result, Ok, pos, ◌-ℤ◌, unsigned_abs}
+use Rattle.std.specs.Prelude.{◌≡◌, ℕ, ◌+◌, Bool, true, false, List, [], ◌∷◌, length, map, get_or, min, Some, Result, Ok}
+use Rattle.std.specs.Prelude.{pos, ◌-ℤ◌, unsigned_abs}
 use Rattle.std.specs.Int.{saturate_signed, w32}
 use Rattle.subsetter_base.specs.Gives.{Fails}
 use Rattle.subsetter_base.specs.declared.error.Error.{Error}
@@ -34,10 +35,27 @@ abbrev pub direction_of : Bool → Direction
 direction_of true = TopToBottom
 direction_of false = LeftToRight
 
--- a glyph and its text: the pen goes on by the width in W, or by w1y in W2, and there the position vector leads to the pen
+-- a glyph and its text: the pen goes on by the width in W, or by w1y in W2, and there the position vector leads to the
+-- pen
 abbrev pub item_by : Bool → GlyphMetrics → Shown → Item
-item_by false m s = record { glyph = s.glyph; text = Some s.text; x_advance = m.displacement; y_advance = pos 0; x_offset = pos 0; y_offset = pos 0 }
-item_by true m s = record { glyph = s.glyph; text = Some s.text; x_advance = pos 0; y_advance = m.displacement; x_offset = pos 0; y_offset = saturate_signed w32 (pos 0 -ℤ m.position) }
+item_by false m s =
+    record {
+      glyph = s.glyph;
+      text = Some s.text;
+      x_advance = m.displacement;
+      y_advance = pos 0;
+      x_offset = pos 0;
+      y_offset = pos 0;
+    }
+item_by true m s =
+    record {
+      glyph = s.glyph;
+      text = Some s.text;
+      x_advance = pos 0;
+      y_advance = m.displacement;
+      x_offset = pos 0;
+      y_offset = saturate_signed w32 (pos 0 -ℤ m.position);
+    }
 
 abbrev pub item_of : Bool → List GlyphMetrics → Shown → Item
 item_of vertical ms s = item_by vertical (get_or ms s.glyph no_metrics) s
@@ -66,7 +84,8 @@ pub record IsLine (f : Font) (d : Direction) (is : List Item) (line : Line) : Ty
   pub advance : line.advance ≡ min (length_of is) 398000
   pub glyph_count : line.glyph_count ≡ length f.metrics.now
 
--- the error of a run of glyphs that the font has: a place hasn't got 32 bits, an ActualText is too long, or no codes are left
+-- the error of a run of glyphs that the font has: a place hasn't got 32 bits, an ActualText is too long, or no codes
+-- are left
 abbrev pub named : RunError → Error
 named InvalidText = OverflowError
 named Overfull = OverflowError
@@ -75,13 +94,16 @@ named NoMemory = OutOfMemory
 -- why there is none: the font hasn't got a glyph, or `show_run` refuses the run
 pub data HasNoLine (f : Font) (d : Direction) (is : List Item) (why : Error) : Type 0 where
   unknown : why ≡ MalformedFont → is_run d (length f.metrics.now) is ≡ false → HasNoLine f d is why
-  unshown : (e : RunError) (new : List Pair) → why ≡ named e → is_run d (length f.metrics.now) is ≡ true → IsRefused f d Visual (zeroth ∷ []) new is e → HasNoLine f d is why
+  unshown : (e : RunError) (new : List Pair) → why ≡ named e → is_run d (length f.metrics.now) is ≡ true
+      → IsRefused f d Visual (zeroth ∷ []) new is e
+      → HasNoLine f d is why
 
 -- ---- of a font
 
 -- what a run needs of it
 abbrev pub metrics_by : Bool → List ℕ → PdfRequest → Result Metrics Error
-metrics_by false bytes request = text_metrics (font_at bytes request.index all_extras) request.at.now request.limits.tokens
+metrics_by false bytes request =
+    text_metrics (font_at bytes request.index all_extras) request.at.now request.limits.tokens
 metrics_by true bytes request = column_metrics (font_at bytes request.index all_extras) request.at.now request.limits
 
 abbrev pub metrics_for : List ℕ → PdfRequest → Result Metrics Error
@@ -105,4 +127,6 @@ pub record IsLineFor (bytes : List ℕ) (request : PdfRequest) (shown : List Sho
 
 pub data HasLineFault (bytes : List ℕ) (request : PdfRequest) (shown : List Shown) (why : Error) : Type 0 where
   unread : Fails why (metrics_for bytes request) → HasLineFault bytes request shown why
-  no_line : (font : Font) → IsRunFont bytes request font → HasNoLine font (direction_of request.choice.vertical) (items_for request font shown) why → HasLineFault bytes request shown why
+  no_line : (font : Font) → IsRunFont bytes request font
+      → HasNoLine font (direction_of request.choice.vertical) (items_for request font shown) why
+      → HasLineFault bytes request shown why

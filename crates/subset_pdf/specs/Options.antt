@@ -32,7 +32,18 @@ rights_by false = AsSaid
 
 -- of CFF the table alone, the font's box, no CIDSet, and the computed tag
 abbrev pub options_by : Limits → Bool → PdfChoice → FontOptions
-options_by limits hinting choice = record { limits = limits; hinting = hinting; program = Smallest; codes = codes_by choice.coding; direction = direction_by choice.vertical; bounds = Font; cid_set = false; tag = None; rights = rights_by choice.is_held }
+options_by limits hinting choice =
+    record {
+      limits = limits;
+      hinting = hinting;
+      program = Smallest;
+      codes = codes_by choice.coding;
+      direction = direction_by choice.vertical;
+      bounds = Font;
+      cid_set = false;
+      tag = None;
+      rights = rights_by choice.is_held;
+    }
 
 abbrev pub options_of : PdfRequest → FontOptions
 options_of request = options_by request.limits request.hinting request.choice

@@ -7,7 +7,8 @@ use Rattle.pdf_codes.specs.Shown.{uses_of}
 use Rattle.pdf_codes.specs.declared.shown.Shown.{Shown}
 use Rattle.pdf_font.specs.PdfFont.{HasFontFault, IsPdfFont, font_of}
 use Rattle.pdf_font.specs.declared.error.FontError.{FontError}
-use Rattle.pdf_font.specs.declared.error.FontError.TheVariants.{Subset, NotPermitted as Forbidden, TextTooLong as TooLong, BitmapsAlone}
+use Rattle.pdf_font.specs.declared.error.FontError.TheVariants.{Subset, NotPermitted as Forbidden}
+use Rattle.pdf_font.specs.declared.error.FontError.TheVariants.{TextTooLong as TooLong, BitmapsAlone}
 use Rattle.pdf_font.specs.declared.font.PdfFont.{PdfFont}
 use Rattle.pdf_objects.specs.Glyphs.{IsSheetOfFont, IsTooLargeForFont}
 use Rattle.pdf_objects.specs.View.{IsViewWith}
@@ -44,18 +45,23 @@ fault_of TextTooLong = TooLong
 
 -- ---- glyphs in use by their codes
 
--- what `pdf_font` answers
+-- what `pdf_font` returns
 abbrev pub IsFontFor : List ℕ → PdfRequest → List Shown → PdfFont → Type 0
-IsFontFor bytes request shown font = IsPdfFont (font_of bytes request.index (options_of request)) request.at.now (options_of request) (uses_of shown) font
+IsFontFor bytes request shown font =
+    IsPdfFont (font_of bytes request.index (options_of request))
+    request.at.now (options_of request) (uses_of shown) font
 
 -- its sheet
 pub record IsCodedSheet (bytes : List ℕ) (request : PdfRequest) (shown : List Shown) (sheet : Sheet) : Type 0 where
   pub font : IsFontFor bytes request shown sheet.font
   pub file : IsSheetOfFont sheet.font shown request.layout sheet.file.items
 
--- a fault for which `pdf_font` answers nothing
+-- a fault for which `pdf_font` returns no font
 abbrev pub HasFaultFor : List ℕ → PdfRequest → List Shown → SheetError → Type 0
-HasFaultFor bytes request shown why = (order : List ℕ) × HasFontFault (font_of bytes request.index (options_of request)) request.at.now (options_of request) (uses_of shown) order (fault_of why)
+HasFaultFor bytes request shown why =
+    (order : List ℕ)
+    × HasFontFault (font_of bytes request.index (options_of request))
+    request.at.now (options_of request) (uses_of shown) order (fault_of why)
 
 -- the sheet of a font is too large
 abbrev pub IsTooLargeAs : PdfFont → List Shown → Layout → SheetError → Type 0
@@ -63,16 +69,21 @@ IsTooLargeAs font shown layout why = (why ≡ Font OverflowError) × IsTooLargeF
 
 pub data HasCodedFault (bytes : List ℕ) (request : PdfRequest) (shown : List Shown) (why : SheetError) : Type 0 where
   in_font : HasFaultFor bytes request shown why → HasCodedFault bytes request shown why
-  too_large : (font : PdfFont) → IsFontFor bytes request shown font → IsTooLargeAs font shown request.layout why → HasCodedFault bytes request shown why
+  too_large : (font : PdfFont) → IsFontFor bytes request shown font → IsTooLargeAs font shown request.layout why
+      → HasCodedFault bytes request shown why
 
 -- ---- glyphs as the line of a text
 
--- what `text_font` answers for a line, without own glyphs
+-- what `text_font` returns for a line, without own glyphs
 abbrev pub IsTextFor : List ℕ → PdfRequest → Line → TextFont → Type 0
-IsTextFor bytes request line text = IsTextFont (font_of bytes request.index (options_of request)) request.at.now (options_of request) line.glyph_count [] (by_code line.pairs) text
+IsTextFor bytes request line text =
+    IsTextFont (font_of bytes request.index (options_of request)) request.at.now
+    (options_of request) line.glyph_count [] (by_code line.pairs) text
 
 abbrev pub HasTextFaultFor : List ℕ → PdfRequest → Line → SheetError → Type 0
-HasTextFaultFor bytes request line why = HasTextFault (font_of bytes request.index (options_of request)) request.at.now (options_of request) line.glyph_count [] (by_code line.pairs) (fault_of why)
+HasTextFaultFor bytes request line why =
+    HasTextFault (font_of bytes request.index (options_of request)) request.at.now
+    (options_of request) line.glyph_count [] (by_code line.pairs) (fault_of why)
 
 -- its font and the line, as `write_lines` takes them
 pub record IsViewOfLine (text : TextFont) (line : Line) (view : FontView) (shown : SheetLine) : Type 0 where
@@ -85,7 +96,8 @@ pub record IsPage (text : TextFont) (line : Line) (file : List ℕ) : Type 0 whe
   pub shown : SheetLine
   pub is : IsViewOfLine text line view shown
   pub whole : file ≡ file_of (lines_values view.values (shown ∷ []))
-  pub at : AreInTable file (length (body_of (lines_values view.values (shown ∷ [])))) (lines_values view.values (shown ∷ []))
+  pub at :
+      AreInTable file (length (body_of (lines_values view.values (shown ∷ [])))) (lines_values view.values (shown ∷ []))
 
 pub record HasNoPage (text : TextFont) (line : Line) : Type 0 where
   pub view : FontView
@@ -102,10 +114,14 @@ pub record IsTextSheet (bytes : List ℕ) (request : PdfRequest) (shown : List S
   pub font : sheet.font ≡ record text.font { codes = line.codes }
   pub page : IsPage text line sheet.file.items
 
-pub data HasTextSheetFault (bytes : List ℕ) (request : PdfRequest) (shown : List Shown) (why : SheetError) : Type 0 where
+pub data HasTextSheetFault (bytes : List ℕ) (request : PdfRequest) (shown : List Shown) (why : SheetError)
+    : Type 0 where
   no_line : (e : Error) → why ≡ Font e → HasLineFault bytes request shown e → HasTextSheetFault bytes request shown why
-  no_text : (line : Line) → IsLineFor bytes request shown line → HasTextFaultFor bytes request line why → HasTextSheetFault bytes request shown why
-  no_page : (line : Line) (text : TextFont) → IsLineFor bytes request shown line → IsTextFor bytes request line text → why ≡ Font OverflowError → HasNoPage text line → HasTextSheetFault bytes request shown why
+  no_text : (line : Line) → IsLineFor bytes request shown line → HasTextFaultFor bytes request line why
+      → HasTextSheetFault bytes request shown why
+  no_page : (line : Line) (text : TextFont) → IsLineFor bytes request shown line → IsTextFor bytes request line text
+      → why ≡ Font OverflowError → HasNoPage text line
+      → HasTextSheetFault bytes request shown why
 
 -- ---- both
 
@@ -134,13 +150,15 @@ HasSheetFaultBy bytes request shown why = HasSheetFaultAs (is_text request) byte
 -- ---- for glyphs and their texts
 
 -- a sheet of the glyphs with their texts
-pub record IsSheetFor (bytes : List ℕ) (request : PdfRequest) (text lengths glyphs : List ℕ) (sheet : Sheet) : Type 0 where
+pub record IsSheetFor (bytes : List ℕ) (request : PdfRequest) (text lengths glyphs : List ℕ) (sheet : Sheet)
+    : Type 0 where
   pub shown : List Shown
   pub are_shown : map entry_of shown ≡ entries_of text lengths glyphs
   pub is_sheet : IsSheetBy bytes request shown sheet
 
 -- a fault against it
-pub record HasSheetFault (bytes : List ℕ) (request : PdfRequest) (text lengths glyphs : List ℕ) (why : SheetError) : Type 0 where
+pub record HasSheetFault (bytes : List ℕ) (request : PdfRequest) (text lengths glyphs : List ℕ) (why : SheetError)
+    : Type 0 where
   pub shown : List Shown
   pub are_shown : map entry_of shown ≡ entries_of text lengths glyphs
   pub fault : HasSheetFaultBy bytes request shown why

@@ -10,7 +10,9 @@ pub record Entry : Type 0 where
 abbrev pub entry_of : Shown → Entry
 entry_of s = record { glyph = s.glyph; text = s.text.now }
 
--- each glyph has so many of the characters that are left as its text
+-- each glyph has as its text the next characters that are left, as many as its length says
 abbrev pub entries_of : List ℕ → List ℕ → List ℕ → List Entry
 entries_of text lengths [] = []
-entries_of text lengths (g ∷ glyphs) = record { glyph = g; text = take (slice_index lengths 0) text } ∷ entries_of (drop (slice_index lengths 0) text) (drop 1 lengths) glyphs
+entries_of text lengths (g ∷ glyphs) =
+    record { glyph = g; text = take (slice_index lengths 0) text }
+    ∷ entries_of (drop (slice_index lengths 0) text) (drop 1 lengths) glyphs

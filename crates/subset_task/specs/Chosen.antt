@@ -1,5 +1,6 @@
 -- What the options before IN choose for a task.
-use Rattle.std.specs.Prelude.{◌≡◌, ◌⊎◌, ℕ, ℤ, List, [], ◌∷◌, map, not, false, if◌then◌else◌, IsSome, Option, Some, None, string_bytes}
+use Rattle.std.specs.Prelude.{◌≡◌, ◌⊎◌, ℕ, ℤ, List, [], ◌∷◌, map, not, false, if◌then◌else◌, IsSome, Option, Some, None}
+use Rattle.std.specs.Prelude.{string_bytes}
 use Rattle.std.specs.Option.{option_copied, option_and_then, option_map}
 use Rattle.subsetter.specs.Limits.{token_limit, depth_limit}
 use Rattle.subsetter_sfnt.specs.declared.extras.Extras.{Extras}
@@ -7,18 +8,22 @@ use Rattle.subsetter_type2.specs.declared.limits.Limits.{Limits}
 use Rattle.subset_args.specs.declared.limits.RunLimits.{RunLimits}
 use Rattle.subset_args.specs.declared.options.chosen.Switches.{Switches}
 use Rattle.subset_args.specs.declared.jobs.command.Glyphs.{Glyphs}
-use Rattle.subset_args.specs.declared.jobs.command.Glyphs.TheVariants.{Listed, Characters as ListedCharacters, InFile, ByText as InText, Every as WholeFace}
+use Rattle.subset_args.specs.declared.jobs.command.Glyphs.TheVariants.{Listed, Characters as ListedCharacters, InFile}
+use Rattle.subset_args.specs.declared.jobs.command.Glyphs.TheVariants.{ByText as InText, Every as WholeFace}
 use Rattle.subset_args.specs.declared.jobs.command.Job.{Job}
 use Rattle.subset_args.specs.declared.jobs.command.Position.{Position}
 use Rattle.subset_args.specs.declared.jobs.command.Position.TheVariants.{Coordinates, Named}
 use Rattle.subsetter_base.specs.declared.tag.Tag.{Tag}
 use Rattle.subset_args.specs.declared.listing.lists.GlyphList.{GlyphList}
-use Rattle.subset_args.specs.declared.listing.lists.GlyphList.TheVariants.{Every as EveryGlyph, These as TheseGlyphs, Characters as TheseCharacters, Text as OfText}
+use Rattle.subset_args.specs.declared.listing.lists.GlyphList.TheVariants.{Every as EveryGlyph, These as TheseGlyphs}
+use Rattle.subset_args.specs.declared.listing.lists.GlyphList.TheVariants.{Characters as TheseCharacters}
+use Rattle.subset_args.specs.declared.listing.lists.GlyphList.TheVariants.{Text as OfText}
 use Rattle.subset_task.specs.declared.task.RequestedGlyphs.{RequestedGlyphs}
 use Rattle.subset_task.specs.declared.task.RequestedGlyphs.TheVariants.{These, Every, ByText, ByCharacters}
 use Rattle.subsetter_base.specs.declared.error.Error.TheVariants.{OutOfMemory}
 use Rattle.subset_task.specs.declared.refusals.failure.Failure.{Failure}
-use Rattle.subset_task.specs.declared.refusals.failure.Failure.TheVariants.{Error as Refused, List as WrongList, ReadList}
+use Rattle.subset_task.specs.declared.refusals.failure.Failure.TheVariants.{Error as Refused, List as WrongList}
+use Rattle.subset_task.specs.declared.refusals.failure.Failure.TheVariants.{ReadList}
 use Rattle.subset_task.specs.Files.{file_at}
 use Rattle.subset_task.specs.declared.task.Plan.{Plan}
 use Rattle.subset_task.specs.declared.task.Task.{Task}
@@ -27,12 +32,15 @@ use Rattle.subset_task.specs.declared.task.Form.TheVariants.{Lines, Json, Silenc
 
 -- the limits that are said, else the default ones
 abbrev pub LimitsAreChosen : Option RunLimits → Limits → Type 0
-LimitsAreChosen (Some said) limits = (limits.tokens ≡ said.tokens) × (limits.depth ≡ said.depth) × (limits.bytes ≡ said.bytes)
+LimitsAreChosen (Some said) limits =
+    (limits.tokens ≡ said.tokens) × (limits.depth ≡ said.depth) × (limits.bytes ≡ said.bytes)
 LimitsAreChosen None limits = (limits.tokens ≡ token_limit) × (limits.depth ≡ depth_limit) × (limits.bytes ≡ None)
 
 -- all that isn't declined; with `--small` none of it
 abbrev pub extras_chosen : Switches → Extras
-extras_chosen s = if s.small then record { hinting = false; names = false; glyph_names = false } else record { hinting = not s.no_hinting; names = not s.no_names; glyph_names = not s.no_glyph_names }
+extras_chosen s =
+    if s.small then record { hinting = false; names = false; glyph_names = false }
+    else record { hinting = not s.no_hinting; names = not s.no_names; glyph_names = not s.no_glyph_names }
 
 -- `--quiet` goes before `--json`
 abbrev pub form_chosen : Switches → Form
@@ -69,7 +77,8 @@ AreListsFor (one ∷ glyphs) (list ∷ lists) = IsListFor one list × AreListsFo
 
 -- why none was read: the file of a place can't be read or has no such list, or memory ran out
 abbrev pub IsUnlistedAt : ℕ → Failure → Type 0
-IsUnlistedAt place failure = (failure ≡ ReadList place) ⊎ ((failure ≡ WrongList place) ⊎ (failure ≡ Refused OutOfMemory))
+IsUnlistedAt place failure =
+    (failure ≡ ReadList place) ⊎ ((failure ≡ WrongList place) ⊎ (failure ≡ Refused OutOfMemory))
 
 -- the same of one of the files
 pub data IsUnlisted (glyphs : List Glyphs) (failure : Failure) : Type 0 where

@@ -8,7 +8,10 @@ use Rattle.subset_args.specs.declared.jobs.command.Glyphs.{Glyphs}
 use Rattle.subset_args.specs.declared.jobs.command.Glyphs.TheVariants.{Listed, Characters, InFile, ByText, Every}
 use Rattle.subset_args.specs.declared.jobs.command.Job.{Job}
 use Rattle.subset_task.specs.declared.refusals.failure.Failure.{Failure}
-use Rattle.subset_task.specs.declared.refusals.failure.Failure.TheVariants.{Error, NoMapping, MissingCharacters, BlankGlyphs, NoInstance, NotPermitted, Usage, List as WrongList, Read, ReadList, Write, WritePdf, Output, LongAnswer}
+use Rattle.subset_task.specs.declared.refusals.failure.Failure.TheVariants.{Error, NoMapping, MissingCharacters}
+use Rattle.subset_task.specs.declared.refusals.failure.Failure.TheVariants.{BlankGlyphs, NoInstance, NotPermitted}
+use Rattle.subset_task.specs.declared.refusals.failure.Failure.TheVariants.{Usage, List as WrongList, Read, ReadList}
+use Rattle.subset_task.specs.declared.refusals.failure.Failure.TheVariants.{Write, WritePdf, Output, LongAnswer}
 
 -- the name of the PDF's file
 abbrev pub pdf_name : Job → Option (List ℕ)

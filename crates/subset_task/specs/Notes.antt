@@ -15,7 +15,10 @@ greatest a = if int_lt a.default a.maximum then a.maximum else a.default
 
 -- a coordinate outside is taken as the end that is next to it
 abbrev pub clamped : Axis → Tag × ℤ → Option Note
-clamped a s = if int_lt s.1 (least a) then Some (Clamped s.0 s.1 (least a)) else if int_lt (greatest a) s.1 then Some (Clamped s.0 s.1 (greatest a)) else None
+clamped a s =
+    if int_lt s.1 (least a) then Some (Clamped s.0 s.1 (least a))
+    else if int_lt (greatest a) s.1 then Some (Clamped s.0 s.1 (greatest a))
+    else None
 
 abbrev pub note_by : Option Axis → Tag × ℤ → Option Note
 note_by None s = Some (NoAxis s.0)

@@ -8,7 +8,7 @@ use Rattle.subset_task.specs.declared.streams.Source.TheVariants.{File as FromFi
 use Rattle.subset_task.specs.declared.streams.Target.{Target}
 use Rattle.subset_task.specs.declared.streams.Target.TheVariants.{File as ToFile, Standard as ToStream, Nowhere}
 
--- standard input by the one name that means it, else a file, of which a byte more is read than so many
+-- standard input by the one name that means it, else a file; at most `most` + 1 bytes of it are read
 abbrev pub IsSource : {F S : Type 0} → List ℕ → ℕ → Source F S → Type 0
 IsSource name most (FromFile file left) = (is_stream name ≡ false) × (left ≡ most + 1)
 IsSource name most (FromStream stream left) = (is_stream name ≡ true) × (left ≡ most + 1)

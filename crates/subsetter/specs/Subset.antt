@@ -34,7 +34,8 @@ pub record KeepsShared (font : Font) (kind : FontFlavor) (order : List ℕ) (out
   -- the names of the font that are kept, each string once
   pub names : IsSome (table font (codes "name")) → KeepsTable font out (codes "name") KeepsNames
   -- each glyph has its source's name
-  pub glyph_names : IsSome (table font (codes "post")) → KeepsTable font out (codes "post") (λ source copy. KeepsGlyphNames source copy order)
+  pub glyph_names : IsSome (table font (codes "post"))
+      → KeepsTable font out (codes "post") (λ source copy. KeepsGlyphNames source copy order)
 
 -- what is drawn, by the kind of outlines, where a charstring is run within two limits
 pub data KeepsDrawing (tokens depth : ℕ) (font : Font) (order : List ℕ) (out : Font) : FontFlavor → Type 0 where

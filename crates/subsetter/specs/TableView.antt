@@ -1,8 +1,9 @@
--- What the code's tables of a new font stand for.
+-- What the code's tables of a new font mean.
 use Rattle.std.specs.Prelude.{ℕ, List}
 use Rattle.subsetter_cff.specs.Write.Laying.TableBy.{table_bytes as piece_bytes}
 use Rattle.subsetter.specs.declared.tables.TableData.{TableData}
-use Rattle.subsetter.specs.declared.tables.TableData.TheVariants.{Whole, Outlines, Pieces, Head, Hhea, Hmtx, Maxp, Names}
+use Rattle.subsetter.specs.declared.tables.TableData.TheVariants.{Whole, Outlines, Pieces, Head, Hhea, Hmtx, Maxp}
+use Rattle.subsetter.specs.declared.tables.TableData.TheVariants.{Names}
 use Rattle.subsetter_sfnt.specs.declared.laying.tables.NewTable.{NewTable}
 use Rattle.subsetter_sfnt.specs.declared.laying.tables.FontTables.{FontTables as NewFont}
 use Rattle.subsetter_sfnt.specs.View.{view as view_by, views as views_by, font_seen as font_seen_by}

@@ -12,7 +12,7 @@ pub record Items : Type 0 where
 abbrev pub item : ℕ → Items → ℕ → Option (List ℕ)
 item size items i = if nat_lt i items.count then range items.bytes (i * size) size else None
 
--- the values of so many items, up to the first that can't be read
+-- the values of n items, up to the first that can't be read
 abbrev pub values_of : {A : Type 0} → ℕ → (List ℕ → Option A) → ℕ → List ℕ → List A
 values_of size value_of zero bytes = []
 values_of size value_of (suc n) bytes = elim (option_and_then value_of (range bytes 0 size)) [

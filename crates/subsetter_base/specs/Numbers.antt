@@ -14,7 +14,8 @@ entry_index pages g = 64 * slice_index pages (g / 64) + g % 64
 abbrev pub entry : List ℕ → List ℕ → ℕ → ℕ
 entry pages entries g = slice_index entries (entry_index pages g)
 
--- the pages are whole and among the entries, and no two glyphs share one but the first, which is empty and is that of all that aren't there
+-- the pages are whole and among the entries, and no two glyphs share one but the first, which is empty and is that of
+-- all that aren't there
 pub record ArePages (pages entries : List ℕ) : Type 0 where
   pub whole : length entries % 64 ≡ 0
   pub within : (k : ℕ) → 64 * slice_index pages k + 64 ≤ length entries

@@ -1,9 +1,11 @@
 -- The texts that errors and tags print, and what several crates say of texts.
-use Rattle.std.specs.Prelude.{ℕ, ◌+◌, ◌-◌, ◌/◌, ◌%◌, ◌&&◌, ◌||◌, nat_le, nat_lt, Bool, List, [], ◌∷◌, map, if◌then◌else◌, codes}
+use Rattle.std.specs.Prelude.{ℕ, ◌+◌, ◌-◌, ◌/◌, ◌%◌, ◌&&◌, ◌||◌, nat_le, nat_lt, Bool, List, [], ◌∷◌, map}
+use Rattle.std.specs.Prelude.{if◌then◌else◌, codes}
 use Rattle.std.specs.Borrow.{Bor}
 use Rattle.std.specs.Str.{is_utf8}
 use Rattle.subsetter_base.specs.declared.error.Error.{Error}
-use Rattle.subsetter_base.specs.declared.error.Error.TheVariants.{UnknownKind, MalformedFont, Unimplemented, SubsetError, OverflowError, CFFError, OutOfMemory}
+use Rattle.subsetter_base.specs.declared.error.Error.TheVariants.{UnknownKind, MalformedFont, Unimplemented}
+use Rattle.subsetter_base.specs.declared.error.Error.TheVariants.{SubsetError, OverflowError, CFFError, OutOfMemory}
 
 abbrev pub error_text : Error → List ℕ
 error_text UnknownKind = codes "unknown font kind"
@@ -27,7 +29,8 @@ or_else (c ∷ text) other = c ∷ text
 abbrev pub is_scalar : ℕ → Bool
 is_scalar n = nat_lt n 0xD800 || (nat_le 0xE000 n && nat_lt n 0x110000)
 
--- UTF-16 (Unicode, 3.9, "Unicode Encoding Forms"): a character below 65,536 is one unit, and another is a high surrogate and a low one
+-- UTF-16 (Unicode, 3.9, "Unicode Encoding Forms"): a character below 65,536 is one unit, and another is a high
+-- surrogate and a low one
 abbrev pub utf16 : ℕ → List ℕ
 utf16 c = if nat_lt c 65536 then c ∷ [] else (55296 + (c - 65536) / 1024) ∷ (56320 + (c - 65536) % 1024) ∷ []
 

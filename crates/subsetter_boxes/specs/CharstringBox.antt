@@ -1,6 +1,7 @@
--- The least box around an outline of `CFF `: around the ends and the control points of its segments (ISO 32000-1, Table 122, "FontBBox";
--- Technical Note 5177, section 4.1).
-use Rattle.std.specs.Prelude.{ℕ, ◌-◌, ◌==◌, ℤ, if◌then◌else◌, List, [], ◌∷◌, length, take, slice_index, Option, Some, None, option_map}
+-- The least box around an outline of `CFF `: around the ends and the control points of its segments (ISO 32000-1, Table
+-- 122, "FontBBox"; Technical Note 5177, section 4.1).
+use Rattle.std.specs.Prelude.{ℕ, ◌-◌, ◌==◌, ℤ, if◌then◌else◌, List, [], ◌∷◌, length, take, slice_index, Option, Some}
+use Rattle.std.specs.Prelude.{None, option_map}
 use Rattle.std.specs.Option.{option_and_then, option_or}
 use Rattle.std.specs.Result.{result_ok}
 use Rattle.subsetter_base.specs.Options.{◌>>=◌}
@@ -19,7 +20,8 @@ use Rattle.subsetter_boxes.specs.Joined.{joined}
 abbrev pub alone : Setting
 alone = record { library = record { global = []; local = [] }; scalars = λ data_index. None }
 
--- what a charstring of CFF2 draws that calls no subroutines and doesn't vary; a token has at least one byte, and a table fewer than 2^32
+-- what a charstring of CFF2 draws that calls no subroutines and doesn't vary; a token has at least one byte, and a
+-- table fewer than 2^32
 abbrev pub outline : List ℕ → Option (List Segment)
 outline charstring = option_map (events_drawn origin) (result_ok (events alone 4294967295 1 0 charstring))
 
@@ -69,16 +71,17 @@ before_endchar bytes =
     else if slice_index bytes (length bytes - 1) == 14 then Some (take (length bytes - 1) bytes)
     else None
 
--- A charstring of CFF2 has neither width nor endchar (OpenType, "CFF2 CharString Format"). So a charstring with a width in front and endchar
--- at its end has one between them, and draws what that one draws.
+-- A charstring of CFF2 has neither width nor endchar (OpenType, "CFF2 CharString Format"). So a charstring with a width
+-- in front and endchar at its end has one between them, and draws what that one draws.
 unfoldable pub charstring_box : List ℕ → Option Bounds
 charstring_box charstring = do
   following ← after_width charstring
   body ← before_endchar following
   outline_box body
 
--- Of a charstring without subroutines, which ends by endchar. A width in front is the operand more than its first operator takes (Technical
--- Note 5177, section 4): with it there is no charstring of CFF2, without it and without endchar there is one, which draws the same.
+-- Of a charstring without subroutines, which ends by endchar. A width in front is the operand more than its first
+-- operator takes (Technical Note 5177, section 4): with it there is no charstring of CFF2, without it and without
+-- endchar there is one, which draws the same.
 unfoldable pub flat_box : List ℕ → Option Bounds
 flat_box flat = do
   body ← before_endchar flat

@@ -4,9 +4,15 @@ use Rattle.std.specs.Int.{int_max, int_min}
 use Rattle.std.specs.List.{fold}
 use Rattle.subsetter_points.specs.declared.bounds.Bounds.{Bounds}
 
--- around two
+-- the least box around two
 abbrev pub around : Bounds → Bounds → Bounds
-around a b = record { x_min = int_min a.x_min b.x_min; y_min = int_min a.y_min b.y_min; x_max = int_max a.x_max b.x_max; y_max = int_max a.y_max b.y_max }
+around a b =
+    record {
+      x_min = int_min a.x_min b.x_min;
+      y_min = int_min a.y_min b.y_min;
+      x_max = int_max a.x_max b.x_max;
+      y_max = int_max a.y_max b.y_max;
+    }
 
 abbrev pub joined : Option Bounds → Option Bounds → Option Bounds
 joined None b = b

@@ -11,7 +11,7 @@ use Rattle.subsetter_boxes.specs.Joined.{joined}
 use Rattle.subsetter_boxes.specs.declared.pen.Pen.{Pen}
 use Rattle.subsetter_boxes.specs.CharstringBox.{point_box, points}
 
--- a point more
+-- the pen after one more point, which its box holds
 unfoldable pub visited : Position → Pen → Option Pen
 visited to pen = option_map (λ own. record { at = to; bounds = joined pen.bounds (Some own) }) (point_box to)
 
@@ -20,11 +20,11 @@ abbrev pub followed : List Position → Pen → Option Pen
 followed [] pen = Some pen
 followed (at ∷ points) pen = option_and_then (followed points) (visited at pen)
 
--- those of segments
+-- the pen after the points of segments
 abbrev pub traced : List Segment → Pen → Option Pen
 traced segments pen = followed (points segments) pen
 
--- what an event draws
+-- the pen after what an event draws
 abbrev pub event_traced : Event → Pen → Option Pen
 event_traced e pen = traced (event_drawn e pen.at) pen
 

@@ -19,10 +19,14 @@ buffers widths heights units = record { widths = widths; heights = heights; unit
 abbrev pub begun : Advances → Buffers → Buffers
 begun a before = buffers (begun_with a.widths before.widths) (begun_with a.heights before.heights) a.units_per_em
 
--- advances of which `Is` holds, or an error of which `Why` holds, are handed over: what the caller had and has, and the status
-pub data AreAdvancesHanded (Is : Advances → Type 0) (Why : Error → Type 0) (before after : Buffers) (status : ℕ) : Type 0 where
+-- advances of which `Is` holds, or an error of which `Why` holds, are handed over: what the caller had and has, and the
+-- status
+pub data AreAdvancesHanded (Is : Advances → Type 0) (Why : Error → Type 0) (before after : Buffers) (status : ℕ)
+    : Type 0 where
   whole : (a : Advances) → Is a → after ≡ begun a before → status ≡ 0 → AreAdvancesHanded Is Why before after status
-  short : (a : Advances) → Is a → (length before.widths < length a.widths) ⊎ (length before.heights < length a.heights) → after ≡ before → status ≡ too_small → AreAdvancesHanded Is Why before after status
+  short : (a : Advances) → Is a → (length before.widths < length a.widths) ⊎ (length before.heights < length a.heights)
+      → after ≡ before → status ≡ too_small
+      → AreAdvancesHanded Is Why before after status
   refused : (e : Error) → Why e → after ≡ before → status ≡ status_of e → AreAdvancesHanded Is Why before after status
 
 -- they are what a reading of the font gives, or the error is the reading's, unless memory ran out

@@ -1,5 +1,7 @@
--- What the words of `struct subsetter_options` ask for (bindings/c/subsetter.h): their size in bytes, the limits of a charstring, what is left out, and the most bytes of the font.
-use Rattle.std.specs.Prelude.{◌≡◌, ℕ, ◌*◌, ◌<◌, ◌≤◌, List, length, slice_index_or, Bool, Option, Some, None, ◌==◌, if◌then◌else◌}
+-- What the words of `struct subsetter_options` ask for (bindings/c/subsetter.h): their size in bytes, the limits of a
+-- charstring, what is left out, and the most bytes of the font.
+use Rattle.std.specs.Prelude.{◌≡◌, ℕ, ◌*◌, ◌<◌, ◌≤◌, List, length, slice_index_or, Bool, Option, Some, None, ◌==◌}
+use Rattle.std.specs.Prelude.{if◌then◌else◌}
 use Rattle.std.specs.Int.Bits.{bit_and}
 use Rattle.subsetter.specs.Limits.{token_limit, depth_limit}
 use Rattle.subsetter_sfnt.specs.declared.extras.Extras.{Extras}
@@ -20,7 +22,7 @@ pub record AreKnown (words : List ℕ) : Type 0 where
   -- the fourth has no other bits than 1, 2 and 4
   pub bits : word words 3 < 8
 
--- 0 stands for the default
+-- 0 means the default
 abbrev pub or_default : ℕ → ℕ → ℕ
 or_default n usual = if n == 0 then usual else n
 
@@ -30,7 +32,7 @@ requested_tokens words = or_default (word words 1) token_limit
 abbrev pub requested_depth : List ℕ → ℕ
 requested_depth words = or_default (word words 2) depth_limit
 
--- 0 stands for no bound
+-- 0 means no bound
 abbrev pub requested_bytes : List ℕ → Option ℕ
 requested_bytes words = if word words 4 == 0 then None else Some (word words 4)
 

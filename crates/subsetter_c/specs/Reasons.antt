@@ -1,9 +1,11 @@
 -- Why a call is refused with a status, in words (bindings/c/subsetter.h).
-use Rattle.std.specs.Prelude.{◌≡◌, ℕ, ℤ, ◌==◌, if◌then◌else◌, List, [], Option, Some, None, Result, Ok, String, string_bytes}
+use Rattle.std.specs.Prelude.{◌≡◌, ℕ, ℤ, ◌==◌, if◌then◌else◌, List, [], Option, Some, None, Result, Ok, String}
+use Rattle.std.specs.Prelude.{string_bytes}
 use Rattle.std.specs.Global.{Global}
 use Rattle.std.specs.Option.{option_and_then}
 use Rattle.subsetter_base.specs.declared.error.Error.{Error}
-use Rattle.subsetter_base.specs.declared.error.Error.TheVariants.{UnknownKind, MalformedFont, Unimplemented, SubsetError, OverflowError, CFFError}
+use Rattle.subsetter_base.specs.declared.error.Error.TheVariants.{UnknownKind, MalformedFont, Unimplemented}
+use Rattle.subsetter_base.specs.declared.error.Error.TheVariants.{SubsetError, OverflowError, CFFError}
 use Rattle.subsetter_base.specs.declared.tag.Tag.{Tag}
 use Rattle.subsetter_sfnt.specs.Extras.{all_extras}
 use Rattle.font_reasons.specs.Calls.{Question}
@@ -11,7 +13,8 @@ use Rattle.font_reasons.specs.Explained.{explained}
 use Rattle.font_reasons.specs.Permission.{prohibition}
 use Rattle.font_reasons.specs.Texts.{reason_text}
 use Rattle.font_reasons.specs.declared.asked.Call.{Call}
-use Rattle.font_reasons.specs.declared.asked.Call.TheVariants.{Subset, SubsetAt, Embed, EmbedAt, PdfFont, GlyphsOf, Advances}
+use Rattle.font_reasons.specs.declared.asked.Call.TheVariants.{Subset, SubsetAt, Embed, EmbedAt, PdfFont, GlyphsOf}
+use Rattle.font_reasons.specs.declared.asked.Call.TheVariants.{Advances}
 use Rattle.font_reasons.specs.declared.reason.Reason.{Reason}
 use Rattle.subsetter_c.specs.Answers.Status.{bitmaps_alone, no_cmap, not_permitted}
 use Rattle.subsetter_c.specs.Options.{requested_depth, requested_extras, requested_tokens}
@@ -47,7 +50,8 @@ reason_of asked font = explained asked font
 
 unfoldable pub reason_by : ℕ → (Error → Question) → ℕ → List ℕ → Option Reason
 reason_by status asked index font =
-    if status == not_permitted then prohibition (record { bytes = font; index = index; extras = all_extras }) else option_and_then (λ e. reason_of (asked e) font) (error_of status)
+    if status == not_permitted then prohibition (record { bytes = font; index = index; extras = all_extras })
+    else option_and_then (λ e. reason_of (asked e) font) (error_of status)
 
 -- no text where the font doesn't show it
 abbrev pub text_of : Option Reason → List ℕ
@@ -55,8 +59,9 @@ text_of None = []
 text_of (Some reason) = reason_text reason
 
 abbrev pub explained_text : Call → ℕ → List ℕ → ℕ → List (Tag × ℤ) → List ℕ → List ℕ → List ℕ
-explained_text call status font index settings glyphs words = text_of (reason_by status (question call index settings glyphs words) index font)
+explained_text call status font index settings glyphs words =
+    text_of (reason_by status (question call index settings glyphs words) index font)
 
--- the bytes of a text that is answered
+-- the bytes of a text that is returned
 abbrev pub IsTextAnswered : Result (String Global) Error → List ℕ → Type 0
 IsTextAnswered answer bytes = (text : String Global) × (answer ≡ Ok text) × (string_bytes text ≡ bytes)

@@ -1,4 +1,5 @@
--- What is kept of what varies at a place: how many regions each item variation data have, and the scalars of the first ones.
+-- What is kept of what varies at a place: how many regions each item variation data have, and the scalars of the first
+-- ones.
 use Rattle.std.specs.Prelude.{◌≡◌, ℕ, ◌≤◌, ℤ, List, length, slice_get, Option, All}
 use Rattle.std.specs.Option.{option_map}
 use Rattle.subsetter_base.specs.Options.{◌>>=◌}

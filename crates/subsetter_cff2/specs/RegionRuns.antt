@@ -10,11 +10,12 @@ index_at bytes place = be (take 2 (drop place bytes))
 abbrev pub one_more : ℕ → ℕ
 one_more n = if nat_lt n 65535 then suc n else 65535
 
--- how many indexes of the last so many bytes stand before the first that isn't below the bound
+-- how many of the indexes in the last n bytes are before the first that isn't below the bound
 abbrev pub run : ℕ → List ℕ → ℕ → ℕ
 run bound bytes zero = 0
 run bound bytes (suc zero) = 0
-run bound bytes (suc (suc left)) = if nat_lt (index_at bytes (length bytes - suc (suc left))) bound then one_more (run bound bytes left) else 0
+run bound bytes (suc (suc left)) =
+    if nat_lt (index_at bytes (length bytes - suc (suc left))) bound then one_more (run bound bytes left) else 0
 
 -- the runs of the last 0, 1, 2 .. bytes, n of them
 pub record AreRuns (bound : ℕ) (bytes runs : List ℕ) (n : ℕ) : Type 0 where

@@ -1,5 +1,7 @@
--- The plain way to make a CFF table of a CFF2 table at coordinates: its parts, with the error that is answered where they can't be made.
-use Rattle.std.specs.Prelude.{ℕ, ◌+◌, nat_lt, min, Bool, is_some, ℤ, pos, List, [], ◌∷◌, length, map, slice_get, unwrap_or, Option, Some, None, Result, Ok}
+-- The plain way to make a CFF table of a CFF2 table at coordinates: its parts, with the error that is returned where
+-- they can't be made.
+use Rattle.std.specs.Prelude.{ℕ, ◌+◌, nat_lt, min, Bool, is_some, ℤ, pos, List, [], ◌∷◌, length, map, slice_get}
+use Rattle.std.specs.Prelude.{unwrap_or, Option, Some, None, Result, Ok}
 use Rattle.std.specs.List.{list_any}
 use Rattle.std.specs.Option.{ok_or}
 use Rattle.subsetter_base.specs.Bytes.{◌>>=◌}
@@ -56,13 +58,15 @@ present (one ∷ more) = with_number one (present more)
 -- ---- charstrings (OpenType, "CFF2 CharString Format")
 -- what a charstring under a private dict may call, and the scalars of regions
 abbrev pub setting : Cff2 → Option Variation → List (Option (List ℕ)) → Setting
-setting cff v locals = record { library = record { global = cff.subroutines; local = locals }; scalars = font_scalars v }
+setting cff v locals =
+    record { library = record { global = cff.subroutines; local = locals }; scalars = font_scalars v }
 
 -- of a glyph under a private dict, with its advance: a number of a charstring has 16 bits
 unfoldable pub glyph_text : Cff2 → Option Variation → ℕ → ℕ → NewDict → ℕ → ℕ → Result (List ℕ) Error
 glyph_text cff v tokens depth dict glyph advance =
     check (nat_lt advance 32768) OverflowError
-    (ok_or (char_string cff glyph) MalformedFont >>= resolved (setting cff v dict.subroutines) tokens depth dict.data_index (pos advance))
+    (ok_or (char_string cff glyph) MalformedFont
+    >>= resolved (setting cff v dict.subroutines) tokens depth dict.data_index (pos advance))
 
 -- of one of the new private dicts
 unfoldable pub placed_text : Cff2 → Option Variation → ℕ → ℕ → List NewDict → ℕ → ℕ → ℕ → Result (List ℕ) Error
@@ -72,10 +76,12 @@ placed_text cff v tokens depth dicts place glyph advance =
 -- a glyph that isn't requested has none
 abbrev pub text_if : Cff2 → Option Variation → ℕ → ℕ → List NewDict → ℕ → ℕ → Option ℕ → Result (Option (List ℕ)) Error
 text_if cff v tokens depth dicts place glyph None = Ok None
-text_if cff v tokens depth dicts place glyph (Some advance) = placed_text cff v tokens depth dicts place glyph advance >>= λ text. Ok (Some text)
+text_if cff v tokens depth dicts place glyph (Some advance) =
+    placed_text cff v tokens depth dicts place glyph advance >>= λ text. Ok (Some text)
 
 -- those of glyphs from one on, under the private dicts at these places
-abbrev pub texts_from : Cff2 → Option Variation → ℕ → ℕ → List NewDict → List ℕ → ℕ → List (Option ℕ) → Result (List (Option (List ℕ))) Error
+abbrev pub texts_from : Cff2 → Option Variation → ℕ → ℕ → List NewDict → List ℕ → ℕ → List (Option ℕ)
+    → Result (List (Option (List ℕ))) Error
 texts_from cff v tokens depth dicts places glyph [] = Ok []
 texts_from cff v tokens depth dicts [] glyph (one ∷ more) = Ok []
 texts_from cff v tokens depth dicts (place ∷ places) glyph (one ∷ more) = do

@@ -39,11 +39,13 @@ pub record DrawsGlyph (cff : Cff2) (v : Option Variation) (tokens depth glyph ad
   pub bytes : List ℕ
   pub bytes_are : char_string out glyph ≡ Some bytes
   -- draws and hints what the source's does, each coordinate and edge rounded once, with the advance as its width
-  pub drawn : IsDrawnAndWritten (setting cff v private.subroutines) tokens depth at_location.data_index (pos advance) charstring bytes
+  pub drawn : IsDrawnAndWritten (setting cff v private.subroutines)
+      tokens depth at_location.data_index (pos advance) charstring bytes
   -- and any run in the new table finds that, by as many tokens as it has
-  pub trace_is : (n deep : ℕ) → 1 ≤ deep → cost (written_events drawn.written.whole) ≤ n → glyph_trace out n deep glyph ≡ Some (record { events = written_events drawn.written.whole; left = [] })
+  pub trace_is : (n deep : ℕ) → 1 ≤ deep → cost (written_events drawn.written.whole) ≤ n
+      → glyph_trace out n deep glyph ≡ Some (record { events = written_events drawn.written.whole; left = [] })
 
--- the new table
+-- the new CFF table, of a CFF2 table at coordinates
 pub record IsTableAt (bytes : List ℕ) (r : Request) (tokens depth : ℕ) (out : List ℕ) : Type 0 where
   pub source : Cff2
   pub source_is : cff2_parts bytes (length r.at) ≡ Some source
@@ -56,7 +58,8 @@ pub record IsTableAt (bytes : List ℕ) (r : Request) (tokens depth : ℕ) (out 
   pub charstrings_are : char_strings copy ≡ Some charstrings
   pub count : length charstrings ≡ length r.glyphs
   pub cids : (glyph : ℕ) → glyph < length r.glyphs → cid_of copy glyph ≡ Some glyph
-  pub drawn : (glyph advance : ℕ) → slice_get r.glyphs glyph ≡ Some (Some advance) → DrawsGlyph source variation tokens depth glyph advance copy
+  pub drawn : (glyph advance : ℕ) → slice_get r.glyphs glyph ≡ Some (Some advance)
+      → DrawsGlyph source variation tokens depth glyph advance copy
   pub empty : (glyph : ℕ) → slice_get r.glyphs glyph ≡ Some None → char_string copy glyph ≡ Some no_glyph
   -- CID-keyed, without subroutines
   pub keyed : keying copy ≡ Some adobe_identity
@@ -64,7 +67,8 @@ pub record IsTableAt (bytes : List ℕ) (r : Request) (tokens depth : ℕ) (out 
   -- FontMatrix, and FontBBox, the least box around its glyphs
   pub matrix : Option (List Number)
   pub matrix_is : top_matrix source r.units ≡ Some matrix
-  pub matrices_are : (glyph : ℕ) → glyph < length r.glyphs → stated_matrices copy glyph ≡ Some (map value (new_matrix matrix), map value unit_matrix)
+  pub matrices_are : (glyph : ℕ) → glyph < length r.glyphs
+      → stated_matrices copy glyph ≡ Some (map value (new_matrix matrix), map value unit_matrix)
   pub box : last_of font_box_operator copy.top ≡ Some (map Integer (font_box (least_box (entry_boxes charstrings))))
   -- byte for byte the table of the plain way
   pub layout : made_table bytes r tokens depth ≡ Ok out
@@ -75,8 +79,14 @@ pub record IsRequest (r : Request) : Type 0 where
 
 -- what is made is such a table
 abbrev pub MadeIsTable : Type 0
-MadeIsTable = (bytes : List ℕ) (r : Request) (tokens depth : ℕ) (out : List ℕ) → IsRequest r → made_table bytes r tokens depth ≡ Ok out → IsTableAt bytes r tokens depth out
+MadeIsTable =
+    (bytes : List ℕ) (r : Request) (tokens depth : ℕ) (out : List ℕ) → IsRequest r
+    → made_table bytes r tokens depth ≡ Ok out
+    → IsTableAt bytes r tokens depth out
 
 -- limits never change a table: two that are made by different limits are the same bytes
 abbrev pub LimitsAgree : Type 0
-LimitsAgree = (bytes : List ℕ) (r : Request) (tokens depth other_tokens other_depth : ℕ) (out other : List ℕ) → made_table bytes r tokens depth ≡ Ok out → made_table bytes r other_tokens other_depth ≡ Ok other → out ≡ other
+LimitsAgree =
+    (bytes : List ℕ) (r : Request) (tokens depth other_tokens other_depth : ℕ) (out other : List ℕ)
+    → made_table bytes r tokens depth ≡ Ok out → made_table bytes r other_tokens other_depth ≡ Ok other
+    → out ≡ other

@@ -1,4 +1,5 @@
--- The FontMatrix of a font whose top dict has none: 1/unitsPerEm 0 0 1/unitsPerEm 0 0 (OpenType, "head"; Technical Note 5176, section 9).
+-- The FontMatrix of a font whose top dict has none: 1/unitsPerEm 0 0 1/unitsPerEm 0 0 (OpenType, "head"; Technical Note
+-- 5176, section 9).
 use Rattle.std.specs.Prelude.{ℕ, ◌+◌, ◌*◌, ◌/◌, ◌%◌, ◌==◌, if◌then◌else◌, List, [], ◌∷◌, ◌++◌, Option, Some, None}
 use Rattle.subsetter_cffdata.specs.Dicts.Dict.{entries}
 use Rattle.subsetter_cffdata.specs.Numerals.Numbers.{Number}
@@ -19,12 +20,14 @@ two_digits n = n / 10 * 16 + n % 10
 abbrev pub unit_real : ℕ → List ℕ
 unit_real n =
     30 ∷ (n / 100000000000000 * 16 + 10)
-    ∷ two_digits (n / 1000000000000 % 100) ∷ two_digits (n / 10000000000 % 100) ∷ two_digits (n / 100000000 % 100) ∷ two_digits (n / 1000000 % 100)
+    ∷ two_digits (n / 1000000000000 % 100) ∷ two_digits (n / 10000000000 % 100) ∷ two_digits (n / 100000000 % 100)
+    ∷ two_digits (n / 1000000 % 100)
     ∷ two_digits (n / 10000 % 100) ∷ two_digits (n / 100 % 100) ∷ two_digits (n % 100) ∷ 255 ∷ []
 
 -- a dict with FontMatrix alone; 139 is the number 0
 unfoldable pub units_dict : ℕ → List ℕ
-units_dict units = unit_real (parts_of_unit units) ++ (139 ∷ 139 ∷ unit_real (parts_of_unit units) ++ (139 ∷ 139 ∷ 12 ∷ 7 ∷ []))
+units_dict units =
+    unit_real (parts_of_unit units) ++ (139 ∷ 139 ∷ unit_real (parts_of_unit units) ++ (139 ∷ 139 ∷ 12 ∷ 7 ∷ []))
 
 -- FontMatrix of a dict, or by the units where it has none; none where it isn't six numbers
 abbrev pub matrix_or : Option (Option (List Number)) → ℕ → Option (Option (List Number))

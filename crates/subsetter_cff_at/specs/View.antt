@@ -1,5 +1,6 @@
 -- What requests, open tables and drawn glyphs in memory show.
-use Rattle.std.specs.Prelude.{◌≡◌, ◌⊎◌, ℕ, ◌+◌, ◌-◌, ◌^◌, min, false, Some, None, List, [], ◌∷◌, ◌++◌, length, map, Option, Result, Ok, IfOk}
+use Rattle.std.specs.Prelude.{◌≡◌, ◌⊎◌, ℕ, ◌+◌, ◌-◌, ◌^◌, min, false, Some, None, List, [], ◌∷◌, ◌++◌, length, map}
+use Rattle.std.specs.Prelude.{Option, Result, Ok, IfOk}
 use Rattle.std.specs.List.{concat}
 use Rattle.subsetter_base.specs.Bytes.{◌>>=◌}
 use Rattle.subsetter_base.specs.Gives.{Fails}
@@ -16,7 +17,8 @@ use Rattle.subsetter_cff2.specs.Variation.{Variation}
 use Rattle.subsetter_boxes.specs.CharstringBox.{charstring_box}
 use Rattle.subsetter_points.specs.declared.bounds.Bounds.{Bounds}
 use Rattle.subsetter_cff_at.specs.Request.{Request}
-use Rattle.subsetter_cff_at.specs.Plain.{Opened, Drawn, drawn, drawn_of, made_table, text_boxes, text_if, all_filled, filled, texts_size, texts_from}
+use Rattle.subsetter_cff_at.specs.Plain.{Opened, Drawn, drawn, drawn_of, made_table, text_boxes, text_if, all_filled}
+use Rattle.subsetter_cff_at.specs.Plain.{filled, texts_size, texts_from}
 use Rattle.subsetter_cff_at.specs.declared.opening.OpenTable.{OpenTable}
 use Rattle.subsetter_cff_at.specs.declared.request.TableRequest.{TableRequest}
 use Rattle.subsetter_cff_at.specs.declared.texts.Texts.{Texts}
@@ -47,27 +49,31 @@ pub record IsPut (old new : Texts) (text : Option (List ℕ)) : Type 0 where
   pub boxes : new.boxes.items ≡ old.boxes.items ++ charstring_box (filled text) ∷ []
   pub requested : new.requested ≡ counted_with old.requested text
 
--- texts before what is answered
-abbrev pub with_texts : List (Option (List ℕ)) → Result (List (Option (List ℕ))) Error → Result (List (Option (List ℕ))) Error
+-- texts before those of a result
+abbrev pub with_texts : List (Option (List ℕ)) → Result (List (Option (List ℕ))) Error
+    → Result (List (Option (List ℕ))) Error
 with_texts front read = read >>= λ more. Ok (front ++ more)
 
--- numbers before what is answered
+-- numbers before those of a result
 abbrev pub with_numbers : List (Option ℕ) → Result (List (Option ℕ)) Error → Result (List (Option ℕ)) Error
 with_numbers front read = read >>= λ more. Ok (front ++ more)
 
 -- a glyph more was drawn
-pub record DrawsNext (cff : Cff2) (v : Option Variation) (tokens depth : ℕ) (dicts : List NewDict) (place glyph : ℕ) (advance : Option ℕ) (old new : Texts) : Type 0 where
+pub record DrawsNext (cff : Cff2) (v : Option Variation) (tokens depth : ℕ) (dicts : List NewDict) (place glyph : ℕ)
+    (advance : Option ℕ) (old new : Texts) : Type 0 where
   pub text : Option (List ℕ)
   pub is : text_if cff v tokens depth dicts place glyph advance ≡ Ok text
   pub put : IsPut old new text
 
 -- all were drawn
-pub record AreAllDrawn (cff : Cff2) (v : Option Variation) (tokens depth : ℕ) (dicts : List NewDict) (places : List ℕ) (glyphs : List (Option ℕ)) (t : Texts) : Type 0 where
+pub record AreAllDrawn (cff : Cff2) (v : Option Variation) (tokens depth : ℕ) (dicts : List NewDict) (places : List ℕ)
+    (glyphs : List (Option ℕ)) (t : Texts) : Type 0 where
   pub texts : List (Option (List ℕ))
   pub are : texts_from cff v tokens depth dicts places 0 glyphs ≡ Ok texts
   pub shown : AreTexts texts t
 
-pub record IsDrawn (cff : Cff2) (v : Option Variation) (tokens depth : ℕ) (glyphs : List (Option ℕ)) (d : DrawnGlyphs) : Type 0 where
+pub record IsDrawn (cff : Cff2) (v : Option Variation) (tokens depth : ℕ) (glyphs : List (Option ℕ)) (d : DrawnGlyphs)
+    : Type 0 where
   pub plain : Drawn
   pub is : drawn cff v tokens depth glyphs ≡ Ok plain
   pub dicts : map dict_view d.dicts.items ≡ plain.dicts
@@ -81,7 +87,9 @@ drawn_size d = texts_size d.texts
 
 -- the table can't be made, for this reason; or the charstrings of the requested glyphs pass the bound on bytes
 abbrev pub FailsMaking : List ℕ → Request → ℕ → ℕ → Option ℕ → Error → Type 0
-FailsMaking bytes r tokens depth bound e = Fails e (made_table bytes r tokens depth) ⊎ ((e ≡ OverflowError) × IsTooLong bound drawn_size (drawn_of bytes r tokens depth))
+FailsMaking bytes r tokens depth bound e =
+    Fails e (made_table bytes r tokens depth)
+    ⊎ ((e ≡ OverflowError) × IsTooLong bound drawn_size (drawn_of bytes r tokens depth))
 
 -- these are the boxes of the charstrings, where they can be drawn
 abbrev pub HasBoxes : List (Option Bounds) → Result Drawn Error → Type 0

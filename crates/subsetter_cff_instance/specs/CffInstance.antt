@@ -48,15 +48,17 @@ pub record IsCffInstance (font : Font) (settings : List (Tag × ℤ)) (glyphs : 
   -- the metrics of the glyphs that were asked for, in their order
   pub metrics : List LongHorMetric
   pub metrics_are : varied_metrics source at glyphs ≡ Ok metrics
-  -- the outlines: in some number of tokens and some depth each glyph that was asked for is drawn, with its advance as its width, and each
-  -- other one is empty; there are none in glyf
+  -- the outlines: in some number of tokens and some depth each glyph that was asked for is drawn, with its advance as
+  -- its width, and each other one is empty; there are none in glyf
   pub tokens : ℕ
   pub depth : ℕ
   pub table : List ℕ
   pub table_is : stored (as_font file) (codes "CFF ") ≡ Some table
   pub alone : stored (as_font file) (codes "glyf") ≡ None
-  pub outlines : IsTableAt cff2 (request_at glyphs (record { at = at; source = source; metrics = metrics; lines = lines })) tokens depth table
-  -- the metric of each glyph that was asked for, read afresh, with the bearing of the box of its charstring, and of each other one
+  pub outlines : IsTableAt cff2
+      (request_at glyphs (record { at = at; source = source; metrics = metrics; lines = lines })) tokens depth table
+  -- the metric of each glyph that was asked for, read afresh, with the bearing of the box of its charstring, and of
+  -- each other one
   pub requests : (g : ℕ) → Contains glyphs g → HasMetricAt source out at (table_boxes table) g
   pub others : (g : ℕ) → g < source.count → (Contains glyphs g → ⊥) → metric out g ≡ Some no_metric
   -- as many glyphs as the font has

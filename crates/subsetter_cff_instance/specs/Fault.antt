@@ -1,5 +1,6 @@
--- What can stand against a static font, under the name of the error that it is answered by.
-use Rattle.std.specs.Prelude.{◌≡◌, ◌≤◌, ◌<◌, ℕ, List, length, codes, false, Contains, Option, None, IsSome, Ok, Some, ℤ, pos}
+-- The faults that stop a static font, each with its error.
+use Rattle.std.specs.Prelude.{◌≡◌, ◌≤◌, ◌<◌, ℕ, List, length, codes, false, Contains, Option, None, IsSome, Ok, Some, ℤ}
+use Rattle.std.specs.Prelude.{pos}
 use Rattle.subsetter_base.specs.declared.tag.Tag.{Tag}
 use Rattle.subsetter_base.specs.declared.error.Error.{Error}
 use Rattle.subsetter_base.specs.declared.error.Error.TheVariants.{MalformedFont, Unimplemented, OverflowError}
@@ -44,24 +45,40 @@ pub data HasGlyphFault (s : Source) (at : List ℤ) (g : ℕ) : Error → Type 0
   -- its metric: hhea and hmtx
   no_metric : HasHmtxFault (metric_source s) g → HasGlyphFault s at g MalformedFont
   -- its advance, as HVAR varies it; without HVAR it stays
-  in_advance : {e : Error} (m : LongHorMetric) → metric s g ≡ Some m → IsSome s.hvar → HasAdvanceFault s.hvar at g m.advance_width (pos 0) e → HasGlyphFault s at g e
+  in_advance : {e : Error} (m : LongHorMetric) → metric s g ≡ Some m → IsSome s.hvar
+      → HasAdvanceFault s.hvar at g m.advance_width (pos 0) e
+      → HasGlyphFault s at g e
 
--- a fault stands in a font, for settings and glyphs, each of whose charstrings may take so many tokens and go so deep
-pub data HasCffInstanceFault (font : Font) (settings : List (Tag × ℤ)) (glyphs : List ℕ) (tokens depth : ℕ) : Error → Type 0 where
+-- a fault of a font, for settings and glyphs, each of whose charstrings may take `tokens` tokens and go `depth` deep
+pub data HasCffInstanceFault (font : Font) (settings : List (Tag × ℤ)) (glyphs : List ℕ) (tokens depth : ℕ)
+    : Error → Type 0 where
   -- the directory, or the kind of the outlines
   in_outlines : {e : Error} → HasOutlinesFault font e → HasCffInstanceFault font settings glyphs tokens depth e
   -- fvar or avar
-  in_coordinates : {e : Error} → HasCoordinatesFault (stored font) e → HasCffInstanceFault font settings glyphs tokens depth e
+  in_coordinates : {e : Error} → HasCoordinatesFault (stored font) e
+      → HasCffInstanceFault font settings glyphs tokens depth e
   -- HVAR or MVAR has another major version than 1
-  other_hvar : HasOtherVersion (stored font) (codes "HVAR") → HasCffInstanceFault font settings glyphs tokens depth Unimplemented
-  other_mvar : HasOtherVersion (stored font) (codes "MVAR") → HasCffInstanceFault font settings glyphs tokens depth Unimplemented
+  other_hvar : HasOtherVersion (stored font) (codes "HVAR")
+      → HasCffInstanceFault font settings glyphs tokens depth Unimplemented
+  other_mvar : HasOtherVersion (stored font) (codes "MVAR")
+      → HasCffInstanceFault font settings glyphs tokens depth Unimplemented
   -- the tables that metrics are read from
   in_source : HasSourceFault (stored font) → HasCffInstanceFault font settings glyphs tokens depth MalformedFont
-  in_glyph : {e : Error} (at : List ℤ) (s : Source) (g : ℕ) → normalized_coordinates (stored font) settings ≡ Ok at → source_in (stored font) ≡ Some s → Contains glyphs g → HasGlyphFault s at g e → HasCffInstanceFault font settings glyphs tokens depth e
+  in_glyph : {e : Error} (at : List ℤ) (s : Source) (g : ℕ) → normalized_coordinates (stored font) settings ≡ Ok at
+      → source_in (stored font) ≡ Some s → Contains glyphs g → HasGlyphFault s at g e
+      → HasCffInstanceFault font settings glyphs tokens depth e
   -- a metric of hhea or post, as MVAR varies it
-  in_lines : {e : Error} (at : List ℤ) → normalized_coordinates (stored font) settings ≡ Ok at → HasLinesFault (stored font) at e → HasCffInstanceFault font settings glyphs tokens depth e
+  in_lines : {e : Error} (at : List ℤ) → normalized_coordinates (stored font) settings ≡ Ok at
+      → HasLinesFault (stored font) at e
+      → HasCffInstanceFault font settings glyphs tokens depth e
   -- CFF2, a charstring that is asked for, or a size of the new table
-  in_table : {e : Error} (cff2 : List ℕ) (p : Prepared) → stored font (codes "CFF2") ≡ Some cff2 → prepared (stored font) settings glyphs ≡ Ok p → HasFault cff2 (request_at glyphs p) tokens depth e → HasCffInstanceFault font settings glyphs tokens depth e
+  in_table : {e : Error} (cff2 : List ℕ) (p : Prepared) → stored font (codes "CFF2") ≡ Some cff2
+      → prepared (stored font) settings glyphs ≡ Ok p → HasFault cff2 (request_at glyphs p) tokens depth e
+      → HasCffInstanceFault font settings glyphs tokens depth e
   -- a table's place or length doesn't fit 32 bits
-  large_file : (cff2 : List ℕ) (p : Prepared) (cff : List ℕ) → stored font (codes "CFF2") ≡ Some cff2 → prepared (stored font) settings glyphs ≡ Ok p → made_table cff2 (request_at glyphs p) tokens depth ≡ Ok cff
-      → fits (start_of (new_tables (stored font) p.source p.lines glyphs p.metrics cff)) (new_tables (stored font) p.source p.lines glyphs p.metrics cff) ≡ false → HasCffInstanceFault font settings glyphs tokens depth OverflowError
+  large_file : (cff2 : List ℕ) (p : Prepared) (cff : List ℕ) → stored font (codes "CFF2") ≡ Some cff2
+      → prepared (stored font) settings glyphs ≡ Ok p → made_table cff2 (request_at glyphs p) tokens depth ≡ Ok cff
+      → fits (start_of (new_tables (stored font) p.source p.lines glyphs p.metrics cff))
+      (new_tables (stored font) p.source p.lines glyphs p.metrics cff)
+      ≡ false
+      → HasCffInstanceFault font settings glyphs tokens depth OverflowError

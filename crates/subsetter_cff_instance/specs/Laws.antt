@@ -1,4 +1,4 @@
--- What is answered is a static font, and the only one; what is refused has a fault.
+-- What is returned is a static font, and the only one; what is refused has a fault.
 use Rattle.std.specs.Prelude.{◌≡◌, ℕ, List, Ok, Err, ℤ}
 use Rattle.subsetter_base.specs.Bytes.{IsBytes}
 use Rattle.subsetter_base.specs.declared.tag.Tag.{Tag}
@@ -10,16 +10,30 @@ use Rattle.subsetter_cff_instance.specs.Plain.{cff_instance_of}
 
 -- the file that the plain way lays out is a static font, read afresh from its bytes
 abbrev pub IsCffReadAfresh : Type 0
-IsCffReadAfresh = (font : Font) (settings : List (Tag × ℤ)) (glyphs : List ℕ) (tokens depth : ℕ) (file : List ℕ) → IsBytes font.bytes → cff_instance_of font settings glyphs tokens depth ≡ Ok file → IsCffInstance font settings glyphs file
+IsCffReadAfresh =
+    (font : Font) (settings : List (Tag × ℤ)) (glyphs : List ℕ) (tokens depth : ℕ) (file : List ℕ) → IsBytes font.bytes
+    → cff_instance_of font settings glyphs tokens depth ≡ Ok file
+    → IsCffInstance font settings glyphs file
 
 -- the limits decide whether there is a file, and not which
 abbrev pub IsSameAtAnyLimits : Type 0
-IsSameAtAnyLimits = (font : Font) (settings : List (Tag × ℤ)) (glyphs : List ℕ) (tokens depth other_tokens other_depth : ℕ) (file other : List ℕ) → cff_instance_of font settings glyphs tokens depth ≡ Ok file → cff_instance_of font settings glyphs other_tokens other_depth ≡ Ok other → file ≡ other
+IsSameAtAnyLimits =
+    (font : Font) (settings : List (Tag × ℤ)) (glyphs : List ℕ)
+    (tokens depth other_tokens other_depth : ℕ) (file other : List ℕ)
+    → cff_instance_of font settings glyphs tokens depth ≡ Ok file
+    → cff_instance_of font settings glyphs other_tokens other_depth ≡ Ok other
+    → file ≡ other
 
--- an error is the name of a fault that stands
+-- an error is that of a fault
 abbrev pub HasCffFaultWhereRefused : Type 0
-HasCffFaultWhereRefused = (font : Font) (settings : List (Tag × ℤ)) (glyphs : List ℕ) (tokens depth : ℕ) (e : Error) → cff_instance_of font settings glyphs tokens depth ≡ Err e → HasCffInstanceFault font settings glyphs tokens depth e
+HasCffFaultWhereRefused =
+    (font : Font) (settings : List (Tag × ℤ)) (glyphs : List ℕ) (tokens depth : ℕ) (e : Error)
+    → cff_instance_of font settings glyphs tokens depth ≡ Err e
+    → HasCffInstanceFault font settings glyphs tokens depth e
 
--- where there is a file no fault stands
+-- where there is a file, there is no fault
 abbrev pub HasNoCffFaultWhereAnswered : Type 0
-HasNoCffFaultWhereAnswered = (font : Font) (settings : List (Tag × ℤ)) (glyphs : List ℕ) (tokens depth : ℕ) (file : List ℕ) → cff_instance_of font settings glyphs tokens depth ≡ Ok file → (e : Error) → ¬ (HasCffInstanceFault font settings glyphs tokens depth e)
+HasNoCffFaultWhereAnswered =
+    (font : Font) (settings : List (Tag × ℤ)) (glyphs : List ℕ) (tokens depth : ℕ) (file : List ℕ)
+    → cff_instance_of font settings glyphs tokens depth ≡ Ok file → (e : Error)
+    → ¬ (HasCffInstanceFault font settings glyphs tokens depth e)

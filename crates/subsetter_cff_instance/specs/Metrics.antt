@@ -1,6 +1,7 @@
--- The metrics of glyphs at a location: each advance as HVAR varies it, and the left side bearing of hmtx, which the outline there takes the
--- place of (OpenType, "HVAR" and "hmtx").
-use Rattle.std.specs.Prelude.{ℕ, List, [], ◌∷◌, map, slice_get, Option, Some, None, Result, Ok, Err, max, nat_lt, if◌then◌else◌, ℤ, pos}
+-- The metrics of glyphs at a location: each advance as HVAR varies it, and the left side bearing of hmtx, which the
+-- outline there takes the place of (OpenType, "HVAR" and "hmtx").
+use Rattle.std.specs.Prelude.{ℕ, List, [], ◌∷◌, map, slice_get, Option, Some, None, Result, Ok, Err, max, nat_lt}
+use Rattle.std.specs.Prelude.{if◌then◌else◌, ℤ, pos}
 use Rattle.std.specs.List.{fold, range_with_len}
 use Rattle.std.specs.Option.{ok_or, option_and_then, option_map, unwrap_or}
 use Rattle.subsetter_base.specs.Bytes.{◌>>=◌}
@@ -13,7 +14,8 @@ use Rattle.subsetter_cff_instance.specs.Source.{Source, metric}
 
 -- ---- a glyph
 
--- where there is HVAR it says by how much the advance that hmtx has varies, else that stays; outlines of CFF2 have no phantom points
+-- where there is HVAR it says by how much the advance that hmtx has varies, else that stays; outlines of CFF2 have no
+-- phantom points
 abbrev pub varied_advance : Option (List ℕ) → List ℤ → ℕ → ℕ → Result ℕ Error
 varied_advance None at g before = Ok before
 varied_advance (Some hvar) at g before = advance (Some hvar) at g before (pos 0)
@@ -58,6 +60,6 @@ no_metric = record { advance_width = 0; lsb = 0 }
 abbrev pub filled : List (Option LongHorMetric) → List LongHorMetric
 filled all = map (λ m. unwrap_or m no_metric) all
 
--- the greatest advance
+-- advanceWidthMax: the greatest advance
 abbrev pub widest : List LongHorMetric → ℕ
 widest metrics = fold max 0 (map (λ m. m.advance_width) metrics)

@@ -1,4 +1,4 @@
--- The plain way to a static font, with the error that is answered where something stands against it.
+-- The plain way to a static font, with the error that is returned where it is refused.
 use Rattle.std.specs.Prelude.{ℕ, List, Option, Result, Ok, ℤ}
 use Rattle.subsetter_base.specs.Bytes.{◌>>=◌}
 use Rattle.subsetter_base.specs.declared.tag.Tag.{Tag}
@@ -14,8 +14,8 @@ use Rattle.subsetter_cff_instance.specs.Metrics.{varied_metrics, metrics_by_glyp
 use Rattle.subsetter_cff_instance.specs.Source.{Source, outlines_or_fault, source_or_fault}
 use Rattle.subsetter_cff_instance.specs.Tables.{laid}
 
--- ---- what is read of a font at a location: the normalized coordinates, the tables, the metrics of the glyphs that are asked for, in their
--- order, and hhea and post, of which some metrics vary
+-- ---- what is read of a font at a location: the normalized coordinates, the tables, the metrics of the glyphs that are
+-- asked for, in their order, and hhea and post, of which some metrics vary
 pub record Prepared : Type 0 where
   pub at : List ℤ
   pub source : Source
@@ -34,20 +34,29 @@ prepared find settings glyphs = do
 
 -- each glyph under its old number, with its advance where it is asked for
 abbrev pub request_at : List ℕ → Prepared → Request
-request_at glyphs p = record { at = p.at; glyphs = advances (metrics_by_glyph glyphs p.metrics p.source.count); units = p.source.units_per_em }
+request_at glyphs p =
+    record {
+      at = p.at;
+      glyphs = advances (metrics_by_glyph glyphs p.metrics p.source.count);
+      units = p.source.units_per_em;
+    }
 
 -- of the tables that a look-up finds, and of this CFF2
-unfoldable pub cff_instance_in : (List ℕ → Option (List ℕ)) → List ℕ → List (Tag × ℤ) → List ℕ → ℕ → ℕ → Result (List ℕ) Error
+unfoldable pub cff_instance_in : (List ℕ → Option (List ℕ)) → List ℕ → List (Tag × ℤ) → List ℕ → ℕ → ℕ
+    → Result (List ℕ) Error
 cff_instance_in find cff2 settings glyphs tokens depth = do
   p ← prepared find settings glyphs
   cff ← made_table cff2 (request_at glyphs p) tokens depth
   laid find p.source p.lines glyphs p.metrics cff
 
 -- the charstrings alone
-unfoldable pub charstrings_in : (List ℕ → Option (List ℕ)) → List ℕ → List (Tag × ℤ) → List ℕ → ℕ → ℕ → Result Drawn Error
-charstrings_in find cff2 settings glyphs tokens depth = prepared find settings glyphs >>= λ p. drawn_of cff2 (request_at glyphs p) tokens depth
+unfoldable pub charstrings_in : (List ℕ → Option (List ℕ)) → List ℕ → List (Tag × ℤ) → List ℕ → ℕ → ℕ
+    → Result Drawn Error
+charstrings_in find cff2 settings glyphs tokens depth =
+    prepared find settings glyphs >>= λ p. drawn_of cff2 (request_at glyphs p) tokens depth
 
--- ---- of a font at settings of its user coordinates, for glyphs, each of whose charstrings may take so many tokens and go so deep
+-- ---- of a font at settings of its user coordinates, for glyphs, each of whose charstrings
+-- may take `tokens` tokens and go `depth` deep
 
 unfoldable pub cff_instance_of : Font → List (Tag × ℤ) → List ℕ → ℕ → ℕ → Result (List ℕ) Error
 cff_instance_of font settings glyphs tokens depth = do

@@ -1,5 +1,6 @@
 -- The tables that a static font is made from (OpenType, "CFF2", "head", "hhea", "hmtx", "maxp" and "HVAR").
-use Rattle.std.specs.Prelude.{ℕ, Bool, false, ◌||◌, is_some, List, [], codes, Option, Some, None, Result, Err, if◌then◌else◌}
+use Rattle.std.specs.Prelude.{ℕ, Bool, false, ◌||◌, is_some, List, [], codes, Option, Some, None, Result, Err}
+use Rattle.std.specs.Prelude.{if◌then◌else◌}
 use Rattle.std.specs.Option.{ok_or}
 use Rattle.subsetter_base.specs.declared.error.Error.{Error}
 use Rattle.subsetter_base.specs.declared.error.Error.TheVariants.{UnknownKind, MalformedFont, Unimplemented}
@@ -24,8 +25,8 @@ outlines_or_fault find = if has_other_outlines find then Err Unimplemented else 
 
 -- ---- the tables beside them
 
--- The headers and the metrics: how many glyphs there are (numGlyphs), unitsPerEm, how many glyphs have an advance of their own
--- (numberOfHMetrics), and what varies advances, if anything does.
+-- The headers and the metrics: how many glyphs there are (numGlyphs), unitsPerEm, how many glyphs have an advance of
+-- their own (numberOfHMetrics), and what varies advances, if anything does.
 pub record Source : Type 0 where
   pub maxp : List ℕ
   pub count : ℕ
@@ -46,7 +47,15 @@ source_in find = do
   hhea ← find (codes "hhea")
   pairs ← number_of_h_metrics hhea
   hmtx ← find (codes "hmtx")
-  Some (record { maxp = maxp; count = count; head = head; units_per_em = units; number_of_h_metrics = pairs; hmtx = hmtx; hvar = find (codes "HVAR") })
+  Some (record {
+    maxp = maxp;
+    count = count;
+    head = head;
+    units_per_em = units;
+    number_of_h_metrics = pairs;
+    hmtx = hmtx;
+    hvar = find (codes "HVAR");
+  })
 
 -- HVAR or MVAR has another major version than 1
 abbrev pub has_other_version : (List ℕ → Option (List ℕ)) → Bool
@@ -64,4 +73,14 @@ metric s g = metric_in s.hmtx s.number_of_h_metrics g
 
 -- the same metrics in a font of TrueType without outlines
 abbrev pub metric_source : Source → MetricSource
-metric_source s = record { glyf = []; loca = []; long = false; count = s.count; number_of_h_metrics = s.number_of_h_metrics; hmtx = s.hmtx; gvar = None; hvar = s.hvar }
+metric_source s =
+    record {
+      glyf = [];
+      loca = [];
+      long = false;
+      count = s.count;
+      number_of_h_metrics = s.number_of_h_metrics;
+      hmtx = s.hmtx;
+      gvar = None;
+      hvar = s.hvar;
+    }

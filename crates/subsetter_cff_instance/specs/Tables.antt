@@ -1,5 +1,6 @@
 -- The tables of the static font (OpenType, "head", "hhea", "hmtx", "maxp", "name" and "post").
-use Rattle.std.specs.Prelude.{ℕ, List, [], ◌∷◌, ◌++◌, length, take, drop, slice_range, codes, Option, Some, None, Result}
+use Rattle.std.specs.Prelude.{ℕ, List, [], ◌∷◌, ◌++◌, length, take, drop, slice_range, codes, Option, Some, None}
+use Rattle.std.specs.Prelude.{Result}
 use Rattle.std.specs.Int.{w16, to_be_bytes}
 use Rattle.subsetter_base.specs.declared.error.Error.{Error}
 use Rattle.subsetter_sfnt.specs.Fields.Hhea.{hhea_with}
@@ -21,8 +22,8 @@ use Rattle.subsetter_cff_instance.specs.Source.{Source}
 abbrev pub hmtx_of : List (Option LongHorMetric) → List ℕ
 hmtx_of all = hmtx_bytes (length all) (filled all)
 
--- advanceWidthMax is that of the glyphs that were asked for, minLeftSideBearing, minRightSideBearing and xMaxExtent are those of what they
--- draw, and numberOfHMetrics is the number of glyphs
+-- advanceWidthMax is that of the glyphs that were asked for, minLeftSideBearing, minRightSideBearing and xMaxExtent are
+-- those of what they draw, and numberOfHMetrics is the number of glyphs
 abbrev pub extreme_bytes : List LongHorMetric → Option Extents → List ℕ
 extreme_bytes metrics extents = to_be_bytes w16 (widest metrics) ++ side_bytes extents
 
@@ -31,7 +32,8 @@ hhea_bytes n metrics extents hhea = hhea_with (extreme_bytes metrics extents) n 
 
 -- checksumAdjustment is 0 until the file is laid out; xMin, yMin, xMax and yMax are those of what is drawn
 abbrev pub head_bytes : Option Extents → List ℕ → List ℕ
-head_bytes extents head = take 8 head ++ (0 ∷ 0 ∷ 0 ∷ 0 ∷ []) ++ (slice_range head 12 36 ++ box_bytes extents ++ drop 44 head)
+head_bytes extents head =
+    take 8 head ++ (0 ∷ 0 ∷ 0 ∷ 0 ∷ []) ++ (slice_range head 12 36 ++ box_bytes extents ++ drop 44 head)
 
 -- the tables: name and post as they are found
 abbrev pub tables : (List ℕ → Option (List ℕ)) → List ℕ → List ℕ → List ℕ → List ℕ → List ℕ → FontTables
@@ -60,8 +62,10 @@ new_tables find s lines glyphs metrics cff =
     let all = metrics_by_glyph glyphs metrics s.count in
     let boxes = table_boxes cff in
     let extents = all_extents all boxes in
-    present (rows (tables (with_lines find lines) cff (head_bytes extents s.head) (hhea_bytes s.count metrics extents lines.hhea) (hmtx_of (drawn_metrics all boxes)) s.maxp))
+    present (rows (tables (with_lines find lines) cff (head_bytes extents s.head)
+    (hhea_bytes s.count metrics extents lines.hhea) (hmtx_of (drawn_metrics all boxes)) s.maxp))
 
 -- the file, unless the length of the `CFF ` passes 32 bits
-unfoldable pub laid : (List ℕ → Option (List ℕ)) → Source → Lines → List ℕ → List LongHorMetric → List ℕ → Result (List ℕ) Error
+unfoldable pub laid : (List ℕ → Option (List ℕ)) → Source → Lines → List ℕ → List LongHorMetric → List ℕ
+    → Result (List ℕ) Error
 laid find s lines glyphs metrics cff = file_of (kind_word Cff) (new_tables find s lines glyphs metrics cff)

@@ -36,7 +36,9 @@ KeepsTable find out tag = stored out tag ≡ find tag
 
 -- a table's bytes between two places are those of the source's
 abbrev pub KeepsBytes : (List ℕ → Option (List ℕ)) → Font → List ℕ → ℕ → ℕ → Type 0
-KeepsBytes find out tag from to = (source copy : List ℕ) → find tag ≡ Some source → stored out tag ≡ Some copy → slice_range copy from to ≡ slice_range source from to
+KeepsBytes find out tag from to =
+    (source copy : List ℕ) → find tag ≡ Some source → stored out tag ≡ Some copy
+    → slice_range copy from to ≡ slice_range source from to
 
 -- or they are these
 abbrev pub HasBytes : Font → List ℕ → ℕ → ℕ → List ℕ → Type 0

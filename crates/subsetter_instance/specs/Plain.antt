@@ -1,4 +1,4 @@
--- The plain way to an instance, with the error that is answered where something stands against it.
+-- The plain way to an instance, with the error that is returned where it is refused.
 use Rattle.std.specs.Prelude.{ℕ, List, [], ◌∷◌, length, codes, Option, Result, Ok, Err, nat_lt, if◌then◌else◌, ℤ}
 use Rattle.std.specs.Option.{ok_or}
 use Rattle.subsetter_base.specs.Bytes.{◌>>=◌}
@@ -35,7 +35,8 @@ header find tag = ok_or (find tag) MalformedFont
 unfoldable pub laid : (List ℕ → Option (List ℕ)) → Lines → Source → List ℕ → List Drawn → Result (List ℕ) Error
 laid find lines s glyphs ds = do
   head ← header find (codes "head")
-  file_of (kind_word TrueType) (present (rows (tables (with_lines find lines) head lines.hhea s.count ds (by_glyph glyphs ds s.count))))
+  file_of (kind_word TrueType)
+      (present (rows (tables (with_lines find lines) head lines.hhea s.count ds (by_glyph glyphs ds s.count))))
 
 -- of the tables that a look-up finds
 unfoldable pub instance_in : (List ℕ → Option (List ℕ)) → List (Tag × ℤ) → List ℕ → ℕ → Result (List ℕ) Error
@@ -51,7 +52,7 @@ abbrev pub by_flavor : FontFlavor → (List ℕ → Option (List ℕ)) → List 
 by_flavor TrueType find settings glyphs steps = instance_in find settings glyphs steps
 by_flavor Cff find settings glyphs steps = Err Unimplemented
 
--- the instance of a font at settings of its user coordinates, for glyphs and in so many steps for each
+-- the instance of a font at settings of its user coordinates, for glyphs and in at most `steps` steps for each
 unfoldable pub instance_of : Font → List (Tag × ℤ) → List ℕ → ℕ → Result (List ℕ) Error
 instance_of font settings glyphs steps = do
   records ← opened font

@@ -1,5 +1,7 @@
--- The tables that an instance is made from (OpenType, "head", "hhea", "hmtx", "maxp", "loca", "glyf", "fvar", "avar", "gvar" and "HVAR").
-use Rattle.std.specs.Prelude.{◌≡◌, IfSome, ℕ, ◌+◌, Bool, not, ◌||◌, List, [], codes, Option, Some, None, Result, Ok, Err, ◌==◌, if◌then◌else◌, ℤ}
+-- The tables that an instance is made from (OpenType, "head", "hhea", "hmtx", "maxp", "loca", "glyf", "fvar", "avar",
+-- "gvar" and "HVAR").
+use Rattle.std.specs.Prelude.{◌≡◌, IfSome, ℕ, ◌+◌, Bool, not, ◌||◌, List, [], codes, Option, Some, None, Result, Ok}
+use Rattle.std.specs.Prelude.{Err, ◌==◌, if◌then◌else◌, ℤ}
 use Rattle.std.specs.Option.{ok_or}
 use Rattle.subsetter_base.specs.Bytes.{number, between_offsets}
 use Rattle.subsetter_base.specs.declared.tag.Tag.{Tag}
@@ -25,8 +27,8 @@ normalized_coordinates find settings = normalized_by (find (codes "fvar")) (find
 
 -- ---- the tables
 
--- The tables of outlines and metrics: where offsets of loca are long, how many glyphs there are (numGlyphs), how many of them have an
--- advance of their own (numberOfHMetrics), and what varies, if anything does.
+-- The tables of outlines and metrics: where offsets of loca are long, how many glyphs there are (numGlyphs), how many
+-- of them have an advance of their own (numberOfHMetrics), and what varies, if anything does.
 pub record Source : Type 0 where
   pub glyf : List ℕ
   pub loca : List ℕ
@@ -44,7 +46,7 @@ variations_in (Some bytes) axes = do
   t ← gvar_table bytes
   if t.axis_count == axes then Some (Some t) else None
 
--- the tables that a look-up finds, for so many axes: loca is long where indexToLocFormat isn't 0
+-- the tables that a look-up finds, for `axes` axes: loca is long where indexToLocFormat isn't 0
 unfoldable pub source_in : (List ℕ → Option (List ℕ)) → ℕ → Option Source
 source_in find axes = do
   glyf ← find (codes "glyf")
@@ -57,23 +59,35 @@ source_in find axes = do
   pairs ← number hhea 34 2
   hmtx ← find (codes "hmtx")
   gvar ← variations_in (find (codes "gvar")) axes
-  Some (record { glyf = glyf; loca = loca; long = not (format == 0); count = count; number_of_h_metrics = pairs; hmtx = hmtx; gvar = gvar; hvar = find (codes "HVAR") })
+  Some (record {
+    glyf = glyf;
+    loca = loca;
+    long = not (format == 0);
+    count = count;
+    number_of_h_metrics = pairs;
+    hmtx = hmtx;
+    gvar = gvar;
+    hvar = find (codes "HVAR");
+  })
 
 -- gvar, HVAR or MVAR has another major version than 1
 abbrev pub has_other_version : (List ℕ → Option (List ℕ)) → Bool
-has_other_version find = is_other_version (find (codes "gvar")) || (is_other_version (find (codes "HVAR")) || is_other_version (find (codes "MVAR")))
+has_other_version find =
+    is_other_version (find (codes "gvar"))
+    || (is_other_version (find (codes "HVAR")) || is_other_version (find (codes "MVAR")))
 
 -- the tables, or the name of what is wrong
 abbrev pub source_or_fault : (List ℕ → Option (List ℕ)) → ℕ → Result Source Error
-source_or_fault find axes = if has_other_version find then Err Unimplemented else ok_or (source_in find axes) MalformedFont
+source_or_fault find axes =
+    if has_other_version find then Err Unimplemented else ok_or (source_in find axes) MalformedFont
 
--- gvar, if there is one, has so many axes
+-- gvar, if there is one, has `axes` axes
 abbrev pub HasAxes : Option Gvar → ℕ → Type 0
 HasAxes gvar axes = IfSome gvar (λ t. axes ≡ t.axis_count)
 
 -- ---- a glyph
 
--- an offset of loca
+-- the offset of loca with this number
 abbrev pub offset : Source → ℕ → Option ℕ
 offset s g = loca_offset s.loca s.long g
 

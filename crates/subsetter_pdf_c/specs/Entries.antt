@@ -1,4 +1,5 @@
--- How glyphs with their texts come from C: as 32-bit characters, and where the text of each glyph ends among them. It begins where the one before ends.
+-- How glyphs with their texts come from C: as 32-bit characters, and where the text of each glyph ends among them. It
+-- begins where the one before ends.
 use Rattle.std.specs.Prelude.{◌≡◌, ℕ, true, ◌-◌, ◌==◌, ◌&&◌, nat_le, Bool, List, [], ◌∷◌, length, take, drop}
 use Rattle.std.specs.List.{list_all}
 use Rattle.pdf_codes.specs.Codes.{Used}
@@ -13,7 +14,7 @@ abbrev pub are_ascending : ℕ → List ℕ → ℕ → Bool
 are_ascending last [] bound = nat_le last bound
 are_ascending last (end ∷ ends) bound = nat_le last end && are_ascending end ends bound
 
--- so many glyphs have texts
+-- `count` glyphs have texts
 abbrev pub are_texts : ℕ → List ℕ → List ℕ → Bool
 are_texts count text ends = count == length ends && (are_scalars text && are_ascending 0 ends (length text))
 

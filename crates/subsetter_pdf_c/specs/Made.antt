@@ -13,7 +13,7 @@ use Rattle.subsetter_pdf_c.specs.declared.made.PdfNumbers.{PdfNumbers}
 abbrev pub kind_of : ℕ → ProgramKind
 kind_of n = if n == 0 then TrueType else if n == 1 then BareCff else OpenType
 
--- 0 stands for no value
+-- 0 means no value
 abbrev pub unless_zero : {A : Type 0} → ℕ → A → Option A
 unless_zero n value = if n == 0 then None else Some value
 
@@ -51,7 +51,9 @@ pub record IsViewOf (made : PdfMade) (glyph_map : List ℕ) (w : FontView) : Typ
   pub widths : w.values.widths.now ≡ made.widths.now
   pub default_width : w.values.default_width ≡ made.numbers.default_width
   pub columns : option_map each_of w.values.columns ≡ unless_zero made.numbers.is_vertical made.columns.now
-  pub default_column : option_map default_of w.values.columns ≡ unless_zero made.numbers.is_vertical (record { y = default_y made.numbers; advance = default_advance made.numbers })
+  pub default_column : option_map default_of w.values.columns
+      ≡ unless_zero made.numbers.is_vertical
+      (record { y = default_y made.numbers; advance = default_advance made.numbers })
   pub program : w.values.program.now ≡ made.program.now
   pub cid_to_gid_map : option_copied w.values.cid_to_gid_map ≡ unless_empty glyph_map glyph_map
   pub to_unicode : w.values.to_unicode.now ≡ made.to_unicode.now

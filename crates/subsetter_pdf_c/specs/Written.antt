@@ -11,7 +11,8 @@ use Rattle.pdf_text.specs.Dictionaries.Widths.{HasManyColumns}
 use Rattle.pdf_text.specs.Objects.{font_objects, most_objects, offsets_from, AreFontObjectsAt}
 use Rattle.pdf_text.specs.Parts.{Part, part_count, parts_of as parts_of_values, HasNoParts}
 use Rattle.pdf_text.specs.declared.objects.Object.{Object}
-use Rattle.pdf_text.specs.declared.objects.Object.TheVariants.{Font, CidFont, FontDescriptor, FontFile, ToUnicode, CidToGidMap, CidSet, Cmap}
+use Rattle.pdf_text.specs.declared.objects.Object.TheVariants.{Font, CidFont, FontDescriptor, FontFile, ToUnicode}
+use Rattle.pdf_text.specs.declared.objects.Object.TheVariants.{CidToGidMap, CidSet, Cmap}
 use Rattle.pdf_text.specs.declared.parts.PartsError.{PartsError}
 use Rattle.pdf_text.specs.declared.parts.PartsError.TheVariants.{Subset}
 use Rattle.pdf_text.specs.declared.strings.StringRange.{StringRange}
@@ -68,12 +69,28 @@ pub record Laid : Type 0 where
   pub stream : List ℕ
 
 abbrev pub laid_out : Part → Laid
-laid_out p = record { role = role_number p.role; number = p.number; entries = p.entries; strings = p.strings; is_stream = stream_number p.stream; stream = stream_bytes p.stream }
+laid_out p =
+    record {
+      role = role_number p.role;
+      number = p.number;
+      entries = p.entries;
+      strings = p.strings;
+      is_stream = stream_number p.stream;
+      stream = stream_bytes p.stream;
+    }
 
 abbrev pub laid_view : PdfPart → Laid
-laid_view p = record { role = p.role; number = p.number; entries = p.entries.now; strings = p.strings.now; is_stream = p.is_stream; stream = p.stream.now }
+laid_view p =
+    record {
+      role = p.role;
+      number = p.number;
+      entries = p.entries.now;
+      strings = p.strings.now;
+      is_stream = p.is_stream;
+      stream = p.stream.now;
+    }
 
--- how many there are
+-- how many objects a font has
 pub record IsPartCount (made : PdfMade) (glyph_map : List ℕ) (count : ℕ) : Type 0 where
   pub view : FontView
   pub is : IsViewOf made glyph_map view
@@ -85,7 +102,7 @@ pub record ArePartsOf (made : PdfMade) (glyph_map numbers : List ℕ) (ps : List
   pub is : IsViewOf made glyph_map view
   pub parts : map laid_view ps ≡ map laid_out (parts_of_values view.values numbers)
 
--- why there are none
+-- why there are no objects
 pub record HasNoPartsOf (made : PdfMade) (glyph_map numbers : List ℕ) (e : PartsError) : Type 0 where
   pub view : FontView
   pub is : IsViewOf made glyph_map view

@@ -8,7 +8,13 @@ use Rattle.subsetter_points.specs.Simple.{signed_word}
 
 -- the least box around a box and a point
 abbrev pub with_point : Bounds → Point → Bounds
-with_point b p = record { x_min = int_min b.x_min p.x; y_min = int_min b.y_min p.y; x_max = int_max b.x_max p.x; y_max = int_max b.y_max p.y }
+with_point b p =
+    record {
+      x_min = int_min b.x_min p.x;
+      y_min = int_min b.y_min p.y;
+      x_max = int_max b.x_max p.x;
+      y_max = int_max b.y_max p.y;
+    }
 
 -- the least box around a point and others, on the curve or not
 abbrev pub box_around : Point → List Point → Bounds

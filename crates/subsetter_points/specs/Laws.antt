@@ -8,4 +8,6 @@ IsReadBack = (outline : Outline) → IsTrue (fits outline) → simple (simple_by
 
 -- and, if it has a contour, also where other bytes follow, as the padding to an even number
 abbrev pub IsReadBackBefore : Type 0
-IsReadBackBefore = (outline : Outline) (rest : List ℕ) → IsTrue (fits outline) → 0 < length outline → simple (simple_bytes outline ++ rest) ≡ Some outline
+IsReadBackBefore =
+    (outline : Outline) (rest : List ℕ) → IsTrue (fits outline) → 0 < length outline
+    → simple (simple_bytes outline ++ rest) ≡ Some outline

@@ -1,6 +1,8 @@
 -- A simple glyph description as points, and points as a simple glyph description (OpenType, chapter "glyf").
 -- A Point of the code is x and y, whole numbers, and whether it is on the curve.
-use Rattle.std.specs.Prelude.{ℕ, zero, suc, ◌+◌, ◌-◌, Bool, true, false, ◌&&◌, List, [], ◌∷◌, ◌++◌, length, take, drop, map, flat_map, Option, Some, None, nat_lt, nat_le, ◌==◌, if◌then◌else◌, ℤ, pos, negsuc, ◌+ℤ◌, ◌-ℤ◌, neg_ℤ, unsigned_abs}
+use Rattle.std.specs.Prelude.{ℕ, zero, suc, ◌+◌, ◌-◌, Bool, true, false, ◌&&◌, List, [], ◌∷◌, ◌++◌, length, take, drop}
+use Rattle.std.specs.Prelude.{map, flat_map, Option, Some, None, nat_lt, nat_le, ◌==◌, if◌then◌else◌, ℤ, pos, negsuc}
+use Rattle.std.specs.Prelude.{◌+ℤ◌, ◌-ℤ◌, neg_ℤ, unsigned_abs}
 use Rattle.std.specs.List.{fold, list_all}
 use Rattle.std.specs.Int.{w16, to_be_bytes, cast_signed, cast_unsigned, int_min, int_max}
 use Rattle.subsetter_base.specs.Bytes.{number, has_flag}
@@ -27,19 +29,19 @@ has_16_bits (negsuc n) = nat_lt n 0x8000
 
 -- ---- what bytes begin with, and the bytes after it
 
--- uint8
+-- the next uint8, and the bytes after it
 abbrev pub byte : List ℕ → Option (ℕ × List ℕ)
 byte bytes = do
   n ← number bytes 0 1
   Some (n, drop 1 bytes)
 
--- uint16
+-- the next uint16, and the bytes after it
 abbrev pub word : List ℕ → Option (ℕ × List ℕ)
 word bytes = do
   n ← number bytes 0 2
   Some (n, drop 2 bytes)
 
--- the bytes after so many, if these are there
+-- the bytes after the first `size`, if these are there
 abbrev pub after : ℕ → List ℕ → Option (List ℕ)
 after size bytes = if nat_le size (length bytes) then Some (drop size bytes) else None
 
@@ -51,8 +53,8 @@ end_at from bytes = do
   end ← word bytes
   if nat_le from end.0 then Some end else None
 
--- the last points of so many contours, in increasing order: the first point of each contour follows the last one of
--- the contour before it
+-- the last points of n contours, in increasing order: the first point of each contour follows the last one of the
+-- contour before it
 unfoldable pub ends : ℕ → ℕ → List ℕ → Option (List ℕ × List ℕ)
 ends zero from bytes = Some ([], bytes)
 ends (suc n) from bytes = do
@@ -68,7 +70,8 @@ count from (end ∷ ends) = count (end + 1) ends
 -- the points of each contour
 unfoldable pub contours : ℕ → List ℕ → List Point → Outline
 contours from [] points = []
-contours from (end ∷ ends) points = take (end + 1 - from) points ∷ contours (end + 1) ends (drop (end + 1 - from) points)
+contours from (end ∷ ends) points =
+    take (end + 1 - from) points ∷ contours (end + 1) ends (drop (end + 1 - from) points)
 
 -- ---- flags
 
@@ -85,9 +88,10 @@ run_at bytes = do
 
 -- the next point's flag: the one before it while that is to be repeated, else one that is in the bytes
 abbrev pub next : Run → List ℕ → Option (Run × List ℕ)
-next run bytes = if run.repeats == 0 then run_at bytes else Some (record { flag = run.flag; repeats = run.repeats - 1 }, bytes)
+next run bytes =
+    if run.repeats == 0 then run_at bytes else Some (record { flag = run.flag; repeats = run.repeats - 1 }, bytes)
 
--- the flags of so many points; none is repeated past the last point
+-- the flags of n points; none is repeated past the last point
 unfoldable pub flags : ℕ → Run → List ℕ → Option (List ℕ × List ℕ)
 flags zero run bytes = if run.repeats == 0 then Some ([], bytes) else None
 flags (suc n) run bytes = do
@@ -97,11 +101,13 @@ flags (suc n) run bytes = do
 
 -- ---- xCoordinates and yCoordinates
 
--- how a flag says that a delta, the vector from the coordinate before, is encoded. With the short bit (X_SHORT_VECTOR) it is
--- one byte, and the same bit (X_IS_SAME_OR_POSITIVE_X_SHORT_VECTOR) is its sign, set for plus; without the short bit it is
--- nothing where the same bit is set, as the coordinate is the same as before, and else int16
+-- how a flag says that a delta, the vector from the coordinate before, is encoded. With the short bit (X_SHORT_VECTOR)
+-- it is one byte, and the same bit (X_IS_SAME_OR_POSITIVE_X_SHORT_VECTOR) is its sign, set for plus; without the short
+-- bit it is nothing where the same bit is set, as the coordinate is the same as before, and else int16
 abbrev pub encoding_of : ℕ → ℕ → ℕ → Encoding
-encoding_of short same flag = if has_flag flag short then (if has_flag flag same then Positive else Negative) else (if has_flag flag same then Same else Word)
+encoding_of short same flag =
+    if has_flag flag short then (if has_flag flag same then Positive else Negative)
+    else (if has_flag flag same then Same else Word)
 
 -- a delta in an encoding
 abbrev pub delta_at : Encoding → List ℕ → Option (ℤ × List ℕ)
@@ -135,8 +141,8 @@ coordinates short same v (flag ∷ flags) bytes = do
   more ← coordinates short same x.0 flags x.1
   Some (x.0 ∷ more.0, more.1)
 
--- X_SHORT_VECTOR is 0x02 and X_IS_SAME_OR_POSITIVE_X_SHORT_VECTOR 0x10, those of Y are 0x04 and 0x20; the first point is relative
--- to (0, 0)
+-- X_SHORT_VECTOR is 0x02 and X_IS_SAME_OR_POSITIVE_X_SHORT_VECTOR 0x10, those of Y are 0x04 and 0x20; the first point
+-- is relative to (0, 0)
 abbrev pub xs : List ℕ → List ℕ → Option (List ℤ × List ℕ)
 xs flags bytes = coordinates 0x02 0x10 (pos 0) flags bytes
 
@@ -176,7 +182,8 @@ parts_at n bytes = do
 abbrev pub description_at : ℕ → List ℕ → Option (List ℕ × List Point)
 description_at n bytes = if n == 0 then Some ([], []) else parts_at n bytes
 
--- the header is ten bytes: numberOfContours, which is below 0 for a composite glyph, and the bounding box, which is passed over
+-- the header is ten bytes: numberOfContours, which is below 0 for a composite glyph, and the bounding box, which is
+-- passed over
 abbrev pub header_at : List ℕ → Option (ℕ × List ℕ)
 header_at bytes = do
   n ← number bytes 0 2
@@ -217,23 +224,26 @@ encoding_bits short same Positive = short + same
 encoding_bits short same Negative = short
 encoding_bits short same Word = 0
 
--- the flag of a point, by whether it says that contours may overlap (OVERLAP_SIMPLE), whether the point is on the curve, and how
--- its two deltas are encoded
+-- the flag of a point, by whether it says that contours may overlap (OVERLAP_SIMPLE), whether the point is on the
+-- curve, and how its two deltas are encoded
 abbrev pub flag_of : Bool → Bool → Encoding → Encoding → ℕ
-flag_of overlap on x y = (if overlap then 0x40 else 0) + (if on then 0x01 else 0) + encoding_bits 0x02 0x10 x + encoding_bits 0x04 0x20 y
+flag_of overlap on x y =
+    (if overlap then 0x40 else 0) + (if on then 0x01 else 0) + encoding_bits 0x02 0x10 x + encoding_bits 0x04 0x20 y
 
--- the flag of each point, by itself: none is repeated. The first point's deltas are from x and y, and no flag but the first says
--- that contours may overlap
+-- the flag of each point, by itself: none is repeated. The first point's deltas are from x and y, and no flag but the
+-- first says that contours may overlap
 unfoldable pub flag_bytes : Bool → ℤ → ℤ → List Point → List ℕ
 flag_bytes overlap x y [] = []
-flag_bytes overlap x y (p ∷ points) = flag_of overlap p.on_curve (shortest_encoding (p.x -ℤ x)) (shortest_encoding (p.y -ℤ y)) ∷ flag_bytes false p.x p.y points
+flag_bytes overlap x y (p ∷ points) =
+    flag_of overlap p.on_curve (shortest_encoding (p.x -ℤ x)) (shortest_encoding (p.y -ℤ y))
+    ∷ flag_bytes false p.x p.y points
 
 -- each coordinate as a delta from the one before it, at first from v
 unfoldable pub delta_bytes : ℤ → List ℤ → List ℕ
 delta_bytes v [] = []
 delta_bytes v (x ∷ xs) = encoded_delta (shortest_encoding (x -ℤ v)) (x -ℤ v) ++ delta_bytes x xs
 
--- int16
+-- the two bytes of an int16
 abbrev pub signed_word : ℤ → List ℕ
 signed_word v = to_be_bytes w16 (cast_unsigned w16 v)
 
@@ -253,21 +263,25 @@ column_of column points = map (λ p. coordinate_in column p) points
 
 -- the bounding box of a point and others, on the curve or not: xMin, yMin, xMax, yMax
 abbrev pub box : Point → List Point → List ℕ
-box p points = signed_word (fold int_min p.x (xs_of points)) ++ signed_word (fold int_min p.y (ys_of points)) ++ signed_word (fold int_max p.x (xs_of points)) ++ signed_word (fold int_max p.y (ys_of points))
+box p points =
+    signed_word (fold int_min p.x (xs_of points)) ++ signed_word (fold int_min p.y (ys_of points))
+    ++ signed_word (fold int_max p.x (xs_of points)) ++ signed_word (fold int_max p.y (ys_of points))
 
--- endPtsOfContours
+-- the bytes of endPtsOfContours, uint16 each
 abbrev pub end_bytes : List ℕ → List ℕ
 end_bytes ends = flat_map (to_be_bytes w16) ends
 
 -- flags, of which the first has OVERLAP_SIMPLE, as contours of a variable font may overlap; xCoordinates and
 -- yCoordinates
 abbrev pub point_bytes : List Point → List ℕ
-point_bytes points = flag_bytes true (pos 0) (pos 0) points ++ (delta_bytes (pos 0) (xs_of points) ++ delta_bytes (pos 0) (ys_of points))
+point_bytes points =
+    flag_bytes true (pos 0) (pos 0) points ++ (delta_bytes (pos 0) (xs_of points) ++ delta_bytes (pos 0) (ys_of points))
 
 -- nothing where there are no points; else numberOfContours, the box, endPtsOfContours, no instructions, and the points
 unfoldable pub parts_bytes : List ℕ → List Point → List ℕ
 parts_bytes ends [] = []
-parts_bytes ends (p ∷ points) = to_be_bytes w16 (length ends) ++ (box p points ++ (end_bytes ends ++ (0 ∷ 0 ∷ point_bytes (p ∷ points))))
+parts_bytes ends (p ∷ points) =
+    to_be_bytes w16 (length ends) ++ (box p points ++ (end_bytes ends ++ (0 ∷ 0 ∷ point_bytes (p ∷ points))))
 
 -- the number of each contour's last point; the first contour begins with the point `from`
 unfoldable pub ends_of : ℕ → Outline → List ℕ
@@ -286,15 +300,17 @@ deltas_fit v [] = true
 deltas_fit v (x ∷ xs) = has_16_bits x && (has_16_bits (x -ℤ v) && deltas_fit x xs)
 
 abbrev pub points_fit : List Point → Bool
-points_fit points = nat_lt (length points) 0x10000 && (deltas_fit (pos 0) (xs_of points) && deltas_fit (pos 0) (ys_of points))
+points_fit points =
+    nat_lt (length points) 0x10000 && (deltas_fit (pos 0) (xs_of points) && deltas_fit (pos 0) (ys_of points))
 
--- an outline can be written: at most 32767 contours (numberOfContours), each with a point, at most 65535 points (maxPoints of
--- "maxp"), and coordinates and deltas of 16 bits
+-- an outline can be written: at most 32767 contours (numberOfContours), each with a point, at most 65535 points
+-- (maxPoints of "maxp"), and coordinates and deltas of 16 bits
 abbrev pub fits : Outline → Bool
-fits outline = nat_lt (length outline) 0x8000 && (list_all (λ c. nat_lt 0 (length c)) outline && points_fit (all_points outline))
+fits outline =
+    nat_lt (length outline) 0x8000 && (list_all (λ c. nat_lt 0 (length c)) outline && points_fit (all_points outline))
 
--- the last points of contours that have so many points in all: none is before the first point of its contour, and the last one
--- is the last point
+-- the last points of contours that have n points in all: none is before the first point of its contour, and the last
+-- one is the last point
 unfoldable pub are_ends : ℕ → List ℕ → ℕ → Bool
 are_ends from [] n = from == n
 are_ends from (end ∷ ends) n = nat_le from end && are_ends (end + 1) ends n

@@ -1,5 +1,7 @@
--- A sound font file, read afresh (OpenType, "Organization of an OpenType Font", "Table Directory", "Calculating Checksums").
-use Rattle.std.specs.Prelude.{◌≡◌, ℕ, ◌+◌, ◌-◌, ◌*◌, ◌%◌, ◌<◌, ◌≤◌, ◌^◌, List, [], ◌∷◌, length, map, codes, Some, IsSome, if◌then◌else◌}
+-- A sound font file, read afresh (OpenType, "Organization of an OpenType Font", "Table Directory", "Calculating
+-- Checksums").
+use Rattle.std.specs.Prelude.{◌≡◌, ℕ, ◌+◌, ◌-◌, ◌*◌, ◌%◌, ◌<◌, ◌≤◌, ◌^◌, List, [], ◌∷◌, length, map, codes, Some}
+use Rattle.std.specs.Prelude.{IsSome, if◌then◌else◌}
 use Rattle.std.specs.Str.{bytes_eq}
 use Rattle.subsetter_base.specs.Bytes.{be, range, number, aligned}
 use Rattle.subsetter_sfnt.specs.declared.face.TableRecord.{TableRecord}
@@ -11,7 +13,8 @@ use Rattle.subsetter_sfnt.specs.Laying.Written.{with_adjustment}
 abbrev pub summed : TableRecord → List ℕ → List ℕ
 summed r bytes = if bytes_eq r.tag.0 (codes "head") then with_adjustment 0 bytes else bytes
 
--- a record names the table at a place by its length and its checksum, and zeros up to a multiple of four stand after the table
+-- a record names the table at a place by its length and its checksum, and zeros up to a multiple of four are after the
+-- table
 pub record NamesTable (file : List ℕ) (at : ℕ) (r : TableRecord) : Type 0 where
   pub offset : r.offset ≡ at
   pub bytes : List ℕ
@@ -48,7 +51,7 @@ pub record IsSoundContainer (file : List ℕ) (kind : ℕ) (tags : List (List �
   pub range_shift : number file 10 2 ≡ Some (16 * length records - 16 * 2 ^ selector)
   pub tags_are : map (λ (r : TableRecord). r.tag.0) records ≡ tags
   pub ascending : AscendFrom 0 tags
-  -- the first table stands right after the records
+  -- the first table is right after the records
   pub tables : NameTablesFrom file (12 + 16 * length records) records
   -- the whole file has the sum that OpenType asks for, wherever it has `head`
   pub sum : IsSome (table (as_font file) (codes "head")) → checksum file ≡ 0xB1B0AFBA

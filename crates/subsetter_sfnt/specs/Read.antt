@@ -1,5 +1,6 @@
 -- A font file: its kind, its directory and its tables (OpenType, "Organization of an OpenType Font").
-use Rattle.std.specs.Prelude.{ℕ, zero, suc, ◌+◌, ◌*◌, ◌/◌, List, [], ◌∷◌, length, take, drop, codes, Option, Some, None, is_some, find, ◌==◌, if◌then◌else◌}
+use Rattle.std.specs.Prelude.{ℕ, zero, suc, ◌+◌, ◌*◌, ◌/◌, List, [], ◌∷◌, length, take, drop, codes, Option, Some, None}
+use Rattle.std.specs.Prelude.{is_some, find, ◌==◌, if◌then◌else◌}
 use Rattle.std.specs.Option.{option_and_then, option_map}
 use Rattle.std.specs.Str.{bytes_eq}
 use Rattle.subsetter_base.specs.Bytes.{be, range, number}
@@ -24,7 +25,10 @@ as_font bytes = record { bytes = bytes; index = 0; extras = all_extras }
 
 -- 0x00010000, `true` and `OTTO` begin a font, `ttcf` a collection
 abbrev pub kind_of : ℕ → Option FontKind
-kind_of word = if word == 0x00010000 then Some Single else (if word == 0x74727565 then Some Single else (if word == 0x4F54544F then Some Single else (if word == 0x74746366 then Some Collection else None)))
+kind_of word =
+    if word == 0x00010000 then Some Single
+    else (if word == 0x74727565 then Some Single
+    else (if word == 0x4F54544F then Some Single else (if word == 0x74746366 then Some Collection else None)))
 
 -- the kind that the word at a place names
 abbrev pub kind_at : List ℕ → ℕ → Option FontKind
@@ -46,7 +50,7 @@ header_by_kind Collection font = do
   kind ← kind_at font.bytes at
   if_single kind at
 
--- where the font's header stands: at the start, or in a collection where the entry of the index says
+-- where the font's header is: at the start, or in a collection where the entry of the index says
 unfoldable pub header_offset : Font → Option ℕ
 header_offset font = do
   kind ← kind_at font.bytes 0
@@ -54,9 +58,15 @@ header_offset font = do
 
 -- a record of the directory: tag, checksum, offset and length, four bytes each
 abbrev pub record_of : List ℕ → TableRecord
-record_of bytes = record { tag = record { 0 = take 4 bytes }; checksum = be (take 4 (drop 4 bytes)); offset = be (take 4 (drop 8 bytes)); length = be (take 4 (drop 12 bytes)) }
+record_of bytes =
+    record {
+      tag = record { 0 = take 4 bytes };
+      checksum = be (take 4 (drop 4 bytes));
+      offset = be (take 4 (drop 8 bytes));
+      length = be (take 4 (drop 12 bytes));
+    }
 
--- that many records
+-- the next n table records, of 16 bytes each
 abbrev pub directory_records : ℕ → List ℕ → List TableRecord
 directory_records zero bytes = []
 directory_records (suc n) bytes = record_of bytes ∷ directory_records n (drop 16 bytes)
@@ -80,7 +90,9 @@ find_record tag es = find (λ e. bytes_eq e.tag.0 tag) es
 
 -- the bytes that records name by a tag, if the file has them
 abbrev pub table_in : List ℕ → List ℕ → List ℕ → Option (List ℕ)
-table_in bytes directory tag = option_and_then (λ e. range bytes e.offset e.length) (find_record tag (directory_records (length directory / 16) directory))
+table_in bytes directory tag =
+    option_and_then (λ e. range bytes e.offset e.length)
+    (find_record tag (directory_records (length directory / 16) directory))
 
 -- the table of a tag in the file: the range of the first record that bears it, none where that range leaves the file
 abbrev pub stored : Font → List ℕ → Option (List ℕ)
@@ -92,4 +104,6 @@ table font = requested font.extras (stored font)
 
 -- `glyf` makes a font TrueType, else `CFF ` makes it CFF
 abbrev pub flavor : Font → Option FontFlavor
-flavor font = if is_some (table font (codes "glyf")) then Some TrueType else (if is_some (table font (codes "CFF ")) then Some Cff else None)
+flavor font =
+    if is_some (table font (codes "glyf")) then Some TrueType
+    else (if is_some (table font (codes "CFF ")) then Some Cff else None)

@@ -1,4 +1,4 @@
--- What the code's tables of a new font stand for.
+-- What the code's tables of a new font mean.
 use Rattle.std.specs.Prelude.{ℕ, List, map}
 use Rattle.std.specs.Option.{option_map}
 use Rattle.subsetter_sfnt.specs.declared.laying.tables.NewTable.{NewTable}

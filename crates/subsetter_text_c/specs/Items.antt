@@ -4,7 +4,7 @@ use Rattle.std.specs.List.{list_all}
 use Rattle.pdf_runs.specs.Shaped.{Labelled, between}
 use Rattle.subsetter_text_c.specs.declared.items.TextItem.{TextItem}
 
--- the text that begins at a glyph, if any does, is among so many characters
+-- the text that begins at a glyph, if any does, is among `count` characters
 abbrev pub is_ranged : ℕ → TextItem → Bool
 is_ranged count i = not (i.continues == 0) || (nat_le i.start i.end && nat_le i.end count)
 
@@ -18,4 +18,12 @@ abbrev pub text_in : List ℕ → TextItem → Option (List ℕ)
 text_in cs i = if i.continues == 0 then Some (between cs i.start i.end) else None
 
 abbrev pub labelled_in : List ℕ → TextItem → Labelled
-labelled_in cs i = record { glyph = i.glyph; text = text_in cs i; x_advance = i.x_advance; y_advance = i.y_advance; x_offset = i.x_offset; y_offset = i.y_offset }
+labelled_in cs i =
+    record {
+      glyph = i.glyph;
+      text = text_in cs i;
+      x_advance = i.x_advance;
+      y_advance = i.y_advance;
+      x_offset = i.x_offset;
+      y_offset = i.y_offset;
+    }

@@ -49,7 +49,8 @@ pub record KeepsOwn (old new : List Ink) : Type 0 where
   pub are : new ≡ old ++ further
 
 -- a run is shown by these bytes: what the text has before and after
-pub record IsRunShown (f : Font) (c : Choice) (d : Direction) (o : Order) (size : ℕ) (old new : Lists) (run : List Item) (bytes : List ℕ) : Type 0 where
+pub record IsRunShown (f : Font) (c : Choice) (d : Direction) (o : Order) (size : ℕ) (old new : Lists) (run : List Item)
+    (bytes : List ℕ) : Type 0 where
   pub own : List OwnInk
   pub own_are : inks_of own ≡ inks_in new.own new.parts
   pub is : IsShownWithOwn f c d o size (pairs_in old.pairs) (pairs_in new.pairs) own run bytes
@@ -57,14 +58,16 @@ pub record IsRunShown (f : Font) (c : Choice) (d : Direction) (o : Order) (size 
   pub own_stay : KeepsOwn (inks_in old.own old.parts) (inks_in new.own new.parts)
 
 -- a run isn't shown with the own glyphs of before and further ones
-pub record IsNoneShown (f : Font) (c : Choice) (d : Direction) (o : Order) (old : Lists) (run : List Item) (e : RunError) : Type 0 where
+pub record IsNoneShown (f : Font) (c : Choice) (d : Direction) (o : Order) (old : Lists) (run : List Item)
+    (e : RunError) : Type 0 where
   pub pairs : List Pair
   pub own : List OwnInk
   pub own_stay : KeepsOwn (inks_in old.own old.parts) (inks_of own)
   pub why : IsUnshownWithOwn f c d o (pairs_in old.pairs) pairs own run e
 
 -- why a run isn't shown
-pub data IsRunRefused (f : Font) (c : Choice) (d : Direction) (o : Order) (old : Lists) (run : List Item) (e : RunError) : Type 0 where
+pub data IsRunRefused (f : Font) (c : Choice) (d : Direction) (o : Order) (old : Lists) (run : List Item) (e : RunError)
+    : Type 0 where
   without_memory : e ≡ OutOfMemory → IsRunRefused f c d o old run e
   -- the own glyphs of before aren't such
   no_own : e ≡ InvalidText → are_own old.own old.parts ≡ false → IsRunRefused f c d o old run e
@@ -73,16 +76,19 @@ pub data IsRunRefused (f : Font) (c : Choice) (d : Direction) (o : Order) (old :
   none_shown : IsNoneShown f c d o old run e → IsRunRefused f c d o old run e
 
 -- the items with these labels are shown, if there are any
-pub record IsOneShown (f : Font) (c : Choice) (d : Direction) (o : Order) (size : ℕ) (old new : Lists) (is_one : Bool) (labels : List Labelled) (bytes : List ℕ) : Type 0 where
+pub record IsOneShown (f : Font) (c : Choice) (d : Direction) (o : Order) (size : ℕ) (old new : Lists) (is_one : Bool)
+    (labels : List Labelled) (bytes : List ℕ) : Type 0 where
   pub one : is_one ≡ true
   pub run : List Item
   pub items : map seen run ≡ labels
   pub is : IsRunShown f c d o size old new run bytes
 
-pub data AreUnshown (f : Font) (c : Choice) (d : Direction) (o : Order) (old : Lists) (is_one : Bool) (labels : List Labelled) (e : RunError) : Type 0 where
+pub data AreUnshown (f : Font) (c : Choice) (d : Direction) (o : Order) (old : Lists) (is_one : Bool)
+    (labels : List Labelled) (e : RunError) : Type 0 where
   memory : e ≡ OutOfMemory → AreUnshown f c d o old is_one labels e
   none : e ≡ InvalidText → is_one ≡ false → AreUnshown f c d o old is_one labels e
-  refused : (run : List Item) → map seen run ≡ labels → IsRunRefused f c d o old run e → AreUnshown f c d o old is_one labels e
+  refused : (run : List Item) → map seen run ≡ labels → IsRunRefused f c d o old run e
+      → AreUnshown f c d o old is_one labels e
 
 -- ---- items
 
@@ -91,12 +97,18 @@ are_one text items = are_scalars text && are_items (length text) items
 
 -- ---- glyphs with cluster numbers
 
-pub record IsTextShown (f : Font) (c : Choice) (d : Direction) (o : Order) (size : ℕ) (old new : Lists) (units : Units) (glyphs : List Shaped) (bytes : List ℕ) : Type 0 where
+pub record IsTextShown (f : Font) (c : Choice) (d : Direction) (o : Order) (size : ℕ) (old new : Lists) (units : Units)
+    (glyphs : List Shaped) (bytes : List ℕ) : Type 0 where
   pub characters : List ℕ
   pub text : AreCharactersOf units characters
-  pub is : IsOneShown f c d o size old new (is_shaped d (unit_of units) characters glyphs) (items_of d (unit_of units) characters glyphs) bytes
+  pub is : IsOneShown f c d o size old new (is_shaped d (unit_of units) characters glyphs)
+      (items_of d (unit_of units) characters glyphs) bytes
 
-pub data IsTextUnshown (f : Font) (c : Choice) (d : Direction) (o : Order) (old : Lists) (units : Units) (glyphs : List Shaped) (e : RunError) : Type 0 where
+pub data IsTextUnshown (f : Font) (c : Choice) (d : Direction) (o : Order) (old : Lists) (units : Units)
+    (glyphs : List Shaped) (e : RunError) : Type 0 where
   no_memory : e ≡ OutOfMemory → IsTextUnshown f c d o old units glyphs e
   no_text : e ≡ InvalidText → IsNoText units → IsTextUnshown f c d o old units glyphs e
-  unshown : (characters : List ℕ) → AreCharactersOf units characters → AreUnshown f c d o old (is_shaped d (unit_of units) characters glyphs) (items_of d (unit_of units) characters glyphs) e → IsTextUnshown f c d o old units glyphs e
+  unshown : (characters : List ℕ) → AreCharactersOf units characters
+      → AreUnshown f c d o old (is_shaped d (unit_of units) characters glyphs)
+      (items_of d (unit_of units) characters glyphs) e
+      → IsTextUnshown f c d o old units glyphs e

@@ -1,5 +1,6 @@
 -- A text in UTF-8, UTF-16 or UTF-32 (Unicode, 3.9, "Unicode Encoding Forms").
-use Rattle.std.specs.Prelude.{◌≡◌, ℕ, ◌+◌, ◌-◌, ◌*◌, ◌&&◌, nat_le, nat_lt, Bool, false, if◌then◌else◌, List, [], ◌∷◌, ◌++◌, Option, Some, None}
+use Rattle.std.specs.Prelude.{◌≡◌, ℕ, ◌+◌, ◌-◌, ◌*◌, ◌&&◌, nat_le, nat_lt, Bool, false, if◌then◌else◌, List, [], ◌∷◌}
+use Rattle.std.specs.Prelude.{◌++◌, Option, Some, None}
 use Rattle.std.specs.Option.{option_and_then, option_map}
 use Rattle.std.specs.Str.{IsUtf8, encode_utf8_all}
 use Rattle.subsetter_pdf_c.specs.Entries.{are_scalars}
@@ -53,7 +54,8 @@ ended (Some h) = None
 -- the characters of units, after a high surrogate or none
 abbrev pub decoded : Option ℕ → List ℕ → Option (List ℕ)
 decoded high [] = ended high
-decoded high (u ∷ us) = option_and_then (λ r. option_map (λ cs. read_out r ++ cs) (decoded (next_high r) us)) (read_unit high u)
+decoded high (u ∷ us) =
+    option_and_then (λ r. option_map (λ cs. read_out r ++ cs) (decoded (next_high r) us)) (read_unit high u)
 
 -- ---- all
 

@@ -1,5 +1,6 @@
 -- A trace as the bytes of a charstring without subroutines: for each event its operands, each in its shortest form
--- (Technical Note 5177, section 3.2 "Charstring Number Encoding"), the operator and its mask; then the operands that are left.
+-- (Technical Note 5177, section 3.2 "Charstring Number Encoding"), the operator and its mask; then the operands that
+-- are left.
 use Rattle.std.specs.Prelude.{ℕ, List, ◌++◌, Result, Ok, Err}
 use Rattle.std.specs.List.{flat_map}
 use Rattle.subsetter_base.specs.declared.error.Error.{Error}

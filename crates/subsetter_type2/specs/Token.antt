@@ -5,7 +5,8 @@ use Rattle.subsetter_cffdata.specs.declared.dicts.operator.Operator.{Operator}
 use Rattle.subsetter_cffdata.specs.declared.dicts.operator.OperatorType.{OperatorType}
 use Rattle.subsetter_cffdata.specs.declared.dicts.operator.OperatorType.TheVariants.{OneByteOperator, TwoByteOperator}
 use Rattle.subsetter_type2.specs.declared.token.Effect.{Effect}
-use Rattle.subsetter_type2.specs.declared.token.Effect.TheVariants.{CountsStems, Draws, CallsLocal, CallsGlobal, Returns, Ends, Masks}
+use Rattle.subsetter_type2.specs.declared.token.Effect.TheVariants.{CountsStems, Draws, CallsLocal, CallsGlobal}
+use Rattle.subsetter_type2.specs.declared.token.Effect.TheVariants.{Returns, Ends, Masks}
 use Rattle.subsetter_cffdata.specs.Numerals.CharStringNumber.{number_at}
 
 -- a number or an operator
@@ -42,7 +43,8 @@ one_byte_effect b =
     if b == 1 || b == 3 || b == 18 || b == 23 then Some CountsStems
     -- vmoveto, rlineto, hlineto, vlineto, rrcurveto; rmoveto, hmoveto;
     -- rcurveline, rlinecurve, vvcurveto, hhcurveto; vhcurveto, hvcurveto
-    else if nat_le 4 b && nat_le b 8 || b == 21 || b == 22 || nat_le 24 b && nat_le b 27 || b == 30 || b == 31 then Some Draws
+    else if nat_le 4 b && nat_le b 8 || b == 21 || b == 22 || nat_le 24 b && nat_le b 27 || b == 30 || b == 31
+    then Some Draws
     -- callsubr, callgsubr, return, endchar
     else if b == 10 then Some CallsLocal
     else if b == 29 then Some CallsGlobal

@@ -20,5 +20,6 @@ pub record Done : Type 0 where
   pub lead : Continuation
 
 abbrev pub done : Act → List ℕ → Result Done Error
-done (Does said next lead) settled = Ok (record { registers = next; settled = settled ++ event_bytes said; lead = lead })
+done (Does said next lead) settled =
+    Ok (record { registers = next; settled = settled ++ event_bytes said; lead = lead })
 done (Fails error) settled = Err error

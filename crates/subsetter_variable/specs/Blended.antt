@@ -1,5 +1,7 @@
--- A font of glyphs that outlines of CFF2 draw at a location, read afresh from its bytes (OpenType, "CFF2"; Technical Notes 5176 and 5177).
-use Rattle.std.specs.Prelude.{◌≡◌, ◌<◌, ◌≤◌, ℕ, ℤ, pos, List, [], length, map, slice_index, codes, Contains, Option, Some, None, Ok}
+-- A font of glyphs that outlines of CFF2 draw at a location, read afresh from its bytes (OpenType, "CFF2"; Technical
+-- Notes 5176 and 5177).
+use Rattle.std.specs.Prelude.{◌≡◌, ◌<◌, ◌≤◌, ℕ, ℤ, pos, List, [], length, map, slice_index, codes, Contains, Option}
+use Rattle.std.specs.Prelude.{Some, None, Ok}
 use Rattle.subsetter_base.specs.declared.tag.Tag.{Tag}
 use Rattle.subsetter_cffdata.specs.Numerals.Numbers.{Number, Integer}
 use Rattle.subsetter_cffdata.specs.Numerals.Values.{value}
@@ -44,7 +46,8 @@ pub record BlendedSource : Type 0 where
   pub tokens : ℕ
   pub depth : ℕ
 
--- glyph i of a font draws what glyph g of another one draws at a location, each coordinate and each edge of a stem rounded once
+-- glyph i of a font draws what glyph g of another one draws at a location, each coordinate and each edge of a stem
+-- rounded once
 pub record IsBlendedAs (s : BlendedSource) (g : ℕ) (out : Font) (copy : Cff) (i : ℕ) : Type 0 where
   -- its advance as HVAR varies it
   pub its : LongHorMetric
@@ -63,9 +66,11 @@ pub record IsBlendedAs (s : BlendedSource) (g : ℕ) (out : Font) (copy : Cff) (
   -- the advance, and the left side bearing of the charstring's box
   pub metric_is : metric out i ≡ Some (with_bearing (charstring_box bytes) its)
   -- draws and hints what the source's does, each coordinate and each edge rounded once, with the advance as its width
-  pub drawn : IsDrawnAndWritten (setting s.outlines s.variation private.subroutines) s.tokens s.depth location.data_index (pos its.advance_width) charstring bytes
+  pub drawn : IsDrawnAndWritten (setting s.outlines s.variation private.subroutines)
+      s.tokens s.depth location.data_index (pos its.advance_width) charstring bytes
   -- and any run in the new font finds that, by as many tokens as it has
-  pub trace_is : (n deep : ℕ) → 1 ≤ deep → cost (written_events drawn.written.whole) ≤ n → glyph_trace copy n deep i ≡ Some (record { events = written_events drawn.written.whole; left = [] })
+  pub trace_is : (n deep : ℕ) → 1 ≤ deep → cost (written_events drawn.written.whole) ≤ n
+      → glyph_trace copy n deep i ≡ Some (record { events = written_events drawn.written.whole; left = [] })
   -- its CID is its number
   pub cid_is : cid_of copy i ≡ Some i
 
@@ -93,10 +98,13 @@ pub record HasGlyphsBlended (font : Font) (settings : List (Tag × ℤ)) (glyphs
   -- FontMatrix is the source's, or by unitsPerEm where it has none
   pub matrix : Option (List Number)
   pub matrix_is : top_matrix source.outlines source.metrics.units_per_em ≡ Some matrix
-  pub matrices_are : (i : ℕ) → i < length glyphs → stated_matrices copy i ≡ Some (map value (new_matrix matrix), map value unit_matrix)
-  -- FontBBox is the least box around the glyphs: of the font's, in its order, those that were asked for have the boxes of their charstrings
+  pub matrices_are : (i : ℕ) → i < length glyphs
+      → stated_matrices copy i ≡ Some (map value (new_matrix matrix), map value unit_matrix)
+  -- FontBBox is the least box around the glyphs: of the font's, in its order, those that were asked for have the boxes
+  -- of their charstrings
   pub boxes : List (Option Bounds)
   pub boxes_count : length boxes ≡ source.metrics.count
-  pub boxes_are : (i : ℕ) (bytes : List ℕ) → i < length glyphs → char_string copy i ≡ Some bytes → among boxes (slice_index glyphs i) ≡ charstring_box bytes
+  pub boxes_are : (i : ℕ) (bytes : List ℕ) → i < length glyphs → char_string copy i ≡ Some bytes
+      → among boxes (slice_index glyphs i) ≡ charstring_box bytes
   pub no_others : (g : ℕ) → g < source.metrics.count → (Contains glyphs g → ⊥) → among boxes g ≡ None
   pub box : last_of font_box_operator copy.top ≡ Some (map Integer (font_box (least_box boxes)))

@@ -1,4 +1,4 @@
--- Where a font stands on its axes, for settings of its user coordinates (OpenType, "Coordinate Scales and Normalization").
+-- Where a font is on its axes, for settings of its user coordinates (OpenType, "Coordinate Scales and Normalization").
 use Rattle.std.specs.Prelude.{◌≡◌, ◌⊎◌, ℕ, Bool, not, ◌&&◌, List, codes, All, None, IsSome, Ok, ℤ, pos}
 use Rattle.subsetter_base.specs.declared.tag.Tag.{Tag}
 use Rattle.subsetter_base.specs.declared.error.Error.{Error}
@@ -15,7 +15,8 @@ pub data IsAtDefault (font : Font) (settings : List (Tag × ℤ)) : Type 0 where
   -- no outlines in `glyf`
   no_outlines : stored font (codes "glyf") ≡ None → IsAtDefault font settings
   -- each normalized coordinate is 0; a font without `fvar` has none
-  no_move : (at : List ℤ) → normalized_coordinates (stored font) settings ≡ Ok at → All (λ v. v ≡ pos 0) at → IsAtDefault font settings
+  no_move : (at : List ℤ) → normalized_coordinates (stored font) settings ≡ Ok at → All (λ v. v ≡ pos 0) at
+      → IsAtDefault font settings
 
 -- nowhere, whatever the settings: it has outlines in `glyf`, and `fvar` or `avar` has a fault
 pub record HasNoLocation (font : Font) (e : Error) : Type 0 where
@@ -38,8 +39,13 @@ is_cff2_alone has_glyf has_cff has_cff2 = not has_glyf && (not has_cff && has_cf
 
 -- one that is made of a font: of outlines in `glyf` that move, or of those of CFF2, which are made at the default too
 abbrev pub IsStaticFile : Font → List (Tag × ℤ) → List ℕ → List ℕ → Type 0
-IsStaticFile font settings glyphs file = (¬ (IsAtDefault font settings) × IsInstance font settings glyphs file) ⊎ (IsCff2Font font × IsCffInstance font settings glyphs file)
+IsStaticFile font settings glyphs file =
+    (¬ (IsAtDefault font settings) × IsInstance font settings glyphs file)
+    ⊎ (IsCff2Font font × IsCffInstance font settings glyphs file)
 
--- what it has against it, where a glyph may take so many steps, and a charstring as many tokens, and go so deep
+-- the faults of the static font, where a glyph may take `tokens` steps, and a charstring as many tokens, and go `depth`
+-- deep
 abbrev pub HasStaticFault : Font → List (Tag × ℤ) → List ℕ → ℕ → ℕ → Error → Type 0
-HasStaticFault font settings glyphs tokens depth e = (¬ (IsAtDefault font settings) × HasInstanceFault font settings glyphs tokens e) ⊎ (IsCff2Font font × HasCffInstanceFault font settings glyphs tokens depth e)
+HasStaticFault font settings glyphs tokens depth e =
+    (¬ (IsAtDefault font settings) × HasInstanceFault font settings glyphs tokens e)
+    ⊎ (IsCff2Font font × HasCffInstanceFault font settings glyphs tokens depth e)

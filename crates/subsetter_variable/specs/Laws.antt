@@ -6,4 +6,7 @@ use Rattle.subsetter_instance.specs.Instance.{IsInstance}
 
 -- at no settings and for the same glyphs it is that instance again, byte for byte
 abbrev pub IsItselfAgain : Type 0
-IsItselfAgain = (font : Font) (settings : List (Tag × ℤ)) (glyphs file again : List ℕ) → IsInstance font settings glyphs file → IsInstance (as_font file) [] glyphs again → again ≡ file
+IsItselfAgain =
+    (font : Font) (settings : List (Tag × ℤ)) (glyphs file again : List ℕ) → IsInstance font settings glyphs file
+    → IsInstance (as_font file) [] glyphs again
+    → again ≡ file

@@ -19,17 +19,20 @@ use Rattle.subsetter_variable.specs.DefaultLocation.{IsAtDefault, IsCff2Font}
 abbrev pub whole : Font → Font
 whole font = font_at font.bytes font.index all_extras
 
--- what can stand against opening it, where outlines of CFF2 are taken too
+-- the faults for which it can't be opened, where outlines of CFF2 are taken too
 pub record HasOpeningFaultAt (font : Font) (e : Error) : Type 0 where
   pub fault : HasOpeningFault font e
   pub not_cff2 : ¬ (IsCff2Font (whole font))
 
--- The static font of a font, of which the same is asked for: at its default it is the font itself, with its hints, and elsewhere an
--- instance of it. Of outlines in CFF2 it is a font with outlines in `CFF ` that is made of it, at its default too.
+-- The static font of a font, of which the same is asked for: at its default it is the font itself, with its hints, and
+-- elsewhere an instance of it. Of outlines in CFF2 it is a font with outlines in `CFF ` that is made of it, at its
+-- default too.
 pub data IsStatic (font : Font) (settings : List (Tag × ℤ)) (glyphs : List ℕ) : Font → Type 0 where
   as_it_is : IsAtDefault (whole font) settings → ¬ (IsCff2Font (whole font)) → IsStatic font settings glyphs font
-  instanced : (file : List ℕ) → ¬ (IsAtDefault (whole font) settings) → IsInstance (whole font) settings glyphs file → IsStatic font settings glyphs (font_at file 0 font.extras)
-  cff_instanced : (file : List ℕ) → IsCff2Font (whole font) → IsCffInstance (whole font) settings glyphs file → IsStatic font settings glyphs (font_at file 0 font.extras)
+  instanced : (file : List ℕ) → ¬ (IsAtDefault (whole font) settings) → IsInstance (whole font) settings glyphs file
+      → IsStatic font settings glyphs (font_at file 0 font.extras)
+  cff_instanced : (file : List ℕ) → IsCff2Font (whole font) → IsCffInstance (whole font) settings glyphs file
+      → IsStatic font settings glyphs (font_at file 0 font.extras)
 
 -- a file is a subset of the static font
 pub record IsSubsetAt (tokens depth : ℕ) (font : Font) (settings : List (Tag × ℤ)) (glyphs out : List ℕ) : Type 0 where
@@ -37,15 +40,22 @@ pub record IsSubsetAt (tokens depth : ℕ) (font : Font) (settings : List (Tag �
   pub is_static : IsStatic font settings glyphs static
   pub subset : IsSubset tokens depth static glyphs out
 
--- What can stand against it, under the name of the error that it is answered by; sizes are judged for an order of the new font's
--- glyphs, and within a bound on its bytes. The outline of a glyph may take as many steps as a charstring may have tokens.
-pub data HasFaultAt (bound : Option ℕ) (tokens depth : ℕ) (font : Font) (settings : List (Tag × ℤ)) (glyphs order : List ℕ) : Error → Type 0 where
+-- The faults that stop it, each with its error; sizes are judged for an order of the new font's glyphs, and within a
+-- bound on its bytes. The outline of a glyph may take as many steps as a charstring may have tokens.
+pub data HasFaultAt (bound : Option ℕ) (tokens depth : ℕ) (font : Font) (settings : List (Tag × ℤ))
+    (glyphs order : List ℕ) : Error → Type 0 where
   -- elsewhere than at its default, against the instance
-  in_instance : {e : Error} → ¬ (IsAtDefault (whole font) settings) → HasInstanceFault (whole font) settings glyphs tokens e → HasFaultAt bound tokens depth font settings glyphs order e
+  in_instance : {e : Error} → ¬ (IsAtDefault (whole font) settings)
+      → HasInstanceFault (whole font) settings glyphs tokens e
+      → HasFaultAt bound tokens depth font settings glyphs order e
   -- of outlines in CFF2, against the font with outlines in `CFF `
-  in_cff_instance : {e : Error} → IsCff2Font (whole font) → HasCffInstanceFault (whole font) settings glyphs tokens depth e → HasFaultAt bound tokens depth font settings glyphs order e
+  in_cff_instance : {e : Error} → IsCff2Font (whole font)
+      → HasCffInstanceFault (whole font) settings glyphs tokens depth e
+      → HasFaultAt bound tokens depth font settings glyphs order e
   -- against the subset of the static font
-  in_static : {e : Error} (static : Font) → IsStatic font settings glyphs static → HasFaultWithin bound tokens depth static glyphs order e → HasFaultAt bound tokens depth font settings glyphs order e
+  in_static : {e : Error} (static : Font) → IsStatic font settings glyphs static
+      → HasFaultWithin bound tokens depth static glyphs order e
+      → HasFaultAt bound tokens depth font settings glyphs order e
 
 -- ---- answers
 
@@ -53,14 +63,18 @@ pub data HasFaultAt (bound : Option ℕ) (tokens depth : ℕ) (font : Font) (set
 pub record IsAnswerAt (tokens depth : ℕ) (font : Font) (settings : List (Tag × ℤ)) (glyphs out : List ℕ) : Type 0 where
   pub static : Font
   pub is_static : IsStatic font settings glyphs static
-  pub made : (e : Error) → ¬ (IsAtDefault (whole font) settings) → ¬ (HasInstanceFault (whole font) settings glyphs tokens e)
-  pub cff_made : (e : Error) → IsCff2Font (whole font) → ¬ (HasCffInstanceFault (whole font) settings glyphs tokens depth e)
+  pub made : (e : Error) → ¬ (IsAtDefault (whole font) settings)
+      → ¬ (HasInstanceFault (whole font) settings glyphs tokens e)
+  pub cff_made : (e : Error) → IsCff2Font (whole font)
+      → ¬ (HasCffInstanceFault (whole font) settings glyphs tokens depth e)
   pub answer : IsAnswer tokens depth static glyphs out
 
--- nothing within the bound is answered for these glyphs of a font
+-- there is no answer within the bound for these glyphs of a font
 abbrev pub HasNoAnswerAt : Option ℕ → ℕ → ℕ → Font → List (Tag × ℤ) → List ℕ → Type 0
-HasNoAnswerAt bound tokens depth font settings glyphs = (out : List ℕ) → IsWithin bound out → ¬ (IsAnswerAt tokens depth font settings glyphs out)
+HasNoAnswerAt bound tokens depth font settings glyphs =
+    (out : List ℕ) → IsWithin bound out → ¬ (IsAnswerAt tokens depth font settings glyphs out)
 
--- whatever is answered for the same settings and glyphs of a font, within these limits or others, is these bytes
+-- any answer for the same settings and glyphs of a font, within these limits or others, is these bytes
 abbrev pub IsTheAnswerAt : Font → List (Tag × ℤ) → List ℕ → List ℕ → Type 0
-IsTheAnswerAt font settings glyphs out = (tokens depth : ℕ) (other : List ℕ) → IsAnswerAt tokens depth font settings glyphs other → out ≡ other
+IsTheAnswerAt font settings glyphs out =
+    (tokens depth : ℕ) (other : List ℕ) → IsAnswerAt tokens depth font settings glyphs other → out ≡ other

@@ -1,5 +1,6 @@
 -- How far a part of the design space counts at a location (OpenType, "OpenType Font Variations Overview").
-use Rattle.std.specs.Prelude.{Bool, ◌||◌, ◌&&◌, List, [], ◌∷◌, int_lt, int_le, if◌then◌else◌, ℤ, pos, ◌-ℤ◌, unsigned_abs}
+use Rattle.std.specs.Prelude.{Bool, ◌||◌, ◌&&◌, List, [], ◌∷◌, int_lt, int_le, if◌then◌else◌, ℤ, pos, ◌-ℤ◌}
+use Rattle.std.specs.Prelude.{unsigned_abs}
 use Rattle.std.specs.Ordering.{int_eq}
 use Rattle.subsetter_variation.specs.Nearest.{mul_div_nearest}
 use Rattle.subsetter_variation.specs.declared.region.RegionAxis.{RegionAxis}
@@ -8,15 +9,19 @@ use Rattle.subsetter_variation.specs.declared.region.RegionAxis.{RegionAxis}
 abbrev pub unit : ℤ
 unit = pos 1073741824
 
--- the axis is passed over: its peak is the default, its ends don't surround the peak, or they are on both sides of the default
+-- the axis is passed over: its peak is the default, its ends don't surround the peak, or they are on both sides of the
+-- default
 abbrev pub is_ignored : RegionAxis → Bool
-is_ignored t = int_eq t.peak (pos 0) || int_lt t.peak t.start || int_lt t.end t.peak || (int_lt t.start (pos 0) && int_lt (pos 0) t.end)
+is_ignored t =
+    int_eq t.peak (pos 0) || int_lt t.peak t.start || int_lt t.end t.peak
+    || (int_lt t.start (pos 0) && int_lt (pos 0) t.end)
 
 -- of a whole as great a part as a place has passed of the way from an end to the peak
 unfoldable pub proportion : ℤ → ℤ → ℤ → ℤ → ℤ
 proportion end peak at whole = mul_div_nearest (pos (unsigned_abs (at -ℤ end))) (unsigned_abs (peak -ℤ end)) whole
 
--- what of a whole counts at a location on the axis: all at the peak, nothing at the ends and beyond, and between them in proportion
+-- what of a whole counts at a location on the axis: all at the peak, nothing at the ends and beyond, and between them
+-- in proportion
 unfoldable pub times_axis_scalar : RegionAxis → ℤ → ℤ → ℤ
 times_axis_scalar t at whole =
     if is_ignored t then whole

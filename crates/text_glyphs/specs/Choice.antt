@@ -1,4 +1,5 @@
--- Which table of a `cmap` is used, and a character's glyph by it (OpenType, "cmap", "'cmap' Header" and "Encoding records").
+-- Which table of a `cmap` is used, and a character's glyph by it (OpenType, "cmap", "'cmap' Header" and "Encoding
+-- records").
 use Rattle.std.specs.Prelude.{ℕ, zero, suc, ◌+◌, ◌==◌, ◌||◌, Bool, if◌then◌else◌, List, Option, Some, None}
 use Rattle.std.specs.Option.{option_and_then, option_map, unwrap_or}
 use Rattle.subsetter_base.specs.Bytes.{number, from_offset}
@@ -16,7 +17,8 @@ is_read format = format == 0 || (format == 4 || (format == 6 || (format == 12 ||
 abbrev pub if_read : List ℕ → Option (List ℕ)
 if_read table = option_and_then (λ format. if is_read format then Some table else None) (number table 0 2)
 
--- the table that the encoding record at a place leads to, if the record is of an encoding: platformID, encodingID, and where the table stands
+-- the table that the encoding record at a place leads to, if the record is of an encoding: platformID, encodingID, and
+-- the offset of the table
 abbrev pub encoded_table : Encoding → List ℕ → ℕ → Option (List ℕ)
 encoded_table encoding cmap at =
     option_and_then (λ platform.
@@ -28,9 +30,10 @@ encoded_table encoding cmap at =
 -- the first such table of that many encoding records from a place on
 unfoldable pub encoded_from : Encoding → List ℕ → ℕ → ℕ → Option (List ℕ)
 encoded_from encoding cmap zero at = None
-encoded_from encoding cmap (suc n) at = first_of (encoded_table encoding cmap at) (encoded_from encoding cmap n (at + 8))
+encoded_from encoding cmap (suc n) at =
+    first_of (encoded_table encoding cmap at) (encoded_from encoding cmap n (at + 8))
 
--- the first such table of a `cmap`: numTables stands at byte 2, the encoding records after it
+-- the first such table of a `cmap`: numTables is at byte 2, the encoding records after it
 abbrev pub encoded : Encoding → List ℕ → Option (List ℕ)
 encoded encoding cmap = option_and_then (λ n. encoded_from encoding cmap n 4) (number cmap 2 2)
 
@@ -49,7 +52,9 @@ in_encoding encoding cmap = option_map (coded encoding) (encoded encoding cmap)
 
 -- the Unicode table of format 12, else 4, else another; else a symbol table, else one of Mac OS Roman
 abbrev pub chosen : List ℕ → Option Chosen
-chosen cmap = or_else (option_map mapped (mapping cmap)) (or_else (in_encoding Unicode cmap) (or_else (in_encoding Symbol cmap) (in_encoding Roman cmap)))
+chosen cmap =
+    or_else (option_map mapped (mapping cmap))
+    (or_else (in_encoding Unicode cmap) (or_else (in_encoding Symbol cmap) (in_encoding Roman cmap)))
 
 -- a character's glyph: 0 where the table doesn't have it
 abbrev pub coded_glyph : Encoding → List ℕ → ℕ → ℕ

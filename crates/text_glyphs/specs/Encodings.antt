@@ -16,7 +16,8 @@ roman_code c = if nat_lt c 128 then Some c else option_map (λ k. 128 + k) (roma
 
 -- a symbol font's codes are U+F000 to U+F0FF, for the characters below 256 too
 abbrev pub symbol_code : ℕ → Option ℕ
-symbol_code c = if nat_lt c 256 then Some (0xF000 + c) else (if nat_le 0xF000 c && nat_lt c 0xF100 then Some c else None)
+symbol_code c =
+    if nat_lt c 256 then Some (0xF000 + c) else (if nat_le 0xF000 c && nat_lt c 0xF100 then Some c else None)
 
 abbrev pub code_of : Encoding → ℕ → Option ℕ
 code_of Unicode c = Some c

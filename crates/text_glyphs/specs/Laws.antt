@@ -13,4 +13,7 @@ last_of key (suc n) c = if is_up_to c (key n) then Some n else last_of key n c
 
 -- the search by halves finds it among fewer than 2 ^ 32 records whose keys ascend
 abbrev pub LastIsFound : Type 0
-LastIsFound = (table : List ℕ) (at size width n c : ℕ) → n < 2 ^ 32 → DoAscend (key_at table at size width) (records_there table at size n) → last_up_to table at size width n c ≡ last_of (key_at table at size width) (records_there table at size n) c
+LastIsFound =
+    (table : List ℕ) (at size width n c : ℕ) → n < 2 ^ 32
+    → DoAscend (key_at table at size width) (records_there table at size n)
+    → last_up_to table at size width n c ≡ last_of (key_at table at size width) (records_there table at size n) c

@@ -1,4 +1,4 @@
--- Which table a value of the code stands for.
+-- Which table a value of the code means.
 use Rattle.std.specs.Option.{option_copied}
 use Rattle.cmap.specs.View.{mapping_view}
 use Rattle.text_glyphs.specs.Choice.{Chosen, mapped, coded}

@@ -21,13 +21,15 @@ use Rattle.text_metrics.specs.Metrics.{Metrics, count_in, text_metrics}
 abbrev pub metrics_of : Column → GlyphMetrics
 metrics_of c = record { displacement = c.advance; position = c.y }
 
--- glyph 0 and the first glyphs, so many
+-- glyph 0 and the first `count` glyphs
 abbrev pub numbered : ℕ → List ℕ
 numbered count = with_glyphs (0 ∷ []) (each_from (λ g. g) 0 count)
 
 -- of the columns that a PDF's font has; a width says the x alone
 abbrev pub columns_there : (List ℕ → Option (List ℕ)) → Option Location → Limits → ℕ → List GlyphMetrics
-columns_there find location limits count = map metrics_of (columns_at (vertical_of find) (heights_by location (find (codes "VVAR"))) (tops_of find limits (numbered count)) (numbered count) (replicate count 0))
+columns_there find location limits count =
+    map metrics_of (columns_at (vertical_of find) (heights_by location (find (codes "VVAR")))
+    (tops_of find limits (numbered count)) (numbered count) (replicate count 0))
 
 abbrev pub columns_in : (List ℕ → Option (List ℕ)) → List (Tag × ℤ) → Limits → ℕ → List GlyphMetrics
 columns_in find settings limits count = columns_there find (location_in find settings) limits count
@@ -38,4 +40,8 @@ column_metrics font settings limits = do
   lines ← text_metrics font settings limits.tokens
   records ← opened font
   count ← count_in (table_in font.bytes records)
-  Ok (record { units = lines.units; metrics = columns_in (table_in font.bytes records) settings limits count; inked = lines.inked })
+  Ok (record {
+    units = lines.units;
+    metrics = columns_in (table_in font.bytes records) settings limits count;
+    inked = lines.inked;
+  })

@@ -1,5 +1,6 @@
 -- Which glyphs have ink, as far as their bytes show it without a run.
-use Rattle.std.specs.Prelude.{ℕ, zero, suc, ◌+◌, ◌==◌, ◌||◌, Bool, false, not, is_some, List, [], ◌∷◌, Option, Some, None}
+use Rattle.std.specs.Prelude.{ℕ, zero, suc, ◌+◌, ◌==◌, ◌||◌, Bool, false, not, is_some, List, [], ◌∷◌, Option, Some}
+use Rattle.std.specs.Prelude.{None}
 use Rattle.std.specs.Option.{option_and_then, option_map_or}
 use Rattle.std.specs.Result.{result_ok}
 use Rattle.subsetter_cffdata.specs.Numerals.CharStringNumber.{number_at}
@@ -8,7 +9,7 @@ use Rattle.subsetter_cff.specs.Read.Cff.{char_strings}
 use Rattle.subsetter_cff.specs.Read.Opened.{opened}
 use Rattle.pdf_glyphs.specs.Boxes.{Outlines, glyph_box}
 
--- what a function gives for so many numbers, from one on
+-- what a function gives for n numbers, from g on
 abbrev pub each_from : {A : Type 0} → (ℕ → A) → ℕ → ℕ → List A
 each_from f g zero = []
 each_from f g (suc n) = f g ∷ each_from f (g + 1) n
@@ -34,9 +35,11 @@ is_drawn entries g = not (option_map_or is_bare (entry_at entries g) false)
 abbrev pub entries_of : List ℕ → Option (List (Option (List ℕ)))
 entries_of bytes = option_and_then char_strings (result_ok (opened bytes))
 
--- of the first glyphs, so many, whether they have ink; of a table that can't be opened, and without one, nothing is known
+-- of the first `count` glyphs, whether they have ink; of a table that can't be opened, and without one, nothing is
+-- known
 abbrev pub inked_in_cff : Option (List ℕ) → ℕ → List Bool
-inked_in_cff cff count = option_map_or (λ entries. each_from (is_drawn entries) 0 count) (option_and_then entries_of cff) []
+inked_in_cff cff count =
+    option_map_or (λ entries. each_from (is_drawn entries) 0 count) (option_and_then entries_of cff) []
 
 -- `glyf` goes before `CFF `
 abbrev pub inked_by : Option (List ℕ) → Outlines → Option (List ℕ) → ℕ → List Bool

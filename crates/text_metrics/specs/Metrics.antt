@@ -37,10 +37,14 @@ count_in find = do
   maxp ← ok_or (find (codes "maxp")) MalformedFont
   ok_or (num_glyphs maxp) MalformedFont
 
--- of all glyphs of a font at settings of its user coordinates, where a glyph of `glyf` may take so many steps
+-- of all glyphs of a font at settings of its user coordinates, where a glyph of `glyf` may take `steps` steps
 unfoldable pub text_metrics : Font → List (Tag × ℤ) → ℕ → Result Metrics Error
 text_metrics font settings steps = do
   records ← opened font
   count ← count_in (table_in font.bytes records)
   advances ← advances_of font settings steps (each_from (λ g. g) 0 count)
-  Ok (record { units = advances.units_per_em; metrics = map (metrics_of advances.units_per_em) advances.widths; inked = inked_in (table_in font.bytes records) count })
+  Ok (record {
+    units = advances.units_per_em;
+    metrics = map (metrics_of advances.units_per_em) advances.widths;
+    inked = inked_in (table_in font.bytes records) count;
+  })

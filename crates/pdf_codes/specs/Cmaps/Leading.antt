@@ -1,5 +1,6 @@
 -- Where the codes of a font lead (ISO 32000-1, 9.7.5).
-use Rattle.std.specs.Prelude.{◌≡◌, ◌<◌, ℕ, zero, suc, ◌+◌, max, ◌==◌, ◌&&◌, if◌then◌else◌, List, [], ◌∷◌, ◌++◌, length, get_or, Option, Some, None, Bool, true}
+use Rattle.std.specs.Prelude.{◌≡◌, ◌<◌, ℕ, zero, suc, ◌+◌, max, ◌==◌, ◌&&◌, if◌then◌else◌, List, [], ◌∷◌, ◌++◌, length}
+use Rattle.std.specs.Prelude.{get_or, Option, Some, None, Bool, true}
 use Rattle.std.specs.Option.{option_and_then, option_map}
 use Rattle.pdf_text.specs.Cmaps.CmapName.{name_of_codes, named_text}
 use Rattle.pdf_text.specs.Cmaps.Encoding.{Pair, codes_in}
@@ -15,7 +16,7 @@ abbrev pub pair_of : ℕ → Option ℕ → List Pair
 pair_of k None = []
 pair_of k (Some cid) = record { code = k; cid = cid } ∷ []
 
--- the pairs of so many codes, in their order, from one on
+-- the pairs of the next n codes, in their order, from code k on
 abbrev pub pairs_from : List Pair → ℕ → ℕ → List Pair
 pairs_from ps k zero = []
 pairs_from ps k (suc n) = pair_of k (cid_of ps k) ++ pairs_from ps (k + 1) n

@@ -1,5 +1,6 @@
 -- The text of each code (ISO 32000-1, 9.10.3).
-use Rattle.std.specs.Prelude.{ℕ, zero, suc, ◌+◌, max, Bool, ◌==◌, ◌&&◌, nat_le, nat_eq, if◌then◌else◌, List, [], ◌∷◌, ◌++◌, length, Option}
+use Rattle.std.specs.Prelude.{ℕ, zero, suc, ◌+◌, max, Bool, ◌==◌, ◌&&◌, nat_le, nat_eq, if◌then◌else◌, List, [], ◌∷◌}
+use Rattle.std.specs.Prelude.{◌++◌, length, Option}
 use Rattle.std.specs.Cmp.Lexicographic.{pointwise}
 use Rattle.std.specs.Option.{option_map}
 use Rattle.pdf_text.specs.Cmaps.Cmap.{Line, mapping_in}
@@ -15,7 +16,7 @@ abbrev pub line_of : ℕ → List ℕ → List Line
 line_of k [] = []
 line_of k (u ∷ us) = record { code = k; units = u ∷ us } ∷ []
 
--- the lines of so many codes, in their order, from one on
+-- the lines of the next n codes, in their order, from code k on
 abbrev pub lines_from : List Line → ℕ → ℕ → List Line
 lines_from ls k zero = []
 lines_from ls k (suc n) = line_of k (first_text ls k) ++ lines_from ls (k + 1) n
@@ -33,7 +34,8 @@ lines_of_codes ls = lines_from ls 0 (limit ls)
 abbrev pub text_in : List ℕ → ℕ → Option (List ℕ)
 text_in cmap k = option_map (λ ls. first_text ls k) (mapping_in cmap)
 
--- whether readers find a text where its code has this one: they are equal, and of 1 to 8 units (some readers drop longer ones)
+-- whether readers find a text where its code has this one: they are equal, and of 1 to 8 units (some readers drop
+-- longer ones)
 abbrev pub is_found : List ℕ → List ℕ → Bool
 is_found text units = nat_le 1 (length units) && (nat_le (length units) 8 && pointwise nat_eq text units)
 

@@ -1,5 +1,6 @@
 -- ToUnicode CMaps (ISO 32000-1, 9.10.3): as they are written, and as they are read.
-use Rattle.std.specs.Prelude.{◌≡◌, ◌<◌, ℕ, ◌+◌, ◌-◌, ◌*◌, ◌/◌, ◌%◌, ◌==◌, ◌&&◌, nat_lt, nat_le, if◌then◌else◌, List, [], ◌∷◌, ◌++◌, map, length, All, Option, Some, None, codes}
+use Rattle.std.specs.Prelude.{◌≡◌, ◌<◌, ℕ, ◌+◌, ◌-◌, ◌*◌, ◌/◌, ◌%◌, ◌==◌, ◌&&◌, nat_lt, nat_le, if◌then◌else◌, List, []}
+use Rattle.std.specs.Prelude.{◌∷◌, ◌++◌, map, length, All, Option, Some, None, codes}
 use Rattle.std.specs.Option.{option_map, option_and_then}
 use Rattle.pdf_text.specs.Tokens.{tokens}
 use Rattle.pdf_text.specs.Cmaps.Blocks.{Row, blocks, rows_in, each_in}
@@ -29,7 +30,9 @@ abbrev pub line_row : Line → Row
 line_row l = record { code = hex_string (l.code ∷ []); target = hex_string l.units }
 
 unfoldable pub front : List ℕ
-front = codes "/CIDInit /ProcSet findresource begin\n12 dict begin\nbegincmap\n/CIDSystemInfo << /Registry (Adobe) /Ordering (UCS) /Supplement 0 >> def\n/CMapName /Adobe-Identity-UCS def\n/CMapType 2 def\n1 begincodespacerange\n<0000> <FFFF>\nendcodespacerange\n"
+front =
+    codes
+    "/CIDInit /ProcSet findresource begin\n12 dict begin\nbegincmap\n/CIDSystemInfo << /Registry (Adobe) /Ordering (UCS) /Supplement 0 >> def\n/CMapName /Adobe-Identity-UCS def\n/CMapType 2 def\n1 begincodespacerange\n<0000> <FFFF>\nendcodespacerange\n"
 
 abbrev pub back : List ℕ
 back = codes "endcmap\nCMapName currentdict /CMap defineresource pop\nend\nend\n"
@@ -41,11 +44,20 @@ cmap_text ls = front ++ (blocks (codes "bfchar") (length ls) (map line_row ls) +
 
 -- what a digit of base 16 counts
 abbrev pub digit_value : ℕ → Option ℕ
-digit_value b = if nat_le 48 b && nat_le b 57 then Some (b - 48) else if nat_le 65 b && nat_le b 70 then Some (b - 55) else if nat_le 97 b && nat_le b 102 then Some (b - 87) else None
+digit_value b =
+    if nat_le 48 b && nat_le b 57 then Some (b - 48)
+    else if nat_le 65 b && nat_le b 70 then Some (b - 55)
+    else if nat_le 97 b && nat_le b 102 then Some (b - 87)
+    else None
 
 -- the units that digits say, four a unit, up to the `>` at the end
 abbrev pub units_in : List ℕ → Option (List ℕ)
-units_in (a ∷ b ∷ c ∷ d ∷ more) = option_and_then (λ w. option_and_then (λ x. option_and_then (λ y. option_and_then (λ z. option_map (λ us. (4096 * w + 256 * x + 16 * y + z) ∷ us) (units_in more)) (digit_value d)) (digit_value c)) (digit_value b)) (digit_value a)
+units_in (a ∷ b ∷ c ∷ d ∷ more) =
+    option_and_then (λ w. option_and_then (λ x. option_and_then (λ y.
+    option_and_then (λ z. option_map (λ us. (4096 * w + 256 * x + 16 * y + z) ∷ us) (units_in more)) (digit_value d))
+    (digit_value c))
+    (digit_value b))
+    (digit_value a)
 units_in (a ∷ []) = if a == 62 then Some [] else None
 units_in _ = None
 

@@ -1,15 +1,18 @@
--- A CMap from codes to CIDs under a name that its lines determine (ISO 32000-1, 9.7.5.3): readers keep CMaps by their names.
+-- A CMap from codes to CIDs under a name that its lines determine (ISO 32000-1, 9.7.5.3): readers keep CMaps by their
+-- names.
 use Rattle.std.specs.Prelude.{◌≡◌, ℕ, Bool, true, false, List, ◌++◌, map, length, All, Some, codes}
 use Rattle.pdf_text.specs.Cmaps.Blocks.{blocks}
 use Rattle.pdf_text.specs.Cmaps.Cmap.{back}
 use Rattle.pdf_text.specs.Cmaps.Encoding.{Pair, IsPair, pair_row, codes_in}
 use Rattle.pdf_text.specs.SubsetName.{tag_of}
 
--- before the name
+-- the text of a CMap before its name
 unfoldable pub name_front : List ℕ
-name_front = codes "/CIDInit /ProcSet findresource begin\n12 dict begin\nbegincmap\n/CIDSystemInfo << /Registry (Adobe) /Ordering (Identity) /Supplement 0 >> def\n/CMapName /"
+name_front =
+    codes
+    "/CIDInit /ProcSet findresource begin\n12 dict begin\nbegincmap\n/CIDSystemInfo << /Registry (Adobe) /Ordering (Identity) /Supplement 0 >> def\n/CMapName /"
 
--- after it
+-- the text after the name: CMapType, and WMode 1 where it is vertical
 unfoldable pub name_back : Bool → List ℕ
 name_back true = codes " def\n/CMapType 1 def\n/WMode 1 def\n"
 name_back false = codes " def\n/CMapType 1 def\n"

@@ -1,5 +1,6 @@
 -- A CMap from codes to CIDs (ISO 32000-1, 9.7.5): as it is written, and as it is read.
-use Rattle.std.specs.Prelude.{◌≡◌, ◌<◌, ℕ, Bool, true, false, List, [], ◌∷◌, ◌++◌, map, length, All, Option, Some, None, codes, decimal}
+use Rattle.std.specs.Prelude.{◌≡◌, ◌<◌, ℕ, Bool, true, false, List, [], ◌∷◌, ◌++◌, map, length, All, Option, Some, None}
+use Rattle.std.specs.Prelude.{codes, decimal}
 use Rattle.std.specs.Option.{option_and_then}
 use Rattle.pdf_text.specs.Tokens.{tokens, number_in}
 use Rattle.pdf_text.specs.Cmaps.Blocks.{Row, blocks, rows_in, each_in}
@@ -17,8 +18,12 @@ pair_row p = record { code = hex_string (p.code ∷ []); target = decimal p.cid 
 
 -- of vertical writing, and of horizontal writing
 unfoldable pub encoding_front : Bool → List ℕ
-encoding_front true = codes "/CIDInit /ProcSet findresource begin\n12 dict begin\nbegincmap\n/CIDSystemInfo << /Registry (Adobe) /Ordering (Identity) /Supplement 0 >> def\n/CMapName /Chosen-V def\n/CMapType 1 def\n/WMode 1 def\n1 begincodespacerange\n<0000> <FFFF>\nendcodespacerange\n"
-encoding_front false = codes "/CIDInit /ProcSet findresource begin\n12 dict begin\nbegincmap\n/CIDSystemInfo << /Registry (Adobe) /Ordering (Identity) /Supplement 0 >> def\n/CMapName /Chosen-H def\n/CMapType 1 def\n1 begincodespacerange\n<0000> <FFFF>\nendcodespacerange\n"
+encoding_front true =
+    codes
+    "/CIDInit /ProcSet findresource begin\n12 dict begin\nbegincmap\n/CIDSystemInfo << /Registry (Adobe) /Ordering (Identity) /Supplement 0 >> def\n/CMapName /Chosen-V def\n/CMapType 1 def\n/WMode 1 def\n1 begincodespacerange\n<0000> <FFFF>\nendcodespacerange\n"
+encoding_front false =
+    codes
+    "/CIDInit /ProcSet findresource begin\n12 dict begin\nbegincmap\n/CIDSystemInfo << /Registry (Adobe) /Ordering (Identity) /Supplement 0 >> def\n/CMapName /Chosen-H def\n/CMapType 1 def\n1 begincodespacerange\n<0000> <FFFF>\nendcodespacerange\n"
 
 abbrev pub encoding_text : Bool → List Pair → List ℕ
 encoding_text vertical ps = encoding_front vertical ++ (blocks (codes "cidchar") (length ps) (map pair_row ps) ++ back)

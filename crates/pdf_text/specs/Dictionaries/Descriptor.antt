@@ -25,8 +25,10 @@ cid_set_entry true n = entry (codes "CIDSet") (reference n)
 cid_set_entry false n = []
 
 abbrev pub heading_entries : Descriptor → List ℕ
-heading_entries d = entry (codes "Type") (codes "/FontDescriptor") ++ (entry (codes "FontName") (codes "/" ++ d.font_name.now)
-    ++ (entry (codes "Flags") (decimal d.flags) ++ (entry (codes "FontBBox") (array d.bounds) ++ entry (codes "ItalicAngle") (thousandths d.italic_angle))))
+heading_entries d =
+    entry (codes "Type") (codes "/FontDescriptor") ++ (entry (codes "FontName") (codes "/" ++ d.font_name.now)
+    ++ (entry (codes "Flags") (decimal d.flags)
+    ++ (entry (codes "FontBBox") (array d.bounds) ++ entry (codes "ItalicAngle") (thousandths d.italic_angle))))
 
 abbrev pub line_entries : Descriptor → List ℕ
 line_entries d = entry (codes "Ascent") (signed_decimal d.ascent) ++ entry (codes "Descent") (signed_decimal d.descent)

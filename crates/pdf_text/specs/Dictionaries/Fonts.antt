@@ -35,8 +35,10 @@ encoding_value None vertical n = codes "/" ++ identity_name vertical
 
 abbrev pub font_entries : FontValues → References → List ℕ
 font_entries v r = entry (codes "Type") (codes "/Font") ++ (entry (codes "Subtype") (codes "/Type0")
-    ++ (entry (codes "BaseFont") (codes "/" ++ base_font v) ++ (entry (codes "Encoding") (encoding_value v.encoding (is_some v.columns) r.encoding)
-    ++ (entry (codes "DescendantFonts") (codes "[" ++ (reference r.cid_font ++ codes "]")) ++ entry (codes "ToUnicode") (reference r.to_unicode)))))
+    ++ (entry (codes "BaseFont") (codes "/" ++ base_font v)
+    ++ (entry (codes "Encoding") (encoding_value v.encoding (is_some v.columns) r.encoding)
+    ++ (entry (codes "DescendantFonts") (codes "[" ++ (reference r.cid_font ++ codes "]"))
+    ++ entry (codes "ToUnicode") (reference r.to_unicode)))))
 
 -- ---- the CIDFont (Table 117)
 
@@ -50,15 +52,18 @@ abbrev pub map_value : Bool → ℕ → List ℕ
 map_value true n = reference n
 map_value false n = codes "/Identity"
 
--- of TrueType outlines
+-- CIDToGIDMap, which only a CIDFont with TrueType outlines has
 abbrev pub glyph_map : ProgramKind → Bool → ℕ → List ℕ
 glyph_map TrueType has_map n = entry (codes "CIDToGIDMap") (map_value has_map n)
 glyph_map BareCff has_map n = []
 glyph_map OpenType has_map n = []
 
 abbrev pub cid_heading : ProgramKind → List ℕ → List ℕ
-cid_heading kind name = entry (codes "Type") (codes "/Font") ++ (entry (codes "Subtype") (cid_font_kind kind) ++ entry (codes "BaseFont") (codes "/" ++ name))
+cid_heading kind name =
+    entry (codes "Type") (codes "/Font")
+    ++ (entry (codes "Subtype") (cid_font_kind kind) ++ entry (codes "BaseFont") (codes "/" ++ name))
 
 abbrev pub cid_font_entries : FontValues → References → List ℕ
 cid_font_entries v r = cid_heading v.kind v.descriptor.font_name.now ++ (entry (codes "CIDSystemInfo") system_info
-    ++ (entry (codes "FontDescriptor") (reference r.descriptor) ++ (glyph_map v.kind (is_some v.cid_to_gid_map) r.cid_to_gid_map ++ metric_entries v)))
+    ++ (entry (codes "FontDescriptor") (reference r.descriptor)
+    ++ (glyph_map v.kind (is_some v.cid_to_gid_map) r.cid_to_gid_map ++ metric_entries v)))

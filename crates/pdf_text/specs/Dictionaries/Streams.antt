@@ -1,4 +1,4 @@
--- What stands in the dictionaries of a font program and of a CMap (ISO 32000-1, 9.9 and 9.7.5.3), as texts.
+-- What is in the dictionaries of a font program and of a CMap (ISO 32000-1, 9.9 and 9.7.5.3), as texts.
 use Rattle.std.specs.Prelude.{ℕ, Bool, true, false, List, [], ◌++◌, Option, Some, None, codes, decimal}
 use Rattle.pdf_text.specs.declared.values.ProgramKind.{ProgramKind}
 use Rattle.pdf_text.specs.declared.values.ProgramKind.TheVariants.{TrueType, BareCff, OpenType}
@@ -17,7 +17,10 @@ mode_entry false = []
 
 -- of a CMap (Table 120)
 abbrev pub own_cmap_entries : List ℕ → Bool → List ℕ
-own_cmap_entries name vertical = entry (codes "Type") (codes "/CMap") ++ (entry (codes "CMapName") (codes "/" ++ name) ++ (entry (codes "CIDSystemInfo") system_info ++ mode_entry vertical))
+own_cmap_entries name vertical =
+    entry (codes "Type") (codes "/CMap")
+    ++ (entry (codes "CMapName") (codes "/" ++ name)
+    ++ (entry (codes "CIDSystemInfo") system_info ++ mode_entry vertical))
 
 -- of the CMap that a font has of its own
 abbrev pub cmap_entries : Option OwnCmap → Bool → List ℕ

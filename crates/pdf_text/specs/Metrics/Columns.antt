@@ -1,5 +1,7 @@
 -- Vertical metrics of CIDs (ISO 32000-1, 9.7.4.3): DW2 and W2, as they are written and as they are read.
-use Rattle.std.specs.Prelude.{◌≡◌, ◌≤◌, ◌<◌, ℕ, suc, ◌+◌, ◌-◌, ◌*◌, ◌==◌, ◌&&◌, nat_lt, nat_le, Bool, if◌then◌else◌, List, [], ◌∷◌, ◌++◌, map, length, get_or, codes, decimal, Option, Some, None, ℤ, pos, neg_ℤ, unsigned_abs, ◌^◌}
+use Rattle.std.specs.Prelude.{◌≡◌, ◌≤◌, ◌<◌, ℕ, suc, ◌+◌, ◌-◌, ◌*◌, ◌==◌, ◌&&◌, nat_lt, nat_le, Bool, if◌then◌else◌}
+use Rattle.std.specs.Prelude.{List, [], ◌∷◌, ◌++◌, map, length, get_or, codes, decimal, Option, Some, None, ℤ, pos}
+use Rattle.std.specs.Prelude.{neg_ℤ, unsigned_abs, ◌^◌}
 use Rattle.std.specs.List.{join_with_byte}
 use Rattle.std.specs.Option.{option_map, option_and_then}
 use Rattle.std.specs.Ordering.{int_eq}
@@ -22,7 +24,8 @@ alike a b = int_eq a.advance b.advance && (int_eq a.x b.x && int_eq a.y b.y)
 abbrev pub no_column : Column
 no_column = record { advance = pos 0; x = pos 0; y = pos 0 }
 
--- the mark of a column after another: 0 if it is the default one, that of the other if both are alike, else one of its own
+-- the mark of a column after another: 0 if it is the default one, that of the other if both are alike, else one of its
+-- own
 abbrev pub mark : DefaultColumn → ℕ → Column → ℕ → Column → ℕ
 mark d own before m c = if is_default d c then 0 else if alike before c then m else own
 
@@ -73,7 +76,8 @@ abbrev pub column_text : Column → List ℕ
 column_text c = integers (c.advance ∷ c.x ∷ c.y ∷ [])
 
 abbrev pub span_text : Span → List ℕ
-span_text (listed_columns first cs) = decimal first ++ (codes " [" ++ (join_with_byte 32 (map column_text cs) ++ codes "]"))
+span_text (listed_columns first cs) =
+    decimal first ++ (codes " [" ++ (join_with_byte 32 (map column_text cs) ++ codes "]"))
 span_text (same_columns first last c) = decimal first ++ (codes " " ++ (decimal last ++ (codes " " ++ column_text c)))
 
 abbrev pub columns_text : List Span → List ℕ
@@ -84,15 +88,17 @@ columns_text ss = codes "[" ++ (join_with_byte 32 (map span_text ss) ++ codes "]
 -- the column that parts say of a CID, which else has this one: of DW2 and W
 abbrev pub column_in : List Span → Column → ℕ → Column
 column_in [] n k = n
-column_in (listed_columns first cs ∷ ss) n k = if nat_le first k && nat_lt (k - first) (length cs) then get_or cs (k - first) n else column_in ss n k
+column_in (listed_columns first cs ∷ ss) n k =
+    if nat_le first k && nat_lt (k - first) (length cs) then get_or cs (k - first) n else column_in ss n k
 column_in (same_columns first last c ∷ ss) n k = if nat_le first k && nat_le k last then c else column_in ss n k
 
 -- the integer that a token writes: digits, or a minus (45) and digits
 abbrev pub integer_in : List ℕ → Option ℤ
 integer_in [] = None
-integer_in (b ∷ t) = if b == 45 then option_map (λ n. neg_ℤ (pos n)) (number_in t) else option_map pos (number_in (b ∷ t))
+integer_in (b ∷ t) =
+    if b == 45 then option_map (λ n. neg_ℤ (pos n)) (number_in t) else option_map pos (number_in (b ∷ t))
 
--- where a reader stands: between two parts, after a first CID, after a last one and up to two numbers, or on a list
+-- where a reader is: between two parts, after a first CID, after a last one and up to two numbers, or on a list
 pub data State : Type 0 where
   between_spans : State
   past_first : ℕ → State
@@ -103,21 +109,33 @@ pub data State : Type 0 where
   on_advance : ℕ → List Column → ℤ → State
   on_x : ℕ → List Column → ℤ → ℤ → State
 
--- nothing stands after the array
+-- nothing is after the array
 abbrev pub at_end : List (List ℕ) → Option (List Span)
 at_end [] = Some []
 at_end (t ∷ ts) = None
 
 abbrev pub spans_in : State → List (List ℕ) → Option (List Span)
 spans_in state [] = None
-spans_in between_spans (t ∷ ts) = if bytes_eq t (codes "]") then at_end ts else option_and_then (λ first. spans_in (past_first first) ts) (number_in t)
-spans_in (past_first first) (t ∷ ts) = if bytes_eq t (codes "[") then spans_in (on_list first []) ts else option_and_then (λ last. spans_in (after_last first last) ts) (number_in t)
-spans_in (after_last first last) (t ∷ ts) = option_and_then (λ a. spans_in (after_advance first last a) ts) (integer_in t)
-spans_in (after_advance first last a) (t ∷ ts) = option_and_then (λ x. spans_in (after_x first last a x) ts) (integer_in t)
-spans_in (after_x first last a x) (t ∷ ts) = option_and_then (λ y. option_map (λ ss. same_columns first last (record { advance = a; x = x; y = y }) ∷ ss) (spans_in between_spans ts)) (integer_in t)
-spans_in (on_list first cs) (t ∷ ts) = if bytes_eq t (codes "]") then option_map (λ ss. listed_columns first cs ∷ ss) (spans_in between_spans ts) else option_and_then (λ a. spans_in (on_advance first cs a) ts) (integer_in t)
+spans_in between_spans (t ∷ ts) =
+    if bytes_eq t (codes "]") then at_end ts
+    else option_and_then (λ first. spans_in (past_first first) ts) (number_in t)
+spans_in (past_first first) (t ∷ ts) =
+    if bytes_eq t (codes "[") then spans_in (on_list first []) ts
+    else option_and_then (λ last. spans_in (after_last first last) ts) (number_in t)
+spans_in (after_last first last) (t ∷ ts) =
+    option_and_then (λ a. spans_in (after_advance first last a) ts) (integer_in t)
+spans_in (after_advance first last a) (t ∷ ts) =
+    option_and_then (λ x. spans_in (after_x first last a x) ts) (integer_in t)
+spans_in (after_x first last a x) (t ∷ ts) =
+    option_and_then (λ y.
+    option_map (λ ss. same_columns first last (record { advance = a; x = x; y = y }) ∷ ss) (spans_in between_spans ts))
+    (integer_in t)
+spans_in (on_list first cs) (t ∷ ts) =
+    if bytes_eq t (codes "]") then option_map (λ ss. listed_columns first cs ∷ ss) (spans_in between_spans ts)
+    else option_and_then (λ a. spans_in (on_advance first cs a) ts) (integer_in t)
 spans_in (on_advance first cs a) (t ∷ ts) = option_and_then (λ x. spans_in (on_x first cs a x) ts) (integer_in t)
-spans_in (on_x first cs a x) (t ∷ ts) = option_and_then (λ y. spans_in (on_list first (cs ++ record { advance = a; x = x; y = y } ∷ [])) ts) (integer_in t)
+spans_in (on_x first cs a x) (t ∷ ts) =
+    option_and_then (λ y. spans_in (on_list first (cs ++ record { advance = a; x = x; y = y } ∷ [])) ts) (integer_in t)
 
 abbrev pub spans_of : List (List ℕ) → Option (List Span)
 spans_of [] = None
@@ -137,7 +155,7 @@ column_found d n c = if is_default d c then n else c
 abbrev pub column_read : DefaultColumn → List Column → Column → ℕ → Column
 column_read d cs n k = if leaves_out d cs then column_found d n (get_or cs k n) else get_or cs k n
 
--- numbers of 32 bits
+-- the numbers of a column are at most 2 ^ 31
 pub record IsColumn (c : Column) : Type 0 where
   pub advance : unsigned_abs c.advance ≤ 2 ^ 31
   pub x : unsigned_abs c.x ≤ 2 ^ 31

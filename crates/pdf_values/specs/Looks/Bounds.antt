@@ -32,7 +32,13 @@ box_of Kept head kept = unwrap_or kept no_box
 
 -- in thousandths, low edges down and high ones up
 abbrev pub outward : GlyphBox → ℕ → Edges
-outward b units = record { x_min = lowered b.x_min units; y_min = lowered b.y_min units; x_max = raised b.x_max units; y_max = raised b.y_max units }
+outward b units =
+    record {
+      x_min = lowered b.x_min units;
+      y_min = lowered b.y_min units;
+      x_max = raised b.x_max units;
+      y_max = raised b.y_max units;
+    }
 
 abbrev pub bounds_of : Bounds → Option (List ℕ) → Option GlyphBox → ℕ → Edges
 bounds_of choice head kept units = outward (box_of choice head kept) units

@@ -1,5 +1,6 @@
 -- Flags (ISO 32000-1, Table 123).
-use Rattle.std.specs.Prelude.{◌≡◌, ℕ, ◌+◌, Bool, true, false, not, ◌&&◌, ◌||◌, ◌==◌, nat_le, if◌then◌else◌, List, Option, ℤ, pos}
+use Rattle.std.specs.Prelude.{◌≡◌, ℕ, ◌+◌, Bool, true, false, not, ◌&&◌, ◌||◌, ◌==◌, nat_le, if◌then◌else◌, List}
+use Rattle.std.specs.Prelude.{Option, ℤ, pos}
 use Rattle.std.specs.Option.{option_map_or}
 use Rattle.std.specs.Ordering.{int_eq}
 use Rattle.pdf_values.specs.Fields.{has_bit}
@@ -22,7 +23,8 @@ is_serif_class c = (nat_le 1 c && nat_le c 5) || c == 7
 
 -- panose: a Latin text face with a serif style from cove to triangle
 abbrev pub is_serif_face : Option (List ℕ) → Bool
-is_serif_face os2 = passes (λ n. n == 2) (b_family_type os2) && passes (λ n. nat_le 2 n && nat_le n 10) (b_serif_style os2)
+is_serif_face os2 =
+    passes (λ n. n == 2) (b_family_type os2) && passes (λ n. nat_le 2 n && nat_le n 10) (b_serif_style os2)
 
 -- panose: a Latin hand written face
 abbrev pub is_script_face : Option (List ℕ) → Bool
@@ -32,7 +34,7 @@ is_script_face os2 = passes (λ n. n == 3) (b_family_type os2)
 abbrev pub has_serifs : Option (List ℕ) → Bool
 has_serifs os2 = passes (λ c. is_serif_class c || (c == 0 && is_serif_face os2)) (family_class os2)
 
--- class 10 is scripts
+-- sFamilyClass 10 is scripts
 abbrev pub is_script : Option (List ℕ) → Bool
 is_script os2 = passes (λ c. c == 10 || (c == 0 && is_script_face os2)) (family_class os2)
 
@@ -45,7 +47,8 @@ flag b n = if b then n else 0
 
 -- FixedPitch is 1, Serif 2, Script 8, Italic 64; Symbolic, 4, is always set, as codes are a font's own
 abbrev pub flags_by : Option (List ℕ) → Option (List ℕ) → Bool → ℕ
-flags_by post os2 italic = 4 + flag (is_fixed post) 1 + flag (has_serifs os2) 2 + flag (is_script os2) 8 + flag italic 64
+flags_by post os2 italic =
+    4 + flag (is_fixed post) 1 + flag (has_serifs os2) 2 + flag (is_script os2) 8 + flag italic 64
 
 -- a font is italic that is called so, or leans
 abbrev pub is_italic : Option (List ℕ) → Option (List ℕ) → ℤ → Bool

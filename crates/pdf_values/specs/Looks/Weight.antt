@@ -1,5 +1,6 @@
 -- How bold a font is (OpenType, "OS/2", "usWeightClass"; ISO 32000-1, Table 122).
-use Rattle.std.specs.Prelude.{ℕ, ◌+◌, ◌*◌, ◌/◌, min, max, ◌==◌, nat_le, if◌then◌else◌, int_le, List, codes, Option, Some, None, ℤ, pos, unsigned_abs}
+use Rattle.std.specs.Prelude.{ℕ, ◌+◌, ◌*◌, ◌/◌, min, max, ◌==◌, nat_le, if◌then◌else◌, int_le, List, codes, Option}
+use Rattle.std.specs.Prelude.{Some, None, ℤ, pos, unsigned_abs}
 use Rattle.std.specs.Option.{option_and_then, option_map_or, unwrap_or}
 use Rattle.subsetter_sfnt.specs.Fields.Os2.{us_weight_class}
 use Rattle.pdf_values.specs.Head.{sets_bit}

@@ -1,11 +1,13 @@
 -- The characters that an argument or a file lists, as `U+0041-005A,20AC`.
-use Rattle.std.specs.Prelude.{ℕ, ◌==◌, ◌^◌, ◌&&◌, ◌||◌, not, nat_lt, Bool, true, false, if◌then◌else◌, List, [], ◌∷◌, ◌++◌, filter, length, Option, Some, None, codes}
+use Rattle.std.specs.Prelude.{ℕ, ◌==◌, ◌^◌, ◌&&◌, ◌||◌, not, nat_lt, Bool, true, false, if◌then◌else◌, List, [], ◌∷◌}
+use Rattle.std.specs.Prelude.{◌++◌, filter, length, Option, Some, None, codes}
 use Rattle.std.specs.Option.{option_map, option_and_then}
 use Rattle.std.specs.List.{slice_split, before_first, after_first, position_or_len}
 use Rattle.std.specs.Char.{digit_value}
 use Rattle.std.specs.Str.{bytes_eq}
 use Rattle.std.specs.Str.Parse.{digits_value}
-use Rattle.subset_args.specs.Listing.Lists.{Ends, is_dash, in_order, is_less, between, few, parts, FileList, characters, text_of}
+use Rattle.subset_args.specs.Listing.Lists.{Ends, is_dash, in_order, is_less, between, few, parts, FileList, characters}
+use Rattle.subset_args.specs.Listing.Lists.{text_of}
 use Rattle.subsetter_base.specs.Texts.{is_scalar}
 
 -- ---- a code of Unicode, in hexadecimal digits
@@ -16,7 +18,9 @@ all_hex (b ∷ bs) = nat_lt (digit_value b) 16 && all_hex bs
 
 -- the number that one or more hexadecimal digits write, if it has at most 32 bits
 abbrev pub hex_in_32 : List ℕ → Option ℕ
-hex_in_32 word = if nat_lt 0 (length word) && all_hex word && nat_lt (digits_value 16 word) (2 ^ 32) then Some (digits_value 16 word) else None
+hex_in_32 word =
+    if nat_lt 0 (length word) && all_hex word && nat_lt (digits_value 16 word) (2 ^ 32) then Some (digits_value 16 word)
+    else None
 
 -- the same, if it is at most 10FFFF
 abbrev pub hex_in : List ℕ → Option ℕ
@@ -33,21 +37,31 @@ abbrev pub marked : List ℕ → List ℕ → Option ℕ
 marked mark digits = if is_mark mark then hex_in digits else None
 
 abbrev pub code_in : List ℕ → Option ℕ
-code_in word = if nat_lt (position_or_len is_plus word) (length word) then marked (before_first is_plus word) (after_first is_plus word) else hex_in word
+code_in word =
+    if nat_lt (position_or_len is_plus word) (length word)
+    then marked (before_first is_plus word) (after_first is_plus word)
+    else hex_in word
 
 -- ---- lists of characters
 
 -- the ends of a range `U+0041-005A`
 abbrev pub codes_of_range : List ℕ → Option Ends
-codes_of_range part = option_and_then (λ first. option_and_then (in_order first) (code_in (after_first is_dash part))) (code_in (before_first is_dash part))
+codes_of_range part =
+    option_and_then (λ first. option_and_then (in_order first) (code_in (after_first is_dash part)))
+    (code_in (before_first is_dash part))
 
 -- the ends that a part writes, where one code is both
 abbrev pub codes_in : List ℕ → Option Ends
-codes_in part = if nat_lt (position_or_len is_dash part) (length part) then codes_of_range part else option_map (λ code. record { first = code; last = code }) (code_in part)
+codes_in part =
+    if nat_lt (position_or_len is_dash part) (length part) then codes_of_range part
+    else option_map (λ code. record { first = code; last = code }) (code_in part)
 
 -- a range whose ends are codes, and not in order
 abbrev pub codes_descend : List ℕ → Bool
-codes_descend part = if nat_lt (position_or_len is_dash part) (length part) then is_less (code_in (after_first is_dash part)) (code_in (before_first is_dash part)) else false
+codes_descend part =
+    if nat_lt (position_or_len is_dash part) (length part)
+    then is_less (code_in (after_first is_dash part)) (code_in (before_first is_dash part))
+    else false
 
 -- the characters between two ends, and these
 abbrev pub characters_between : Ends → List ℕ
@@ -61,7 +75,8 @@ part_characters (b ∷ part) = option_map characters_between (codes_in (b ∷ pa
 -- the characters that parts list, in order
 abbrev pub parts_characters : List (List ℕ) → Option (List ℕ)
 parts_characters [] = Some []
-parts_characters (part ∷ parts) = option_and_then (λ found. option_map (λ more. found ++ more) (parts_characters parts)) (part_characters part)
+parts_characters (part ∷ parts) =
+    option_and_then (λ found. option_map (λ more. found ++ more) (parts_characters parts)) (part_characters part)
 
 -- the characters that an argument lists, with a comma (44) between each two parts
 abbrev pub argument_characters : List ℕ → Option FileList

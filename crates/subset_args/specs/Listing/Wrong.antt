@@ -9,7 +9,8 @@ use Rattle.subset_args.specs.Words.{number_in_bits, tag_of}
 use Rattle.subset_args.specs.declared.listing.wrong.Listing.{Listing}
 use Rattle.subset_args.specs.declared.listing.wrong.Listing.TheVariants as list
 use Rattle.subset_args.specs.declared.mistakes.Wrong.{Wrong}
-use Rattle.subset_args.specs.declared.mistakes.Wrong.TheVariants.{Glyph, Part, Descends, Codes, CodesDescend, Coordinate, Tag as WrongTag, TooMany}
+use Rattle.subset_args.specs.declared.mistakes.Wrong.TheVariants.{Glyph, Part, Descends, Codes, CodesDescend}
+use Rattle.subset_args.specs.declared.mistakes.Wrong.TheVariants.{Coordinate, Tag as WrongTag, TooMany}
 
 -- a part is wrong so, if it isn't right
 abbrev pub wrong_if : {A : Type 0} → Wrong → Option A → Option Wrong
@@ -30,7 +31,9 @@ abbrev pub wrong_setting : List ℕ → Wrong
 wrong_setting name = if is_some (tag_of name) then Coordinate else WrongTag
 
 abbrev pub wrong_coordinate : List ℕ → Option Wrong
-wrong_coordinate part = if is_some (coordinate_in part) then None else (if has_byte is_equals part then Some (wrong_setting (before_first is_equals part)) else Some Coordinate)
+wrong_coordinate part =
+    if is_some (coordinate_in part) then None
+    else (if has_byte is_equals part then Some (wrong_setting (before_first is_equals part)) else Some Coordinate)
 
 abbrev pub wrong_part : Listing → List ℕ → Option Wrong
 wrong_part list.Numbers part = wrong_if Glyph (number_in_bits 16 part)
@@ -48,7 +51,9 @@ list_option list.Coordinates = codes "--at"
 -- the first wrong part; where none is, the list is too long
 abbrev pub first_wrong : Listing → List (List ℕ) → Fault
 first_wrong listing [] = record { wrong = TooMany; word = list_option listing }
-first_wrong listing (part ∷ parts) = elim (wrong_part listing part) [ Some wrong ↦ record { wrong = wrong; word = part } | None ↦ first_wrong listing parts ]
+first_wrong listing (part ∷ parts) =
+    elim (wrong_part listing part)
+    [ Some wrong ↦ record { wrong = wrong; word = part } | None ↦ first_wrong listing parts ]
 
 abbrev pub list_fault : Listing → List ℕ → Fault
 list_fault listing text = first_wrong listing (slice_split (λ b. b == 44) text)

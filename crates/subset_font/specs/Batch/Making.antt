@@ -1,5 +1,6 @@
 -- What a request of a batch makes of its source, and its answer.
-use Rattle.std.specs.Prelude.{◌≡◌, ◌⊎◌, ℕ, List, ◌++◌, Option, Some, None, Result, Ok, Err, Vec, codes, map, string_bytes}
+use Rattle.std.specs.Prelude.{◌≡◌, ◌⊎◌, ℕ, List, ◌++◌, Option, Some, None, Result, Ok, Err, Vec, codes, map}
+use Rattle.std.specs.Prelude.{string_bytes}
 use Rattle.std.specs.Global.{Global}
 use Rattle.std.specs.Str.{chars, encode_utf8_all}
 use Rattle.plain_text.specs.Characters.{plain}
@@ -16,7 +17,10 @@ use Rattle.subset_task.specs.Batch.Answers.{IsFailedWith}
 use Rattle.subset_task.specs.declared.task.Plan.{Plan}
 use Rattle.subset_font.specs.declared.making.outcome.Outcome.{Outcome}
 use Rattle.subset_task.specs.declared.refusals.failure.Failure.{Failure}
-use Rattle.subset_task.specs.declared.refusals.failure.Failure.TheVariants.{Error, NoMapping, MissingCharacters, BlankGlyphs, NoInstance, NotPermitted, Usage, List as WrongList, Read, ReadList, Write, WritePdf, Output, LongAnswer}
+use Rattle.subset_task.specs.declared.refusals.failure.Failure.TheVariants.{Error, NoMapping, MissingCharacters}
+use Rattle.subset_task.specs.declared.refusals.failure.Failure.TheVariants.{BlankGlyphs, NoInstance, NotPermitted}
+use Rattle.subset_task.specs.declared.refusals.failure.Failure.TheVariants.{Usage, List as WrongList, Read, ReadList}
+use Rattle.subset_task.specs.declared.refusals.failure.Failure.TheVariants.{Write, WritePdf, Output, LongAnswer}
 use Rattle.subset_task.specs.declared.batch.answers.Answer.{Answer}
 use Rattle.subset_task.specs.declared.batch.answers.Answer.TheVariants.{Done, Failed, NoMemory}
 
@@ -38,9 +42,11 @@ pub record IsRefusedJob (bytes : List ℕ) (job : Job) (failure : Failure) : Typ
   pub is_plan : IsPlanOf job (kept_by_each job.glyphs.items lists) plan
   pub why : IsFailureOf plan (Some bytes) failure
 
--- or it has no list of glyphs, or more than 64 MiB would be answered, or a file can't be written
+-- or it has no list of glyphs, or the answer would have more than 64 MiB, or a file can't be written
 abbrev pub IsUndone : List ℕ → Job → Failure → Type 0
-IsUndone bytes job failure = IsUnlisted job.glyphs.items failure ⊎ (IsRefusedJob bytes job failure ⊎ ((failure ≡ LongAnswer) ⊎ ((failure ≡ WritePdf) ⊎ (failure ≡ Write))))
+IsUndone bytes job failure =
+    IsUnlisted job.glyphs.items failure
+    ⊎ (IsRefusedJob bytes job failure ⊎ ((failure ≡ LongAnswer) ⊎ ((failure ≡ WritePdf) ⊎ (failure ≡ Write))))
 
 -- ---- the answer
 

@@ -2,7 +2,8 @@
 use Rattle.std.specs.Prelude.{◌≡◌, ◌⊎◌, ◌≤◌, ℕ, Bool, true, false, List, [], ◌∷◌, Option, Some, None, codes}
 use Rattle.std.specs.Option.{option_map, unwrap_or}
 use Rattle.subsetter_base.specs.declared.error.Error.{Error as Refusal}
-use Rattle.subsetter_base.specs.declared.error.Error.TheVariants.{UnknownKind, MalformedFont, Unimplemented, SubsetError, OverflowError, CFFError, OutOfMemory}
+use Rattle.subsetter_base.specs.declared.error.Error.TheVariants.{UnknownKind, MalformedFont, Unimplemented}
+use Rattle.subsetter_base.specs.declared.error.Error.TheVariants.{SubsetError, OverflowError, CFFError, OutOfMemory}
 use Rattle.subsetter_sfnt.specs.Extras.{all_extras}
 use Rattle.subsetter_sfnt.specs.Read.{Font}
 use Rattle.subset_args.specs.Listing.Lists.{counting}
@@ -17,11 +18,18 @@ use Rattle.subset_task.specs.declared.task.RequestedGlyphs.TheVariants.{Every}
 use Rattle.subset_task.specs.declared.task.Task.{Task}
 use Rattle.subset_font.specs.declared.making.subset.Made.{Made}
 use Rattle.subset_task.specs.declared.refusals.failure.Failure.{Failure}
-use Rattle.subset_task.specs.declared.refusals.failure.Failure.TheVariants.{Error, NoMapping, MissingCharacters, BlankGlyphs, NoInstance, NotPermitted, Usage, List as WrongList, Read, ReadList, Write, WritePdf, Output, LongAnswer}
+use Rattle.subset_task.specs.declared.refusals.failure.Failure.TheVariants.{Error, NoMapping, MissingCharacters}
+use Rattle.subset_task.specs.declared.refusals.failure.Failure.TheVariants.{BlankGlyphs, NoInstance, NotPermitted}
+use Rattle.subset_task.specs.declared.refusals.failure.Failure.TheVariants.{Usage, List as WrongList, Read, ReadList}
+use Rattle.subset_task.specs.declared.refusals.failure.Failure.TheVariants.{Write, WritePdf, Output, LongAnswer}
 
 -- its task: the font as it is given, with all extras, within limits, and without widths
 abbrev pub IsPlain : ℕ → Limits → RequestedGlyphs → Task → Type 0
-IsPlain index limits requested task = (task.requested.pieces.now ≡ requested ∷ []) × (task.requested.is_strict ≡ false) × ((task.index ≡ index) × ((task.options.limits ≡ limits) × ((task.options.extras ≡ all_extras) × ((task.widths ≡ false) × (task.at ≡ None)))))
+IsPlain index limits requested task =
+    (task.requested.pieces.now ≡ requested ∷ []) × (task.requested.is_strict ≡ false)
+    × ((task.index ≡ index)
+    × ((task.options.limits ≡ limits)
+    × ((task.options.extras ≡ all_extras) × ((task.widths ≡ false) × (task.at ≡ None)))))
 
 -- a subset of all glyphs is made, within no more tokens than the default
 pub record IsAccepted (font : Font) : Type 0 where
@@ -46,7 +54,8 @@ pub record IsCause (font : Font) (failure : Failure) (reason : Option (List ℕ)
   pub few : limits.tokens ≤ 1000000
   pub task : Task
   pub is_plain : IsPlain font.index limits Every task
-  pub is_text : reason ≡ option_map hint_text (known_after Subset failure task (counting 0 (unwrap_or (face_glyphs font) 0)) font.bytes)
+  pub is_text : reason
+      ≡ option_map hint_text (known_after Subset failure task (counting 0 (unwrap_or (face_glyphs font) 0)) font.bytes)
 
 -- ---- the answer
 
@@ -84,7 +93,8 @@ pub record IsRefusedAs (font : Font) (refusal : List ℕ) (reason : Option (List
   pub is_text : refusal ≡ failure_text failure
   pub is_cause : IsCause font failure reason
 
--- what `subset` answers for all glyphs, by these texts, or that they take more than the limits
+-- what `subset` returns for all glyphs, by these texts, or that they take more than the limits
 abbrev pub IsAnswer : Font → Option (List ℕ) → Option (List ℕ) → Type 0
 IsAnswer font None reason = IsAccepted font × (reason ≡ None)
-IsAnswer font (Some refusal) reason = IsRefusedAs font refusal reason ⊎ ((refusal ≡ codes "not all tried") × (reason ≡ None))
+IsAnswer font (Some refusal) reason =
+    IsRefusedAs font refusal reason ⊎ ((refusal ≡ codes "not all tried") × (reason ≡ None))

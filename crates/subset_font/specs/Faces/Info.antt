@@ -1,5 +1,6 @@
 -- What a face is, and what is written of it.
-use Rattle.std.specs.Prelude.{◌≡◌, ◌≢◌, ℕ, nat_lt, Bool, true, false, List, [], filter, length, Option, None, is_some, codes, Result, Ok, Err}
+use Rattle.std.specs.Prelude.{◌≡◌, ◌≢◌, ℕ, nat_lt, Bool, true, false, List, [], filter, length, Option, None, is_some}
+use Rattle.std.specs.Prelude.{codes, Result, Ok, Err}
 use Rattle.std.specs.Io.KnownBytes.{Appends}
 use Rattle.std.specs.Option.{option_and_then, option_copied, unwrap_or}
 use Rattle.subsetter_base.specs.Bytes.{number}
@@ -34,7 +35,8 @@ known_kinds font glyphs = kinds_or_none (kinds_of font glyphs)
 
 -- each kind that glyphs have, with how many have it
 abbrev pub pictures_of : Font → List (ℕ × ℕ)
-pictures_of font = filter (λ k. nat_lt 0 k.1) (kind_counts (known_kinds font (counting 0 (unwrap_or (face_glyphs font) 0))))
+pictures_of font =
+    filter (λ k. nat_lt 0 k.1) (kind_counts (known_kinds font (counting 0 (unwrap_or (face_glyphs font) 0))))
 
 -- what a face is
 pub record IsInfo (font : Font) (info : Info) : Type 0 where

@@ -7,7 +7,10 @@ use Rattle.subset_font.specs.Report.{report_of}
 use Rattle.subset_task.specs.declared.task.Plan.{Plan}
 use Rattle.subset_font.specs.declared.making.outcome.Outcome.{Outcome}
 use Rattle.subset_task.specs.declared.refusals.failure.Failure.{Failure}
-use Rattle.subset_task.specs.declared.refusals.failure.Failure.TheVariants.{Error, NoMapping, MissingCharacters, BlankGlyphs, NoInstance, NotPermitted, Usage, List as WrongList, Read, ReadList, Write, WritePdf, Output, LongAnswer}
+use Rattle.subset_task.specs.declared.refusals.failure.Failure.TheVariants.{Error, NoMapping, MissingCharacters}
+use Rattle.subset_task.specs.declared.refusals.failure.Failure.TheVariants.{BlankGlyphs, NoInstance, NotPermitted}
+use Rattle.subset_task.specs.declared.refusals.failure.Failure.TheVariants.{Usage, List as WrongList, Read, ReadList}
+use Rattle.subset_task.specs.declared.refusals.failure.Failure.TheVariants.{Write, WritePdf, Output, LongAnswer}
 
 -- a font was written: what the plan makes of the bytes that were read, where these are known
 pub record WritesFont (plan : Plan) (source old new : Option (List ℕ)) : Type 0 where
@@ -42,7 +45,8 @@ IsOfMaking LongAnswer = ⊥
 
 -- why nothing is made: the reader failed, or what was read is refused
 abbrev pub IsFailureOf : Plan → Option (List ℕ) → Failure → Type 0
-IsFailureOf plan source failure = (failure ≡ Read) ⊎ (IsOfMaking failure × IfSome source (λ bytes. IsNoOutcome plan bytes failure))
+IsFailureOf plan source failure =
+    (failure ≡ Read) ⊎ (IsOfMaking failure × IfSome source (λ bytes. IsNoOutcome plan bytes failure))
 
 -- the failure comes before the first byte is written
 abbrev pub IsBeforeWriting : Failure → Type 0

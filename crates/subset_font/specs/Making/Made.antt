@@ -26,7 +26,7 @@ use Rattle.subset_font.specs.declared.making.subset.Made.{Made}
 use Rattle.subset_task.specs.declared.refusals.failure.Failure.{Failure}
 use Rattle.subset_task.specs.declared.refusals.failure.Failure.TheVariants.{Error}
 
--- the face that is read, with all that stands in it
+-- the face that is read, with all that it has
 abbrev pub face_of : Task → List ℕ → Font
 face_of task bytes = record { bytes = bytes; index = task.index; extras = all_extras }
 
@@ -34,22 +34,31 @@ face_of task bytes = record { bytes = bytes; index = task.index; extras = all_ex
 abbrev pub font_of : Task → List ℕ → Font
 font_of task bytes = record { bytes = bytes; index = task.index; extras = task.options.extras }
 
--- a subset of a font in which no fault stands, within two limits on the run of a charstring, the size limits being judged for the subset's order of glyphs
+-- a subset of a font that has no fault, within two limits on the run of a charstring, the size limits being judged for
+-- the subset's order of glyphs
 abbrev pub IsFaultless : ℕ → ℕ → Font → List ℕ → List ℕ → Type 0
-IsFaultless tokens depth font glyphs out = (s : IsSubset tokens depth font (numbering glyphs) out) × ((e : Refusal) → ¬ (HasFault tokens depth font (numbering glyphs) s.keeps.order e))
+IsFaultless tokens depth font glyphs out =
+    (s : IsSubset tokens depth font (numbering glyphs) out)
+    × ((e : Refusal) → ¬ (HasFault tokens depth font (numbering glyphs) s.keeps.order e))
 
--- a subset of a font in which nothing stands against it or the widths of the asked glyphs
+-- a subset of a font that has no fault, nor one of the widths of the asked glyphs
 abbrev pub IsFaultlessWithWidths : ℕ → ℕ → Font → List ℕ → List ℕ → Type 0
-IsFaultlessWithWidths tokens depth font glyphs out = (s : IsSubset tokens depth font (numbering glyphs) out) × ((e : Refusal) → ¬ (HasEmbedFault tokens depth font glyphs s.keeps.order e))
+IsFaultlessWithWidths tokens depth font glyphs out =
+    (s : IsSubset tokens depth font (numbering glyphs) out)
+    × ((e : Refusal) → ¬ (HasEmbedFault tokens depth font glyphs s.keeps.order e))
 
 -- the font that is subset: as it is given, or the static font that it is at user coordinates, where these are said
 pub data IsTaken (task : Task) (bytes glyphs : List ℕ) : Font → Type 0 where
   as_given : option_copied task.at ≡ None → IsTaken task bytes glyphs (font_of task bytes)
-  placed : (at : List (Tag × ℤ)) (static : Font) → option_copied task.at ≡ Some at → IsStatic (font_of task bytes) at (numbering glyphs) static → IsTaken task bytes glyphs static
+  placed : (at : List (Tag × ℤ)) (static : Font) → option_copied task.at ≡ Some at
+      → IsStatic (font_of task bytes) at (numbering glyphs) static
+      → IsTaken task bytes glyphs static
 
 -- a faultless subset of the font for the asked glyphs, also for its widths where they are told
 abbrev pub IsCleanSubset : Task → Font → List ℕ → List ℕ → Type 0
-IsCleanSubset task font glyphs out = MatchBool task.widths (IsFaultlessWithWidths task.options.limits.tokens task.options.limits.depth font glyphs out) (IsFaultless task.options.limits.tokens task.options.limits.depth font glyphs out)
+IsCleanSubset task font glyphs out =
+    MatchBool task.widths (IsFaultlessWithWidths task.options.limits.tokens task.options.limits.depth font glyphs out)
+    (IsFaultless task.options.limits.tokens task.options.limits.depth font glyphs out)
 
 -- the text of widths: the value of `W` in a PDF, or in JSON an array
 abbrev pub width_text : Form → List ℕ → List ℕ
@@ -82,26 +91,36 @@ pub record IsMade (task : Task) (bytes : List ℕ) (made : Made) : Type 0 where
   pub taken : IsTaken task bytes made.picked.glyphs.items font
   pub is_made : IsMadeOf task font made.picked.glyphs.items made
 
--- the given glyphs leave no number for glyph 0, or a fault stands in the font, or a bound is set that every subset passes
+-- the given glyphs leave no number for glyph 0, or the font has a fault, or a bound is set that every subset passes
 abbrev pub IsRefusal : Option ℕ → ℕ → ℕ → Font → List ℕ → Refusal → Type 0
-IsRefusal bound tokens depth font glyphs why = ((why ≡ OverflowError) × HasAllAboveZero glyphs) ⊎ ((order : List ℕ) × HasFaultWithin bound tokens depth font (numbering glyphs) order why)
+IsRefusal bound tokens depth font glyphs why =
+    ((why ≡ OverflowError) × HasAllAboveZero glyphs)
+    ⊎ ((order : List ℕ) × HasFaultWithin bound tokens depth font (numbering glyphs) order why)
 
 -- or one against its widths
 abbrev pub IsRefusalOfWidths : Option ℕ → ℕ → ℕ → Font → List ℕ → Refusal → Type 0
-IsRefusalOfWidths bound tokens depth font glyphs why = (order : List ℕ) × HasEmbedFaultWithin bound tokens depth font glyphs order why
+IsRefusalOfWidths bound tokens depth font glyphs why =
+    (order : List ℕ) × HasEmbedFaultWithin bound tokens depth font glyphs order why
 
 -- why there is no subset of the font that is taken
 abbrev pub IsRefused : Task → Font → List ℕ → Refusal → Type 0
-IsRefused task font glyphs why = MatchBool task.widths (IsRefusalOfWidths task.options.limits.bytes task.options.limits.tokens task.options.limits.depth font glyphs why) (IsRefusal task.options.limits.bytes task.options.limits.tokens task.options.limits.depth font glyphs why)
+IsRefused task font glyphs why =
+    MatchBool task.widths
+    (IsRefusalOfWidths task.options.limits.bytes task.options.limits.tokens task.options.limits.depth font glyphs why)
+    (IsRefusal task.options.limits.bytes task.options.limits.tokens task.options.limits.depth font glyphs why)
 
--- why no font is taken: at user coordinates the glyphs leave no number for glyph 0, or a fault stands against the static font
+-- why no font is taken: at user coordinates the glyphs leave no number for glyph 0, or the static font has a fault
 pub data IsUntaken (task : Task) (bytes glyphs : List ℕ) : Refusal → Type 0 where
   unnumbered : HasAllAboveZero glyphs → IsUntaken task bytes glyphs OverflowError
-  unplaced : {why : Refusal} (at : List (Tag × ℤ)) → option_copied task.at ≡ Some at → HasStaticFault (face_of task bytes) at (numbering glyphs) task.options.limits.tokens task.options.limits.depth why → IsUntaken task bytes glyphs why
+  unplaced : {why : Refusal} (at : List (Tag × ℤ)) → option_copied task.at ≡ Some at
+      → HasStaticFault (face_of task bytes) at (numbering glyphs)
+      task.options.limits.tokens task.options.limits.depth why
+      → IsUntaken task bytes glyphs why
 
 pub data HasRefusal (task : Task) (bytes glyphs : List ℕ) (why : Refusal) : Type 0 where
   untaken : IsUntaken task bytes glyphs why → HasRefusal task bytes glyphs why
-  of_taken : (font : Font) → IsTaken task bytes glyphs font → IsRefused task font glyphs why → HasRefusal task bytes glyphs why
+  of_taken : (font : Font) → IsTaken task bytes glyphs font → IsRefused task font glyphs why
+      → HasRefusal task bytes glyphs why
 
 -- a failure that names a refusal
 pub record IsRefusedFace (task : Task) (font : Font) (glyphs : List ℕ) (failure : Failure) : Type 0 where
@@ -124,4 +143,6 @@ taken_of task bytes (Some file) = font_at file 0 task.options.extras
 
 -- why nothing is made of the bytes of a font: memory ran out, no glyphs are found, or they are refused
 abbrev pub IsUnmade : Task → List ℕ → Failure → Type 0
-IsUnmade task bytes failure = (failure ≡ Error OutOfMemory) ⊎ (IsUnasked (face_of task bytes) task.requested failure ⊎ IsRefusedTask task bytes failure)
+IsUnmade task bytes failure =
+    (failure ≡ Error OutOfMemory)
+    ⊎ (IsUnasked (face_of task bytes) task.requested failure ⊎ IsRefusedTask task bytes failure)

@@ -1,5 +1,6 @@
 -- What a plan makes of a font that is read, and why it doesn't.
-use Rattle.std.specs.Prelude.{◌≡◌, ◌⊎◌, ℕ, ℤ, Bool, true, false, not, ◌&&◌, nat_lt, is_some, if◌then◌else◌, List, [], ◌++◌, map, length, Option, Some, None, codes}
+use Rattle.std.specs.Prelude.{◌≡◌, ◌⊎◌, ℕ, ℤ, Bool, true, false, not, ◌&&◌, nat_lt, is_some, if◌then◌else◌, List, []}
+use Rattle.std.specs.Prelude.{◌++◌, map, length, Option, Some, None, codes}
 use Rattle.std.specs.Borrow.{Bor}
 use Rattle.std.specs.Option.{option_copied}
 use Rattle.subsetter_base.specs.declared.error.Error.TheVariants.{OutOfMemory, UnknownKind, MalformedFont}
@@ -36,7 +37,8 @@ use Rattle.subset_task.specs.declared.refusals.failure.Failure.TheVariants.{Erro
 
 -- the tables of the font that is read and of the new one
 abbrev pub sizes_of : Font → List ℕ → List TableSize
-sizes_of font new = table_sizes (records_in (bytes_or_none (records font))) (records_in (bytes_or_none (records (as_font new))))
+sizes_of font new =
+    table_sizes (records_in (bytes_or_none (records font))) (records_in (bytes_or_none (records (as_font new))))
 
 abbrev pub sizes_if : Bool → Font → List ℕ → Option (List TableSize)
 sizes_if verbose font new = if verbose then Some (sizes_of font new) else None
@@ -49,25 +51,32 @@ is_single None = false
 
 -- the index of another face than its only one, where an option requests the glyphs
 abbrev pub other_face : Bool → Font → Option ℕ
-other_face by_option font = if by_option && (nat_lt 0 font.index && is_single (kind_at font.bytes 0)) then Some font.index else None
+other_face by_option font =
+    if by_option && (nat_lt 0 font.index && is_single (kind_at font.bytes 0)) then Some font.index else None
 
--- the members of a JSON object: sizes, tables with `--verbose`, and notes on the coordinates, on characters without a glyph, and on the face
+-- the members of a JSON object: sizes, tables with `--verbose`, and notes on the coordinates, on characters without a
+-- glyph, and on the face
 abbrev pub members_of : Bool → Bool → Option (List (Tag × ℤ)) → Font → Made → List ℕ
-members_of verbose by_option at font made = members (length font.bytes) (length made.font.items) (sizes_if verbose font made.font.items) (axes_known font) (notes_for (axes_known font) at) (first_missing made.picked.missing.items) (other_face by_option font)
+members_of verbose by_option at font made =
+    members (length font.bytes) (length made.font.items) (sizes_if verbose font made.font.items) (axes_known font)
+    (notes_for (axes_known font) at) (first_missing made.picked.missing.items) (other_face by_option font)
 
 abbrev pub more_by : Form → Bool → Bool → Option (List (Tag × ℤ)) → Font → Made → Option Sheet → List ℕ
-more_by Lines verbose by_option at font made sheet = if verbose then sizes_text (sizes_of font made.font.items) (length font.bytes) (length made.font.items) else []
+more_by Lines verbose by_option at font made sheet =
+    if verbose then sizes_text (sizes_of font made.font.items) (length font.bytes) (length made.font.items) else []
 more_by Json verbose by_option at font made sheet = members_of verbose by_option at font made ++ pdf_text sheet
 more_by Silence verbose by_option at font made sheet = []
 
 abbrev pub more_text : Plan → List ℕ → Made → Option Sheet → List ℕ
-more_text plan bytes made sheet = more_by plan.task.form plan.verbose plan.by_option (option_copied plan.task.at) (face_of plan.task bytes) made sheet
+more_text plan bytes made sheet =
+    more_by plan.task.form plan.verbose plan.by_option (option_copied plan.task.at) (face_of plan.task bytes) made sheet
 
 -- ---- the names of the glyphs, which a JSON object has
 
 -- by the tables `post` and `CFF ` of a face
 abbrev pub names_of : Font → List ℕ → List (List ℕ)
-names_of font glyphs = map (glyph_name (bytes_or_none (stored font (codes "post"))) (bytes_or_none (stored font (codes "CFF ")))) glyphs
+names_of font glyphs =
+    map (glyph_name (bytes_or_none (stored font (codes "post"))) (bytes_or_none (stored font (codes "CFF ")))) glyphs
 
 abbrev pub names_by : Form → Font → List ℕ → List (List ℕ)
 names_by Lines font glyphs = []
@@ -88,13 +97,18 @@ is_cff2 Missing = false
 
 -- a font with these is taken at its default, where an option requests the glyphs and none says coordinates
 abbrev pub takes_default : Plan → List ℕ → Bool
-takes_default plan bytes = plan.by_option && (not (is_some plan.task.at) && is_cff2 (outlines_of (face_of plan.task bytes)))
+takes_default plan bytes =
+    plan.by_option && (not (is_some plan.task.at) && is_cff2 (outlines_of (face_of plan.task bytes)))
 
 -- the task of a plan: as it is given, at the default, or at the coordinates of the named instance
 pub data IsTaskOfPlan (plan : Plan) (bytes : List ℕ) : Task → Type 0 where
   as_given : option_copied plan.instance ≡ None → takes_default plan bytes ≡ false → IsTaskOfPlan plan bytes plan.task
-  at_default : (at : Bor (List (Tag × ℤ))) → option_copied plan.instance ≡ None → takes_default plan bytes ≡ true → at.now ≡ [] → IsTaskOfPlan plan bytes (record plan.task { at = Some at })
-  at_instance : (name : List ℕ) (at : Bor (List (Tag × ℤ))) → option_copied plan.instance ≡ Some name → face_settings (face_of plan.task bytes) name ≡ Some at.now → IsTaskOfPlan plan bytes (record plan.task { at = Some at })
+  at_default : (at : Bor (List (Tag × ℤ))) → option_copied plan.instance ≡ None → takes_default plan bytes ≡ true
+      → at.now ≡ []
+      → IsTaskOfPlan plan bytes (record plan.task { at = Some at })
+  at_instance : (name : List ℕ) (at : Bor (List (Tag × ℤ))) → option_copied plan.instance ≡ Some name
+      → face_settings (face_of plan.task bytes) name ≡ Some at.now
+      → IsTaskOfPlan plan bytes (record plan.task { at = Some at })
 
 pub record IsOutcome (plan : Plan) (bytes : List ℕ) (outcome : Outcome) : Type 0 where
   pub task : Task
@@ -127,4 +141,6 @@ pub record IsUnshownPlan (plan : Plan) (bytes : List ℕ) (failure : Failure) : 
   pub is_unshown : IsUnshownIf plan.pdf task bytes made failure
 
 abbrev pub IsNoOutcome : Plan → List ℕ → Failure → Type 0
-IsNoOutcome plan bytes failure = (failure ≡ Error OutOfMemory) ⊎ (IsUnplaced plan bytes failure ⊎ (IsUnmadePlan plan bytes failure ⊎ IsUnshownPlan plan bytes failure))
+IsNoOutcome plan bytes failure =
+    (failure ≡ Error OutOfMemory)
+    ⊎ (IsUnplaced plan bytes failure ⊎ (IsUnmadePlan plan bytes failure ⊎ IsUnshownPlan plan bytes failure))

@@ -1,5 +1,6 @@
 -- The PDF that is made beside the font, and why there is none.
-use Rattle.std.specs.Prelude.{◌≡◌, ◌⊎◌, ℕ, ℤ, nat_lt, not, ◌&&◌, Bool, true, false, List, [], ◌∷◌, length, Option, Some, None, unwrap_or, IsSome, IfSome, Result, Ok, Err}
+use Rattle.std.specs.Prelude.{◌≡◌, ◌⊎◌, ℕ, ℤ, nat_lt, not, ◌&&◌, Bool, true, false, List, [], ◌∷◌, length, Option, Some}
+use Rattle.std.specs.Prelude.{None, unwrap_or, IsSome, IfSome, Result, Ok, Err}
 use Rattle.std.specs.Option.{option_copied}
 use Rattle.subsetter_base.specs.declared.tag.Tag.{Tag}
 use Rattle.subsetter_base.specs.declared.error.Error.{Error as Refusal}
@@ -50,7 +51,8 @@ pub record IsRequestOf (task : Task) (choice : PdfChoice) (request : PdfRequest)
 pub record IsShown (choice : PdfChoice) (task : Task) (bytes : List ℕ) (made : Made) (sheet : Sheet) : Type 0 where
   pub request : PdfRequest
   pub is_requested : IsRequestOf task choice request
-  pub is_sheet : IsSheetFor bytes request made.picked.text.items made.picked.lengths.items made.picked.glyphs.items sheet
+  pub is_sheet :
+      IsSheetFor bytes request made.picked.text.items made.picked.lengths.items made.picked.glyphs.items sheet
 
 -- whether the font has another picture of a glyph, whose outline is empty
 abbrev pub is_any_unseen : Result (List ℕ) Refusal → Bool
@@ -59,11 +61,13 @@ is_any_unseen (Err e) = false
 
 -- a PDF would show a blank of it, and may show none
 abbrev pub is_blank : PdfChoice → Task → List ℕ → Made → Bool
-is_blank choice task bytes made = not choice.allow_blank && is_any_unseen (unseen_glyphs (face_of task bytes) made.picked.glyphs.items)
+is_blank choice task bytes made =
+    not choice.allow_blank && is_any_unseen (unseen_glyphs (face_of task bytes) made.picked.glyphs.items)
 
 abbrev pub IsSheetIf : Option PdfChoice → Task → List ℕ → Made → Option Sheet → Type 0
 IsSheetIf None task bytes made sheet = sheet ≡ None
-IsSheetIf (Some choice) task bytes made sheet = IsSome sheet × IfSome sheet (IsShown choice task bytes made) × (is_blank choice task bytes made ≡ false)
+IsSheetIf (Some choice) task bytes made sheet =
+    IsSome sheet × IfSome sheet (IsShown choice task bytes made) × (is_blank choice task bytes made ≡ false)
 
 -- ---- why there is none
 
@@ -72,7 +76,8 @@ failure_of (Font e) = Error e
 failure_of (Forbidden permission) = NotPermitted permission
 failure_of TextTooLong = Error OverflowError
 
-pub record IsUnshown (choice : PdfChoice) (task : Task) (bytes : List ℕ) (made : Made) (failure : Failure) : Type 0 where
+pub record IsUnshown (choice : PdfChoice) (task : Task) (bytes : List ℕ) (made : Made) (failure : Failure)
+    : Type 0 where
   pub request : PdfRequest
   pub is_requested : IsRequestOf task choice request
   pub why : SheetError
@@ -81,7 +86,8 @@ pub record IsUnshown (choice : PdfChoice) (task : Task) (bytes : List ℕ) (made
 
 abbrev pub IsUnshownIf : Option PdfChoice → Task → List ℕ → Made → Failure → Type 0
 IsUnshownIf None task bytes made failure = ⊥
-IsUnshownIf (Some choice) task bytes made failure = IsUnshown choice task bytes made failure ⊎ ((failure ≡ BlankGlyphs) × (is_blank choice task bytes made ≡ true))
+IsUnshownIf (Some choice) task bytes made failure =
+    IsUnshown choice task bytes made failure ⊎ ((failure ≡ BlankGlyphs) × (is_blank choice task bytes made ≡ true))
 
 -- ---- what is written and printed of it
 

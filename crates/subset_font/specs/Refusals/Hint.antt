@@ -2,7 +2,8 @@
 use Rattle.std.specs.Prelude.{ℕ, if◌then◌else◌, Bool, true, false, List, Option, Some, None, is_some, codes}
 use Rattle.std.specs.Option.{option_map}
 use Rattle.subsetter_base.specs.declared.error.Error.{Error as Refusal}
-use Rattle.subsetter_base.specs.declared.error.Error.TheVariants.{UnknownKind, MalformedFont, Unimplemented, SubsetError, OverflowError, CFFError, OutOfMemory}
+use Rattle.subsetter_base.specs.declared.error.Error.TheVariants.{UnknownKind, MalformedFont, Unimplemented}
+use Rattle.subsetter_base.specs.declared.error.Error.TheVariants.{SubsetError, OverflowError, CFFError, OutOfMemory}
 use Rattle.subsetter_sfnt.specs.Extras.{all_extras}
 use Rattle.subsetter_sfnt.specs.Read.{Font as Face, find_record, records, stored}
 use Rattle.subsetter_sfnt.specs.declared.face.TableRecord.{TableRecord}
@@ -17,9 +18,13 @@ use Rattle.subset_task.specs.declared.task.Task.{Task}
 use Rattle.pdf_values.specs.Permission.{is_usable}
 use Rattle.pdf_values.specs.declared.permission.Permission.{Permission}
 use Rattle.subset_task.specs.declared.refusals.failure.Failure.{Failure}
-use Rattle.subset_task.specs.declared.refusals.failure.Failure.TheVariants.{Error, NoMapping, MissingCharacters, BlankGlyphs, NoInstance, NotPermitted, Usage, List as WrongList, Read, ReadList, Write, WritePdf, Output, LongAnswer}
+use Rattle.subset_task.specs.declared.refusals.failure.Failure.TheVariants.{Error, NoMapping, MissingCharacters}
+use Rattle.subset_task.specs.declared.refusals.failure.Failure.TheVariants.{BlankGlyphs, NoInstance, NotPermitted}
+use Rattle.subset_task.specs.declared.refusals.failure.Failure.TheVariants.{Usage, List as WrongList, Read, ReadList}
+use Rattle.subset_task.specs.declared.refusals.failure.Failure.TheVariants.{Write, WritePdf, Output, LongAnswer}
 use Rattle.subset_task.specs.declared.refusals.hint.text.Hint.{Hint}
-use Rattle.subset_task.specs.declared.refusals.hint.text.Hint.TheVariants.{Font, Cff2, NoUnicode, WrongAxes, NoAxes, Forbidden}
+use Rattle.subset_task.specs.declared.refusals.hint.text.Hint.TheVariants.{Font, Cff2, NoUnicode, WrongAxes, NoAxes}
+use Rattle.subset_task.specs.declared.refusals.hint.text.Hint.TheVariants.{Forbidden}
 
 -- outlines of CFF2
 abbrev pub cff2_by : Outlines → Option Hint
@@ -52,7 +57,8 @@ hint_of_mapping font = or_else (option_map Font (no_font font)) (no_mapping font
 
 -- what is said after a failure to print axes
 abbrev pub axes_hint_of_error : Refusal → List ℕ → ℕ → Option Hint
-axes_hint_of_error UnknownKind bytes index = option_map Font (no_font (record { bytes = bytes; index = index; extras = all_extras }))
+axes_hint_of_error UnknownKind bytes index =
+    option_map Font (no_font (record { bytes = bytes; index = index; extras = all_extras }))
 axes_hint_of_error MalformedFont bytes index = Some WrongAxes
 axes_hint_of_error Unimplemented bytes index = None
 axes_hint_of_error SubsetError bytes index = None
@@ -67,7 +73,9 @@ no_axes_by font None None = Some NoAxes
 no_axes_by font None (Some place) = Some (Font (missing_table font (record { 0 = codes "fvar" })))
 
 abbrev pub no_axes : Face → Option Hint
-no_axes font = no_axes_by font (stored font (codes "fvar")) (find_record (codes "fvar") (records_in (bytes_or_none (records font))))
+no_axes font =
+    no_axes_by font (stored font (codes "fvar"))
+    (find_record (codes "fvar") (records_in (bytes_or_none (records font))))
 
 abbrev pub axes_hint : Failure → List ℕ → ℕ → Option Hint
 axes_hint (Error e) bytes index = axes_hint_of_error e bytes index

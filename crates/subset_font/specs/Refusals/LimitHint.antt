@@ -40,5 +40,6 @@ pub record IsTooLittle (plan : Plan) (bytes : List ℕ) (tokens depth : ℕ) : T
 
 pub data IsLimitHint (plan : Plan) (bytes : List ℕ) : Hint → Type 0 where
   too_long : {most : ℕ} → IsTooLong plan bytes most → IsLimitHint plan bytes (MoreBytes most)
-  too_little : {tokens depth : ℕ} → IsTooLittle plan bytes tokens depth → IsLimitHint plan bytes (LittleLimits tokens depth)
+  too_little : {tokens depth : ℕ} → IsTooLittle plan bytes tokens depth
+      → IsLimitHint plan bytes (LittleLimits tokens depth)
   given : IsLimitHint plan bytes GivenLimits

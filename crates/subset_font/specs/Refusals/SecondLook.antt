@@ -22,7 +22,8 @@ use Rattle.subset_task.specs.declared.task.Task.{Task}
 
 -- which call a task comes to: with a PDF, at coordinates, with widths
 abbrev pub call_of : Bool → Bool → Bool → Call
-call_of pdf at widths = if pdf then PdfFont else if at then (if widths then EmbedAt else SubsetAt) else if widths then Embed else Subset
+call_of pdf at widths =
+    if pdf then PdfFont else if at then (if widths then EmbedAt else SubsetAt) else if widths then Embed else Subset
 
 -- what it asks for, of these glyphs at these coordinates
 abbrev pub question : Call → Refusal → Task → List (Tag × ℤ) → List ℕ → Question
@@ -43,7 +44,9 @@ uncounted MalformedFont font [] = no_table font (record { 0 = codes "maxp" })
 uncounted e font glyphs = None
 
 unfoldable pub seen_again : Call → Refusal → Task → List (Tag × ℤ) → List ℕ → List ℕ → Option Hint
-seen_again call e task settings glyphs bytes = option_map Font (or_else (explained (question call e task settings glyphs) bytes) (uncounted e (face_of task bytes) glyphs))
+seen_again call e task settings glyphs bytes =
+    option_map Font
+    (or_else (explained (question call e task settings glyphs) bytes) (uncounted e (face_of task bytes) glyphs))
 
 -- after a failure
 abbrev pub seen_after : Call → Failure → Task → List ℕ → List ℕ → Option Hint
@@ -52,4 +55,5 @@ seen_after call other task glyphs bytes = None
 
 -- what is known at once, or else this
 abbrev pub known_after : Call → Failure → Task → List ℕ → List ℕ → Option Hint
-known_after call failure task glyphs bytes = or_else (hint_of failure task bytes) (seen_after call failure task glyphs bytes)
+known_after call failure task glyphs bytes =
+    or_else (hint_of failure task bytes) (seen_after call failure task glyphs bytes)

@@ -1,5 +1,6 @@
 -- What a face is, as lines and as one JSON object (RFC 8259).
-use Rattle.std.specs.Prelude.{ℕ, ◌/◌, ◌%◌, ◌==◌, not, Bool, true, false, List, [], ◌∷◌, ◌++◌, map, Option, Some, None, codes, decimal}
+use Rattle.std.specs.Prelude.{ℕ, ◌/◌, ◌%◌, ◌==◌, not, Bool, true, false, List, [], ◌∷◌, ◌++◌, map, Option, Some, None}
+use Rattle.std.specs.Prelude.{codes, decimal}
 use Rattle.std.specs.Option.{option_copied}
 use Rattle.subsetter_base.specs.declared.tag.Tag.{Tag}
 use Rattle.subset_lines.specs.Faces.Axes.{shown}
@@ -58,10 +59,11 @@ abbrev pub if_any : List ℕ → Option (List ℕ) → List ℕ
 if_any front None = []
 if_any front (Some text) = front ++ text ++ codes "\n"
 
--- what `subset` answers for every glyph
+-- what `subset` returns for all glyphs
 abbrev pub refusal_lines : Option (List ℕ) → Option (List ℕ) → List ℕ
 refusal_lines None reason = codes "subset accepts every glyph\n"
-refusal_lines (Some refusal) reason = if_any (codes "subset refuses: ") (Some refusal) ++ if_any (codes "reason: ") reason
+refusal_lines (Some refusal) reason =
+    if_any (codes "subset refuses: ") (Some refusal) ++ if_any (codes "reason: ") reason
 
 -- `table glyf 46248`
 abbrev pub table_line : Tag → ℕ → List ℕ
@@ -72,7 +74,10 @@ table_lines [] = []
 table_lines (t ∷ tables) = table_line t.0 t.1 ++ table_lines tables
 
 abbrev pub head_lines : Info → List (List ℕ) → List ℕ
-head_lines info words = outlines_line info.outlines info.is_variable ++ counts_lines info.faces info.bytes ++ glyphs_line info.glyphs ++ pictures_line info.pictures.now ++ permission_lines words ++ refusal_lines (option_copied info.refusal) (option_copied info.reason)
+head_lines info words =
+    outlines_line info.outlines info.is_variable ++ counts_lines info.faces info.bytes ++ glyphs_line info.glyphs
+    ++ pictures_line info.pictures.now ++ permission_lines words
+    ++ refusal_lines (option_copied info.refusal) (option_copied info.reason)
 
 abbrev pub info_lines : Info → List ℕ
 info_lines info = head_lines info (permission_words info.permission) ++ table_lines info.tables.now
@@ -89,23 +94,30 @@ string_or_null None = codes "null"
 string_or_null (Some text) = quoted text
 
 abbrev pub table_object : Tag → ℕ → List ℕ
-table_object tag size = codes "{\"tag\":" ++ quoted (map shown tag.0) ++ codes ",\"bytes\":" ++ decimal size ++ codes "}"
+table_object tag size =
+    codes "{\"tag\":" ++ quoted (map shown tag.0) ++ codes ",\"bytes\":" ++ decimal size ++ codes "}"
 
 abbrev pub table_objects : List ℕ → List (Tag × ℕ) → List ℕ
 table_objects before [] = []
 table_objects before (t ∷ tables) = (before ++ table_object t.0 t.1) ++ table_objects (codes ",") tables
 
 abbrev pub counts_members : Info → List ℕ
-counts_members info = codes ",\"faces\":" ++ decimal info.faces ++ codes ",\"bytes\":" ++ decimal info.bytes ++ codes ",\"glyphs\":" ++ number_or_null info.glyphs
+counts_members info =
+    codes ",\"faces\":" ++ decimal info.faces ++ codes ",\"bytes\":" ++ decimal info.bytes ++ codes ",\"glyphs\":"
+    ++ number_or_null info.glyphs
 
 abbrev pub refusal_members : Info → List (List ℕ) → List ℕ
-refusal_members info words = codes ",\"permission\":[" ++ strings [] words ++ codes "],\"refusal\":" ++ string_or_null (option_copied info.refusal) ++ codes ",\"reason\":" ++ string_or_null (option_copied info.reason)
+refusal_members info words =
+    codes ",\"permission\":[" ++ strings [] words ++ codes "],\"refusal\":"
+    ++ string_or_null (option_copied info.refusal) ++ codes ",\"reason\":" ++ string_or_null (option_copied info.reason)
 
 abbrev pub tables_member : List (Tag × ℕ) → List ℕ
 tables_member tables = codes ",\"tables\":[" ++ table_objects [] tables ++ codes "]}\n"
 
 abbrev pub info_members : Info → List (List ℕ) → List ℕ
-info_members info words = outlines_members info.outlines info.is_variable ++ counts_members info ++ pictures_member info.pictures.now ++ refusal_members info words ++ tables_member info.tables.now
+info_members info words =
+    outlines_members info.outlines info.is_variable ++ counts_members info ++ pictures_member info.pictures.now
+    ++ refusal_members info words ++ tables_member info.tables.now
 
 abbrev pub info_json : Info → List ℕ
 info_json info = info_members info (permission_words info.permission)

@@ -1,5 +1,6 @@
 -- The name of a named instance (OpenType, "name").
-use Rattle.std.specs.Prelude.{◌≡◌, ℕ, zero, suc, nat_eq, ◌+◌, ◌*◌, ◌==◌, ◌&&◌, ◌||◌, nat_le, nat_lt, Bool, if◌then◌else◌, List, [], ◌∷◌, ◌++◌, take, drop, Option, Some, None, codes}
+use Rattle.std.specs.Prelude.{◌≡◌, ℕ, zero, suc, nat_eq, ◌+◌, ◌*◌, ◌==◌, ◌&&◌, ◌||◌, nat_le, nat_lt, Bool}
+use Rattle.std.specs.Prelude.{if◌then◌else◌, List, [], ◌∷◌, ◌++◌, take, drop, Option, Some, None, codes}
 use Rattle.std.specs.HashMap.{HashMap, get}
 use Rattle.std.specs.Option.{option_map, option_and_then, unwrap_or}
 use Rattle.std.specs.Char.{encode_utf8}
@@ -30,14 +31,18 @@ serves Unicode bytes = word bytes 0 == 0
 abbrev pub is_name : Kind → ℕ → List ℕ → Bool
 is_name kind id bytes = word bytes 6 == id && serves kind bytes
 
--- the first of so many records that has a name of a kind
+-- the first of the next n records that has a name of a kind
 abbrev pub first_name : Kind → ℕ → ℕ → List ℕ → ℕ → Option (List ℕ)
 first_name kind id zero table at = None
-first_name kind id (suc n) table at = option_and_then (λ bytes. if is_name kind id bytes then Some bytes else first_name kind id n table (at + 12)) (range table at 12)
+first_name kind id (suc n) table at =
+    option_and_then (λ bytes. if is_name kind id bytes then Some bytes else first_name kind id n table (at + 12))
+    (range table at 12)
 
 -- the records begin at byte 6: the best kind that there is
 abbrev pub best_name : ℕ → ℕ → List ℕ → Option (List ℕ)
-best_name id count table = first_of (first_name English id count table 6) (first_of (first_name Windows id count table 6) (first_name Unicode id count table 6))
+best_name id count table =
+    first_of (first_name English id count table 6)
+    (first_of (first_name Windows id count table 6) (first_name Unicode id count table 6))
 
 -- how many records a table says that it has
 abbrev pub count_in : List ℕ → ℕ
@@ -49,7 +54,8 @@ record_if kind id bytes = if is_name kind id bytes then Some (name_record_of byt
 
 -- a map has the first record of each name of a kind
 abbrev pub AreFirst : {S : Type 0} → Kind → ℕ → List ℕ → HashMap ℕ NameRecord S → Type 0
-AreFirst kind count table records = (id : ℕ) → get nat_eq records id ≡ option_map name_record_of (first_name kind id count table 6)
+AreFirst kind count table records =
+    (id : ℕ) → get nat_eq records id ≡ option_map name_record_of (first_name kind id count table 6)
 
 -- ---- its text
 
@@ -63,7 +69,9 @@ string_by table storage record_read = range table (storage + record_read.string_
 
 -- a name, if the table has it
 unfoldable pub string_for : List ℕ → ℕ → Option (List ℕ)
-string_for table id = option_and_then (λ storage. option_and_then (string_of table storage) (best_name id (count_in table) table)) (number table 4 2)
+string_for table id =
+    option_and_then (λ storage. option_and_then (string_of table storage) (best_name id (count_in table) table))
+    (number table 4 2)
 
 -- the name of a number, if there is one
 abbrev pub name_of : List ℕ → Option ℕ → Option (List ℕ)
@@ -73,7 +81,7 @@ name_of table id = option_and_then (string_for table) id
 abbrev pub is_text : ℕ → Bool
 is_text unit = is_plain unit && (nat_lt unit 0xD800 || nat_le 0xE000 unit)
 
--- for these U+FFFD stands, so that a line stays one
+-- these are shown as U+FFFD, so that a line stays one
 abbrev pub character_of : ℕ → ℕ
 character_of unit = if is_text unit then unit else 0xFFFD
 

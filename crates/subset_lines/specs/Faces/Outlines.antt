@@ -22,4 +22,5 @@ abbrev pub variable_member : Bool → List ℕ
 variable_member is_variable = if is_variable then codes ",\"variable\":true" else codes ",\"variable\":false"
 
 abbrev pub outlines_members : Outlines → Bool → List ℕ
-outlines_members outlines is_variable = codes "{\"outlines\":" ++ quoted (outlines_name outlines) ++ variable_member is_variable
+outlines_members outlines is_variable =
+    codes "{\"outlines\":" ++ quoted (outlines_name outlines) ++ variable_member is_variable

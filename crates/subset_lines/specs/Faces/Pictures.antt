@@ -29,7 +29,8 @@ picture_text middle kind count = kind_name kind ++ middle ++ decimal count
 -- each, with a text before the first and one between each two
 abbrev pub pictures_text : List ℕ → List ℕ → List ℕ → List (ℕ × ℕ) → List ℕ
 pictures_text before between middle [] = []
-pictures_text before between middle (p ∷ pictures) = (before ++ picture_text middle p.0 p.1) ++ pictures_text between between middle pictures
+pictures_text before between middle (p ∷ pictures) =
+    (before ++ picture_text middle p.0 p.1) ++ pictures_text between between middle pictures
 
 -- `pictures colr0 48, outline 120`
 abbrev pub pictures_line : List (ℕ × ℕ) → List ℕ
@@ -37,4 +38,5 @@ pictures_line [] = []
 pictures_line (p ∷ pictures) = pictures_text (codes "pictures ") (codes ", ") (codes " ") (p ∷ pictures) ++ codes "\n"
 
 abbrev pub pictures_member : List (ℕ × ℕ) → List ℕ
-pictures_member pictures = codes ",\"pictures\":{" ++ pictures_text (codes "\"") (codes ",\"") (codes "\":") pictures ++ codes "}"
+pictures_member pictures =
+    codes ",\"pictures\":{" ++ pictures_text (codes "\"") (codes ",\"") (codes "\":") pictures ++ codes "}"

@@ -16,4 +16,5 @@ setting_by Member before tag bytes = before ++ setting_member tag bytes
 -- all of them, with a comma between each two
 abbrev pub settings_by : SettingForm → List ℕ → List Axis → List ℕ → List ℕ
 settings_by form before [] bytes = []
-settings_by form before (a ∷ axes) bytes = setting_by form before a.tag bytes ++ settings_by form (codes ",") axes (drop 4 bytes)
+settings_by form before (a ∷ axes) bytes =
+    setting_by form before a.tag bytes ++ settings_by form (codes ",") axes (drop 4 bytes)

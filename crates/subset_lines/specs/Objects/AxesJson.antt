@@ -17,7 +17,9 @@ abbrev pub greatest_member : ℤ → List ℕ
 greatest_member v = (codes ",\"greatest\":" ++ fixed_text v) ++ codes "}"
 
 abbrev pub axis_numbers : Axis → List ℕ
-axis_numbers a = (codes ",\"least\":" ++ fixed_text a.minimum) ++ (codes ",\"default\":" ++ fixed_text a.default) ++ greatest_member a.maximum
+axis_numbers a =
+    (codes ",\"least\":" ++ fixed_text a.minimum) ++ (codes ",\"default\":" ++ fixed_text a.default)
+    ++ greatest_member a.maximum
 
 abbrev pub axis_object : Axis → List ℕ
 axis_object a = tag_open a.tag ++ axis_numbers a
@@ -33,7 +35,8 @@ setting_member tag bytes = quoted (map shown tag.0) ++ codes ":" ++ coordinate_t
 
 abbrev pub settings_members : List ℕ → List Axis → List ℕ → List ℕ
 settings_members before [] bytes = []
-settings_members before (a ∷ axes) bytes = (before ++ setting_member a.tag bytes) ++ settings_members (codes ",") axes (drop 4 bytes)
+settings_members before (a ∷ axes) bytes =
+    (before ++ setting_member a.tag bytes) ++ settings_members (codes ",") axes (drop 4 bytes)
 
 abbrev pub name_or_null : Option (List ℕ) → List ℕ
 name_or_null None = codes "null"
@@ -47,11 +50,13 @@ abbrev pub instance_settings : List Axis → List ℕ → List ℕ
 instance_settings axes bytes = codes ",\"coordinates\":{" ++ settings_members [] axes bytes ++ codes "}}"
 
 abbrev pub instance_object : List Axis → List ℕ → List ℕ → List ℕ
-instance_object axes names bytes = instance_name (name_of names (number bytes 0 2)) ++ instance_settings axes (drop 4 bytes)
+instance_object axes names bytes =
+    instance_name (name_of names (number bytes 0 2)) ++ instance_settings axes (drop 4 bytes)
 
 abbrev pub instance_objects : List ℕ → List Axis → List ℕ → List (List ℕ) → List ℕ
 instance_objects before axes names [] = []
-instance_objects before axes names (record_bytes ∷ more) = (before ++ instance_object axes names record_bytes) ++ instance_objects (codes ",") axes names more
+instance_objects before axes names (record_bytes ∷ more) =
+    (before ++ instance_object axes names record_bytes) ++ instance_objects (codes ",") axes names more
 
 abbrev pub axes_member : List Axis → List ℕ
 axes_member axes = codes ",\"axes\":[" ++ axis_objects [] axes ++ codes "],"
@@ -60,4 +65,5 @@ abbrev pub instances_member : List Axis → List ℕ → List (List ℕ) → Lis
 instances_member axes names records = codes "\"instances\":[" ++ instance_objects [] axes names records ++ codes "]}\n"
 
 abbrev pub axes_json : Outlines → Bool → List Axis → List ℕ → List (List ℕ) → List ℕ
-axes_json outlines is_variable axes names records = outlines_members outlines is_variable ++ axes_member axes ++ instances_member axes names records
+axes_json outlines is_variable axes names records =
+    outlines_members outlines is_variable ++ axes_member axes ++ instances_member axes names records

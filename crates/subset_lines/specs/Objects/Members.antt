@@ -10,6 +10,8 @@ abbrev pub tables_or_nothing : Option (List TableSize) → List ℕ
 tables_or_nothing None = []
 tables_or_nothing (Some tables) = tables_member tables
 
--- the sizes of both files, their tables, if they are given, and notes on coordinates, on characters without a glyph, and on the face
+-- the sizes of both files, their tables, if they are given, and notes on coordinates, on characters without a glyph,
+-- and on the face
 abbrev pub members : ℕ → ℕ → Option (List TableSize) → List Axis → List Note → List ℕ → Option ℕ → List ℕ
-members old new tables axes notes characters index = sizes_member old new ++ tables_or_nothing tables ++ codes ",\"notes\":" ++ notes_array axes notes characters index
+members old new tables axes notes characters index =
+    sizes_member old new ++ tables_or_nothing tables ++ codes ",\"notes\":" ++ notes_array axes notes characters index

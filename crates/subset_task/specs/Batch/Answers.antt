@@ -27,7 +27,7 @@ IsFailedWith status why (Done object) = ⊥
 IsFailedWith status why (Failed given text) = (given ≡ status) × (string_bytes text ≡ why)
 IsFailedWith status why NoMemory = Unit {0}
 
--- an object that is answered has 64 MiB at most
+-- the object of an answer has 64 MiB at most
 abbrev pub IsWithinMost : Answer → Type 0
 IsWithinMost (Done object) = length object.items ≤ 2 ^ 26
 IsWithinMost (Failed status text) = Unit {0}

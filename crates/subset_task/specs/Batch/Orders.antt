@@ -15,7 +15,9 @@ is_given_stream None = false
 
 -- a request that reads or writes a standard stream, by its name
 unfoldable pub uses_streams : Wanted → Bool
-uses_streams r = (is_stream r.input || lists_in_stream r.glyphs) || (is_given_stream r.output || is_given_stream (option_map (λ pdf. pdf.file) r.pdf))
+uses_streams r =
+    (is_stream r.input || lists_in_stream r.glyphs)
+    || (is_given_stream r.output || is_given_stream (option_map (λ pdf. pdf.file) r.pdf))
 
 -- its answer has the members of `--json`
 abbrev pub with_json : Switches → Switches
@@ -36,6 +38,6 @@ order_by words = option_and_then subset_in (result_ok (command words))
 unfoldable pub order_of : List ℕ → Option Wanted
 order_of line = option_and_then order_by (result_ok (request_of line))
 
--- nothing is requested, which is answered with the status of wrong arguments; or memory ran out
+-- nothing is requested, whose answer has the status of wrong arguments; or memory ran out
 abbrev pub IsNoOrder : Option Wanted → Answer → Type 0
 IsNoOrder order answer = (answer ≡ NoMemory) ⊎ ((order ≡ None) × IsFailedBy 2 answer)

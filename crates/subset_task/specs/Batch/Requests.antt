@@ -1,5 +1,6 @@
 -- The requests of a batch, and how far each is.
-use Rattle.std.specs.Prelude.{◌≡◌, ◌⊎◌, ◌≤◌, ◌<◌, ◌+◌, ◌-◌, ◌^◌, min, length, ℕ, Bool, true, false, ◌||◌, if◌then◌else◌, List, [], ◌∷◌, ◌++◌, Option, Some, None, String, is_some, slice_get, string_bytes}
+use Rattle.std.specs.Prelude.{◌≡◌, ◌⊎◌, ◌≤◌, ◌<◌, ◌+◌, ◌-◌, ◌^◌, min, length, ℕ, Bool, true, false, ◌||◌, if◌then◌else◌}
+use Rattle.std.specs.Prelude.{List, [], ◌∷◌, ◌++◌, Option, Some, None, String, is_some, slice_get, string_bytes}
 use Rattle.std.specs.Global.{Global}
 use Rattle.std.specs.HashMap.{HashMap, get_by_text}
 use Rattle.std.specs.Str.{bytes_eq}
@@ -92,7 +93,9 @@ pub record IsTooLong (before : List Request) (line : List ℕ) (answer : Answer)
 
 -- the request of a line after others
 abbrev pub IsBegun : List Request → List ℕ → Option Job → State → Type 0
-IsBegun before line (Some job) state = (order_of line ≡ Some (job_view job)) × ((numbers_by job.glyphs.items ≤ left_after before) × IsFirst (is_named_before before job) state)
+IsBegun before line (Some job) state =
+    (order_of line ≡ Some (job_view job))
+    × ((numbers_by job.glyphs.items ≤ left_after before) × IsFirst (is_named_before before job) state)
 IsBegun before line None (Answered answer) = IsNoOrder (order_of line) answer ⊎ IsTooLong before line answer
 IsBegun before line None Due = ⊥
 IsBegun before line None Written = ⊥
@@ -108,7 +111,10 @@ pub record AddsLine (line : ℕ × List ℕ) (old new : Batch) : Type 0 where
 -- a request for each line, with its number
 pub data AreBegun : List (ℕ × List ℕ) → List Request → List State → Type 0 where
   none : AreBegun [] [] []
-  one_more : (lines : List (ℕ × List ℕ)) (requests : List Request) (states : List State) (line : ℕ × List ℕ) (job : Option Job) (state : State) → AreBegun lines requests states → IsBegun requests line.1 job state → AreBegun (lines ++ line ∷ []) (requests ++ (record { line = line.0; job = job }) ∷ []) (states ++ state ∷ [])
+  one_more : (lines : List (ℕ × List ℕ)) (requests : List Request)
+      (states : List State) (line : ℕ × List ℕ) (job : Option Job) (state : State)
+      → AreBegun lines requests states → IsBegun requests line.1 job state
+      → AreBegun (lines ++ line ∷ []) (requests ++ (record { line = line.0; job = job }) ∷ []) (states ++ state ∷ [])
 
 -- ---- how far requests are later
 

@@ -22,7 +22,8 @@ axes_shown false outlines is_variable axes names records = text_of outlines is_v
 axes_shown true outlines is_variable axes names records = axes_json outlines is_variable axes names records
 
 abbrev pub text_of_axes : Bool → Outlines → List ℕ → List ℕ → Option (List ℕ)
-text_of_axes json outlines names fvar = option_and_then (λ a. option_map (axes_shown json outlines true a names) (instances fvar)) (axes fvar)
+text_of_axes json outlines names fvar =
+    option_and_then (λ a. option_map (axes_shown json outlines true a names) (instances fvar)) (axes fvar)
 
 -- the text of a face; no axes of one that isn't variable
 abbrev pub axes_text : Bool → Outlines → List ℕ → Option (List ℕ) → Option (List ℕ)
@@ -30,7 +31,8 @@ axes_text json outlines names None = Some (axes_shown json outlines false [] nam
 axes_text json outlines names (Some fvar) = text_of_axes json outlines names fvar
 
 abbrev pub face_text : Bool → Font → Option (List ℕ)
-face_text json font = axes_text json (outlines_of font) (bytes_or_none (stored font (codes "name"))) (stored font (codes "fvar"))
+face_text json font =
+    axes_text json (outlines_of font) (bytes_or_none (stored font (codes "name"))) (stored font (codes "fvar"))
 
 -- a face's axes were shown
 pub record IsAxesReport (json : Bool) (font : Font) (old new : Option (List ℕ)) : Type 0 where
@@ -40,7 +42,9 @@ pub record IsAxesReport (json : Bool) (font : Font) (old new : Option (List ℕ)
 
 -- why there are none: the file has no font at its index, or `fvar` can't be read
 abbrev pub IsAxesFault : Bool → Font → Failure → Type 0
-IsAxesFault json font failure = ((failure ≡ Error UnknownKind) × (header_offset font ≡ None)) ⊎ ((failure ≡ Error MalformedFont) × (face_text json font ≡ None))
+IsAxesFault json font failure =
+    ((failure ≡ Error UnknownKind) × (header_offset font ≡ None))
+    ⊎ ((failure ≡ Error MalformedFont) × (face_text json font ≡ None))
 
 -- the axes of a face; none where it isn't variable
 abbrev pub axes_or_none : Option (List ℕ) → Option (List Axis)

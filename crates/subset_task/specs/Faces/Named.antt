@@ -1,5 +1,6 @@
 -- The coordinates of a named instance (OpenType, "fvar", "InstanceRecord").
-use Rattle.std.specs.Prelude.{ℕ, ◌-◌, ◌==◌, ℤ, pos, Bool, true, false, if◌then◌else◌, List, [], ◌∷◌, ◌++◌, map, drop, take, length, decimal, Option, Some, None, is_some, codes}
+use Rattle.std.specs.Prelude.{ℕ, ◌-◌, ◌==◌, ℤ, pos, Bool, true, false, if◌then◌else◌, List, [], ◌∷◌, ◌++◌, map, drop}
+use Rattle.std.specs.Prelude.{take, length, decimal, Option, Some, None, is_some, codes}
 use Rattle.std.specs.Char.{to_ascii_lowercase}
 use Rattle.std.specs.Int.{w32, cast_signed}
 use Rattle.std.specs.Option.{option_map, option_and_then}
@@ -51,10 +52,15 @@ settings_of (a ∷ axes) bytes = (a.tag, coordinate_in bytes) ∷ settings_of ax
 
 -- they begin after the name's number and the flags
 abbrev pub instance_settings : List ℕ → List ℕ → List ℕ → Option (List (Tag × ℤ))
-instance_settings names name fvar = option_and_then (λ a. option_and_then (λ records. option_map (λ bytes. settings_of a (drop 4 bytes)) (find_named names name records)) (instances fvar)) (axes fvar)
+instance_settings names name fvar =
+    option_and_then (λ a. option_and_then (λ records.
+    option_map (λ bytes. settings_of a (drop 4 bytes)) (find_named names name records))
+    (instances fvar))
+    (axes fvar)
 
 abbrev pub face_settings : Font → List ℕ → Option (List (Tag × ℤ))
-face_settings font name = option_and_then (instance_settings (bytes_or_none (stored font (codes "name"))) name) (stored font (codes "fvar"))
+face_settings font name =
+    option_and_then (instance_settings (bytes_or_none (stored font (codes "name"))) name) (stored font (codes "fvar"))
 
 -- ---- the line that lists the names
 
@@ -71,7 +77,9 @@ before_next before false = before
 -- the names of instances, those that have one, by their records
 abbrev pub names_after : List ℕ → List ℕ → List (List ℕ) → List ℕ
 names_after before names [] = []
-names_after before names (bytes ∷ more) = name_after before (name_of names (number bytes 0 2)) ++ names_after (before_next before (is_some (name_of names (number bytes 0 2)))) names more
+names_after before names (bytes ∷ more) =
+    name_after before (name_of names (number bytes 0 2))
+    ++ names_after (before_next before (is_some (name_of names (number bytes 0 2)))) names more
 
 abbrev pub line_of_names : List ℕ → List ℕ
 line_of_names [] = codes "the font has no named instances\n"
@@ -87,11 +95,13 @@ with_more text more = if more == 0 then text else text ++ (codes " and " ++ (dec
 
 -- the names of the first twenty: `named instances: Regular, Semi Bold`
 abbrev pub few_names : List ℕ → List (List ℕ) → List ℕ
-few_names names records = line_of_names (with_more (names_after (codes "named instances: ") names (take 20 records)) (length records - 20))
+few_names names records =
+    line_of_names (with_more (names_after (codes "named instances: ") names (take 20 records)) (length records - 20))
 
 abbrev pub names_line : List ℕ → Option (List (List ℕ)) → List ℕ
 names_line names None = line_of_names []
 names_line names (Some records) = few_names names records
 
 abbrev pub face_names : Font → List ℕ
-face_names font = names_line (bytes_or_none (stored font (codes "name"))) (option_and_then records_of (stored font (codes "fvar")))
+face_names font =
+    names_line (bytes_or_none (stored font (codes "name"))) (option_and_then records_of (stored font (codes "fvar")))

@@ -16,7 +16,8 @@ old_row news r = record { tag = r.tag; old = Some r.length; new = size_among r.t
 
 -- a table of the new one, if the other has no such table
 abbrev pub new_row : List TableRecord → TableRecord → List TableSize
-new_row olds r = if is_some (size_among r.tag olds) then [] else record { tag = r.tag; old = None; new = Some r.length } ∷ []
+new_row olds r =
+    if is_some (size_among r.tag olds) then [] else record { tag = r.tag; old = None; new = Some r.length } ∷ []
 
 abbrev pub new_rows : List TableRecord → List TableRecord → List TableSize
 new_rows olds [] = []

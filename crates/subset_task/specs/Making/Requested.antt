@@ -1,5 +1,6 @@
 -- Which glyphs a task asks for of a font.
-use Rattle.std.specs.Prelude.{◌≡◌, ℕ, ◌&&◌, nat_lt, Bool, if◌then◌else◌, List, [], ◌∷◌, length, Option, Some, None, Result, Ok, Err}
+use Rattle.std.specs.Prelude.{◌≡◌, ℕ, ◌&&◌, nat_lt, Bool, if◌then◌else◌, List, [], ◌∷◌, length, Option, Some, None}
+use Rattle.std.specs.Prelude.{Result, Ok, Err}
 use Rattle.std.specs.Option.{option_map}
 use Rattle.std.specs.Str.{chars}
 use Rattle.subsetter_base.specs.declared.error.Error.TheVariants.{UnknownKind, MalformedFont}
@@ -30,9 +31,15 @@ or_failure failure (Some picked) = Ok picked
 -- the glyphs of one request, or why there are none: the face doesn't say how many it has, or has no table of characters
 abbrev pub picked_of : Font → RequestedGlyphs → Result Picked Failure
 picked_of font (These given) = Ok (bare given.now)
-picked_of font Every = or_failure (unless_no_font font.bytes (Error MalformedFont)) (option_map (λ count. bare (counting 0 count)) (face_glyphs font))
-picked_of font (ByText text) = or_failure (unless_no_font font.bytes NoMapping) (option_map (λ source. of_text source (chars text.now)) (face_source font))
-picked_of font (ByCharacters given) = or_failure (unless_no_font font.bytes NoMapping) (option_map (λ source. of_characters source given.now) (face_source font))
+picked_of font Every =
+    or_failure (unless_no_font font.bytes (Error MalformedFont))
+    (option_map (λ count. bare (counting 0 count)) (face_glyphs font))
+picked_of font (ByText text) =
+    or_failure (unless_no_font font.bytes NoMapping)
+    (option_map (λ source. of_text source (chars text.now)) (face_source font))
+picked_of font (ByCharacters given) =
+    or_failure (unless_no_font font.bytes NoMapping)
+    (option_map (λ source. of_characters source given.now) (face_source font))
 
 -- after others
 abbrev pub following : Picked → Result Picked Failure → Result Picked Failure
@@ -50,7 +57,8 @@ picked_each font (one ∷ more) = with_rest (picked_of font one) (picked_each fo
 
 -- unless the face lacks a character, where none may be lacking
 abbrev pub unless_missing : Bool → Picked → Result Picked Failure
-unless_missing is_strict picked = if is_strict && nat_lt 0 (length picked.missing) then Err MissingCharacters else Ok picked
+unless_missing is_strict picked =
+    if is_strict && nat_lt 0 (length picked.missing) then Err MissingCharacters else Ok picked
 
 abbrev pub unless_any_missing : Bool → Result Picked Failure → Result Picked Failure
 unless_any_missing is_strict (Ok picked) = unless_missing is_strict picked

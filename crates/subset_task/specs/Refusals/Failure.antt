@@ -1,7 +1,10 @@
 -- How a run of the program ends that has no subset.
 use Rattle.std.specs.Prelude.{ℕ, Result, Ok, Err}
 use Rattle.subset_task.specs.declared.refusals.failure.Failure.{Failure}
-use Rattle.subset_task.specs.declared.refusals.failure.Failure.TheVariants.{Error, NoMapping, MissingCharacters, BlankGlyphs, NoInstance, NotPermitted, Usage, List, Read, ReadList, Write, WritePdf, Output, LongAnswer}
+use Rattle.subset_task.specs.declared.refusals.failure.Failure.TheVariants.{Error, NoMapping, MissingCharacters}
+use Rattle.subset_task.specs.declared.refusals.failure.Failure.TheVariants.{BlankGlyphs, NoInstance, NotPermitted}
+use Rattle.subset_task.specs.declared.refusals.failure.Failure.TheVariants.{Usage, List, Read, ReadList, Write}
+use Rattle.subset_task.specs.declared.refusals.failure.Failure.TheVariants.{WritePdf, Output, LongAnswer}
 
 -- 1 for a refusal, 2 for wrong arguments, 3 for a file that failed
 abbrev pub status_of : Failure → ℕ

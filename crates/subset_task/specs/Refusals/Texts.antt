@@ -3,9 +3,14 @@ use Rattle.std.specs.Prelude.{ℕ, ◌==◌, if◌then◌else◌, List, ◌++◌
 use Rattle.subsetter_base.specs.Texts.{error_text}
 use Rattle.font_reasons.specs.Texts.{reason_text}
 use Rattle.subset_task.specs.declared.refusals.failure.Failure.{Failure}
-use Rattle.subset_task.specs.declared.refusals.failure.Failure.TheVariants.{Error, NoMapping, MissingCharacters, BlankGlyphs, NoInstance, NotPermitted, Usage, List as WrongList, Read, ReadList, Write, WritePdf, Output, LongAnswer}
+use Rattle.subset_task.specs.declared.refusals.failure.Failure.TheVariants.{Error, NoMapping, MissingCharacters}
+use Rattle.subset_task.specs.declared.refusals.failure.Failure.TheVariants.{BlankGlyphs, NoInstance, NotPermitted}
+use Rattle.subset_task.specs.declared.refusals.failure.Failure.TheVariants.{Usage, List as WrongList, Read, ReadList}
+use Rattle.subset_task.specs.declared.refusals.failure.Failure.TheVariants.{Write, WritePdf, Output, LongAnswer}
 use Rattle.subset_task.specs.declared.refusals.hint.text.Hint.{Hint}
-use Rattle.subset_task.specs.declared.refusals.hint.text.Hint.TheVariants.{Font, Cff2, NoUnicode, WrongAxes, NoAxes, MoreBytes, LittleLimits, GivenLimits, Forbidden}
+use Rattle.subset_task.specs.declared.refusals.hint.text.Hint.TheVariants.{Font, Cff2, NoUnicode, WrongAxes, NoAxes}
+use Rattle.subset_task.specs.declared.refusals.hint.text.Hint.TheVariants.{MoreBytes, LittleLimits, GivenLimits}
+use Rattle.subset_task.specs.declared.refusals.hint.text.Hint.TheVariants.{Forbidden}
 
 abbrev pub failure_text : Failure → List ℕ
 failure_text (Error e) = error_text e
@@ -25,11 +30,17 @@ failure_text LongAnswer = codes "the answer has more than 64 MiB"
 
 -- limits that are too little
 abbrev pub limits_text : ℕ → ℕ → List ℕ
-limits_text tokens depth = codes "a glyph needs more than the " ++ (decimal tokens ++ (codes "," ++ (decimal depth ++ codes " of --limits")))
+limits_text tokens depth =
+    codes "a glyph needs more than the " ++ (decimal tokens ++ (codes "," ++ (decimal depth ++ codes " of --limits")))
 
 -- what the bit of fsType says: bit 1, 8, else 9 (OpenType, "OS/2")
 abbrev pub forbidden_text : ℕ → List ℕ
-forbidden_text bit = if bit == 1 then codes "fsType bit " ++ (decimal bit ++ codes " is set (restricted): if you hold the rights, --rights held") else (if bit == 8 then codes "fsType bit " ++ (decimal bit ++ codes " is set (no subsetting): if you hold the rights, --rights held") else codes "fsType bit " ++ (decimal bit ++ codes " is set (bitmaps only): if you hold the rights, --rights held"))
+forbidden_text bit =
+    if bit == 1
+    then codes "fsType bit " ++ (decimal bit ++ codes " is set (restricted): if you hold the rights, --rights held")
+    else (if bit == 8
+    then codes "fsType bit " ++ (decimal bit ++ codes " is set (no subsetting): if you hold the rights, --rights held")
+    else codes "fsType bit " ++ (decimal bit ++ codes " is set (bitmaps only): if you hold the rights, --rights held"))
 
 abbrev pub hint_text : Hint → List ℕ
 hint_text (Font reason) = reason_text reason

@@ -1,4 +1,5 @@
--- The plain way to a subset with a CFF table: its tables for the given glyphs, with the error that is answered where one can't be made.
+-- The plain way to a subset with a CFF table: its tables for the given glyphs, with the error that is returned where
+-- one can't be made.
 use Rattle.std.specs.Prelude.{ℕ, List, codes, false, Option, Some, Result, Ok}
 use Rattle.std.specs.Option.{ok_or}
 use Rattle.subsetter_base.specs.Bytes.{◌>>=◌}

@@ -1,4 +1,4 @@
--- What the code's parts of a subset with a CFF table stand for.
+-- What the code's parts of a subset with a CFF table mean.
 use Rattle.subsetter_cff.specs.Write.Laying.TableBy.{table_bytes}
 use Rattle.subsetter.specs.declared.cff.CffTables.{CffTables}
 use Rattle.subsetter.specs.Common.Shared.View.{shared_seen}

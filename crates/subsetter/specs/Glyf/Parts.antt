@@ -1,5 +1,6 @@
 -- What an outline is made of (OpenType, "glyf": simple glyph description, composite glyph description).
-use Rattle.std.specs.Prelude.{ℕ, zero, suc, ◌+◌, Bool, List, [], ◌∷◌, ◌++◌, length, drop, Option, Some, None, nat_lt, if◌then◌else◌}
+use Rattle.std.specs.Prelude.{ℕ, zero, suc, ◌+◌, Bool, List, [], ◌∷◌, ◌++◌, length, drop, Option, Some, None, nat_lt}
+use Rattle.std.specs.Prelude.{if◌then◌else◌}
 use Rattle.std.specs.List.{flat_map}
 use Rattle.std.specs.Int.{w16, to_be_bytes}
 use Rattle.subsetter_base.specs.Bytes.{range, number, has_flag}
@@ -11,9 +12,13 @@ pub record Component : Type 0 where
   pub glyph : ℕ
   pub rest : List ℕ
 
--- arguments of two words (ARG_1_AND_2_ARE_WORDS) or two bytes, and a scale (WE_HAVE_A_SCALE), two scales (WE_HAVE_AN_X_AND_Y_SCALE), a matrix (WE_HAVE_A_TWO_BY_TWO) or nothing
+-- arguments of two words (ARG_1_AND_2_ARE_WORDS) or two bytes, and a scale (WE_HAVE_A_SCALE), two scales
+-- (WE_HAVE_AN_X_AND_Y_SCALE), a matrix (WE_HAVE_A_TWO_BY_TWO) or nothing
 abbrev pub rest_size : ℕ → ℕ
-rest_size flags = (if has_flag flags 0x0001 then 4 else 2) + (if has_flag flags 0x0008 then 2 else (if has_flag flags 0x0040 then 4 else (if has_flag flags 0x0080 then 8 else 0)))
+rest_size flags =
+    (if has_flag flags 0x0001 then 4 else 2)
+    + (if has_flag flags 0x0008 then 2
+    else (if has_flag flags 0x0040 then 4 else (if has_flag flags 0x0080 then 8 else 0)))
 
 -- another component follows exactly where the flags have MORE_COMPONENTS
 abbrev pub has_more : ℕ → Bool
@@ -48,7 +53,9 @@ unfoldable pub chain_at : ℕ → List ℕ → Option Chain
 chain_at zero bytes = None
 chain_at (suc n) bytes = do
   c ← component_at bytes
-  let after = drop (4 + rest_size c.flags) bytes in if has_more c.flags then (chain_at n after >>= λ chain. Some (with_component c chain)) else Some (last_component c after)
+  let after = drop (4 + rest_size c.flags) bytes in
+      if has_more c.flags then (chain_at n after >>= λ chain. Some (with_component c chain))
+      else Some (last_component c after)
 
 -- an outline is empty, simple, or a composite with ten bytes of head
 pub data Parts : Type 0 where
@@ -62,7 +69,8 @@ composite_parts bytes = do
   chain ← chain_at (length bytes) (drop 10 bytes)
   Some (Composite head chain)
 
--- an outline begins with its number of contours, which is below 0 for a composite; one byte and a cut composite have no parts
+-- an outline begins with its number of contours, which is below 0 for a composite; one byte and a cut composite have no
+-- parts
 unfoldable pub outline_parts : List ℕ → Option Parts
 outline_parts [] = Some Empty
 outline_parts (a ∷ []) = None

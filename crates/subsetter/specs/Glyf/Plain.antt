@@ -1,4 +1,4 @@
--- The plain way to take the outlines of the kept glyphs, with the error that is answered where one can't be taken.
+-- The plain way to take the outlines of the kept glyphs, with the error that is returned where one can't be taken.
 use Rattle.std.specs.Prelude.{ℕ, Bool, List, [], ◌∷◌, ◌++◌, map, Option, Result, Ok}
 use Rattle.std.specs.Option.{option_map, ok_or}
 use Rattle.subsetter_base.specs.Bytes.{◌>>=◌}
@@ -7,7 +7,8 @@ use Rattle.subsetter_base.specs.declared.error.Error.{Error}
 use Rattle.subsetter_base.specs.declared.error.Error.TheVariants.{MalformedFont}
 use Rattle.subsetter.specs.Glyf.Read.{Outlines, outlines_in, outline_in}
 use Rattle.subsetter.specs.Glyf.BareOutlines.Bare.{requested_parts}
-use Rattle.subsetter.specs.Glyf.Parts.{Component, Chain, Parts, Empty, Simple, Composite, composite_parts, outline_parts, parts_bytes}
+use Rattle.subsetter.specs.Glyf.Parts.{Component, Chain, Parts, Empty, Simple, Composite, composite_parts}
+use Rattle.subsetter.specs.Glyf.Parts.{outline_parts, parts_bytes}
 
 -- the tables of the outlines
 abbrev pub outlines_read : Bool → (List ℕ → Option (List ℕ)) → Result Outlines Error
@@ -18,7 +19,8 @@ abbrev pub renumbered_component : List ℕ → Component → Component
 renumbered_component order c = record { flags = c.flags; glyph = new_index order c.glyph; rest = c.rest }
 
 abbrev pub renumbered_chain : List ℕ → Chain → Chain
-renumbered_chain order chain = record { components = map (renumbered_component order) chain.components; tail = chain.tail }
+renumbered_chain order chain =
+    record { components = map (renumbered_component order) chain.components; tail = chain.tail }
 
 -- parts with their components under the new numbers
 abbrev pub renumbered : List ℕ → Parts → Parts
@@ -28,11 +30,15 @@ renumbered order (Composite head chain) = Composite head (renumbered_chain order
 
 -- a composite with its components under the new numbers
 unfoldable pub rewritten_composite : Bool → List ℕ → List ℕ → Result (List ℕ) Error
-rewritten_composite hinting order bytes = ok_or (option_map (λ p. parts_bytes (renumbered order p)) (requested_parts hinting (composite_parts bytes))) MalformedFont
+rewritten_composite hinting order bytes =
+    ok_or (option_map (λ p. parts_bytes (renumbered order p)) (requested_parts hinting (composite_parts bytes)))
+    MalformedFont
 
 -- an outline with its components under the new numbers
 unfoldable pub rewritten : Bool → List ℕ → List ℕ → Result (List ℕ) Error
-rewritten hinting order bytes = ok_or (option_map (λ p. parts_bytes (renumbered order p)) (requested_parts hinting (outline_parts bytes))) MalformedFont
+rewritten hinting order bytes =
+    ok_or (option_map (λ p. parts_bytes (renumbered order p)) (requested_parts hinting (outline_parts bytes)))
+    MalformedFont
 
 -- a list with one outline more
 abbrev pub with_last : List (List ℕ) → Result (List ℕ) Error → Result (List (List ℕ)) Error

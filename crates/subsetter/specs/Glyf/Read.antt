@@ -35,7 +35,8 @@ abbrev pub offset : Outlines → ℕ → Option ℕ
 offset t g = if t.long then number t.loca (4 * g) 4 else option_map (λ half. 2 * half) (number t.loca (2 * g) 2)
 
 unfoldable pub outline_in : Outlines → ℕ → Option (List ℕ)
-outline_in t g = option_and_then (λ from. option_and_then (λ to. between_offsets t.glyf from to) (offset t (g + 1))) (offset t g)
+outline_in t g =
+    option_and_then (λ from. option_and_then (λ to. between_offsets t.glyf from to) (offset t (g + 1))) (offset t g)
 
 -- the outline of a glyph: the bytes of glyf between its entry of loca and the next
 abbrev pub outline : Font → ℕ → Option (List ℕ)

@@ -1,4 +1,4 @@
--- What the code's values of outlines stand for.
+-- What the code's values of outlines mean.
 use Rattle.std.specs.Prelude.{ℕ, List, ◌∷◌, ◌++◌}
 use Rattle.subsetter.specs.declared.glyf.GlyfTables.{GlyfTables}
 use Rattle.subsetter.specs.declared.glyf.component.Component.{Component}

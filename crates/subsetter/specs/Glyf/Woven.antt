@@ -1,4 +1,4 @@
--- A list of outlines of which some are borrowed and the others stand one after another.
+-- A list of outlines of which some are borrowed and the others follow one another.
 use Rattle.std.specs.Prelude.{◌≡◌, ◌≤◌, ◌<◌, ◌^◌, ℕ, Bool, List, [], ◌∷◌, length, take, drop}
 use Rattle.subsetter.specs.Glyf.BareOutlines.Bare.{requested_simple}
 
@@ -7,7 +7,8 @@ pub record Listed : Type 0 where
   pub hinting : Bool
   pub items : List (List ℕ)
 
--- the outlines: a borrowed one is a simple outline of the source and stands for itself as far as it is asked for; no bytes stand for the next of the others, which has the next of the sizes
+-- the outlines: a borrowed one is a simple outline of the source and is itself, as far as it is asked for; no bytes
+-- mean the next of the others, which has the next of the sizes
 abbrev pub woven : Bool → List (List ℕ) → List ℕ → List ℕ → List (List ℕ)
 woven hinting [] sizes bytes = []
 woven hinting ([] ∷ kept) [] bytes = []

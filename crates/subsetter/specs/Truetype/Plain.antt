@@ -1,4 +1,5 @@
--- The plain way to a TrueType subset: its tables for an order of the glyphs, with the error that is answered where one can't be made.
+-- The plain way to a TrueType subset: its tables for an order of the glyphs, with the error that is returned where one
+-- can't be made.
 use Rattle.std.specs.Prelude.{ℕ, ◌^◌, List, length, codes, Option, Some, Result, Ok, Err, nat_lt, if◌then◌else◌}
 use Rattle.subsetter_base.specs.Bytes.{◌>>=◌}
 use Rattle.subsetter_base.specs.declared.error.Error.{Error}
@@ -19,7 +20,9 @@ pub record Made : Type 0 where
 
 -- loca, where the length of glyf has 32 bits
 unfoldable pub located : List (List ℕ) → Result (List ℕ) Error
-located bs = if nat_lt (length (glyf_bytes (is_long bs) bs)) (2 ^ 32) then Ok (loca_bytes (is_long bs) 0 bs) else Err OverflowError
+located bs =
+    if nat_lt (length (glyf_bytes (is_long bs) bs)) (2 ^ 32) then Ok (loca_bytes (is_long bs) 0 bs)
+    else Err OverflowError
 
 unfoldable pub made_of : (List ℕ → Option (List ℕ)) → Outlines → List ℕ → Result Made Error
 made_of find t order = do

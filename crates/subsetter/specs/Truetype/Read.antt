@@ -18,12 +18,13 @@ pub record KeepsPrograms (font out : Font) : Type 0 where
   pub control_program : table out (codes "prep") ≡ table font (codes "prep")
 
 pub record KeepsOutlines (font : Font) (order : List ℕ) (out : Font) : Type 0 where
-  -- the format of loca stands in head
+  -- the format of loca is in head
   pub has_head : IsSome (table font (codes "head"))
   -- there are exactly as many glyphs as in the order
   pub count : HasGlyphCount out (length order)
   -- each glyph draws as its source, to every depth
   pub drawing : (n i : ℕ) → i < length order → UnfoldAlike font out n (slice_index order i) i
   -- the new number of a component is the place of its glyph in the order
-  pub numbering : (i : ℕ) → i < length order → HaveSameParts font out (λ g h. index_of order g ≡ Some h) (slice_index order i) i
+  pub numbering : (i : ℕ) → i < length order
+      → HaveSameParts font out (λ g h. index_of order g ≡ Some h) (slice_index order i) i
   pub programs : KeepsPrograms font out

@@ -1,4 +1,4 @@
--- What the code's parts of a TrueType subset stand for.
+-- What the code's parts of a TrueType subset mean.
 use Rattle.subsetter.specs.declared.truetype.TrueTypeTables.{TrueTypeTables}
 use Rattle.subsetter.specs.Common.Shared.View.{shared_seen}
 use Rattle.subsetter.specs.Truetype.Plain.{Made}

@@ -1,5 +1,6 @@
 -- The operators of a CFF2 charstring (OpenType, "CFF2 CharString Format"; Technical Note 5177, section 4).
-use Rattle.std.specs.Prelude.{ℕ, ◌%◌, Bool, false, [], ◌∷◌, Option, Some, None, nat_lt, nat_le, ◌==◌, ◌||◌, ◌&&◌, if◌then◌else◌}
+use Rattle.std.specs.Prelude.{ℕ, ◌%◌, Bool, false, [], ◌∷◌, Option, Some, None, nat_lt, nat_le, ◌==◌, ◌||◌, ◌&&◌}
+use Rattle.std.specs.Prelude.{if◌then◌else◌}
 use Rattle.subsetter_cffdata.specs.declared.dicts.operator.Operator.{Operator}
 use Rattle.subsetter_cffdata.specs.declared.dicts.operator.OperatorType.{OperatorType}
 use Rattle.subsetter_cffdata.specs.declared.dicts.operator.OperatorType.TheVariants.{OneByteOperator, TwoByteOperator}
@@ -7,7 +8,8 @@ use Rattle.subsetter_type2.specs.declared.token.Effect.{Effect}
 use Rattle.subsetter_type2.specs.declared.token.Effect.TheVariants as effect
 use Rattle.subsetter_type2.specs.Token.{one_byte_effect, two_byte_effect}
 use Rattle.subsetter_blend.specs.declared.runs.kind.Kind.{Kind}
-use Rattle.subsetter_blend.specs.declared.runs.kind.Kind.TheVariants.{ChoosesData, Blends, CountsStems, Draws, CallsLocal, CallsGlobal, Masks}
+use Rattle.subsetter_blend.specs.declared.runs.kind.Kind.TheVariants.{ChoosesData, Blends, CountsStems, Draws}
+use Rattle.subsetter_blend.specs.declared.runs.kind.Kind.TheVariants.{CallsLocal, CallsGlobal, Masks}
 
 -- what both kinds of charstrings have: CFF2 has no return and no endchar
 abbrev pub kind_of : Option Effect → Option Kind
@@ -20,7 +22,7 @@ kind_of (Some effect.Returns) = None
 kind_of (Some effect.Ends) = None
 kind_of (Some effect.Masks) = Some Masks
 
--- vsindex, blend
+-- vsindex is 15 and blend 16; the others are those of Type 2
 abbrev pub one_byte_kind : ℕ → Option Kind
 one_byte_kind b = if b == 15 then Some ChoosesData else if b == 16 then Some Blends else kind_of (one_byte_effect b)
 
@@ -34,7 +36,7 @@ type_kind (TwoByteOperator _) = None
 unfoldable pub operator_kind : Operator → Option Kind
 operator_kind operator = type_kind operator.0
 
--- an operator of one byte takes so many operands
+-- an operator of one byte takes n operands
 abbrev pub one_byte_accepts : ℕ → ℕ → Bool
 one_byte_accepts b n =
     -- hstem, vstem, hstemhm, vstemhm; rlineto
@@ -72,6 +74,6 @@ type_accepts (OneByteOperator _) n = false
 type_accepts (TwoByteOperator (mark ∷ second ∷ [])) n = two_byte_accepts second n
 type_accepts (TwoByteOperator _) n = false
 
--- an operator takes so many operands
+-- an operator takes n operands
 unfoldable pub accepts : Operator → ℕ → Bool
 accepts operator n = type_accepts operator.0 n

@@ -1,5 +1,6 @@
 -- The machine that runs a CFF2 charstring (OpenType, "CFF2 CharString Format"; Technical Note 5177, sections 3 and 4).
-use Rattle.std.specs.Prelude.{ℕ, zero, suc, ◌+◌, ◌-◌, ◌/◌, ℤ, List, [], ◌∷◌, ◌++◌, Bool, true, false, Option, Some, None, Result, Ok, Err, nat_lt, nat_le, ◌==◌, if◌then◌else◌, length, take, drop, slice_get}
+use Rattle.std.specs.Prelude.{ℕ, zero, suc, ◌+◌, ◌-◌, ◌/◌, ℤ, List, [], ◌∷◌, ◌++◌, Bool, true, false, Option, Some}
+use Rattle.std.specs.Prelude.{None, Result, Ok, Err, nat_lt, nat_le, ◌==◌, if◌then◌else◌, length, take, drop, slice_get}
 use Rattle.std.specs.Option.{option_and_then}
 use Rattle.subsetter_base.specs.declared.error.Error.{Error}
 use Rattle.subsetter_base.specs.declared.error.Error.TheVariants.{CFFError, OverflowError}
@@ -10,19 +11,21 @@ use Rattle.subsetter_type2.specs.Runs.Machine.{Library, Continuation, On, Into, 
 use Rattle.subsetter_type2.specs.Subroutines.{biased_entry}
 use Rattle.subsetter_type2.specs.Token.{Token, Operand, Operation, token_of}
 use Rattle.subsetter_blend.specs.declared.runs.kind.Kind.{Kind}
-use Rattle.subsetter_blend.specs.declared.runs.kind.Kind.TheVariants.{ChoosesData, Blends, CountsStems, Draws, CallsLocal, CallsGlobal, Masks}
+use Rattle.subsetter_blend.specs.declared.runs.kind.Kind.TheVariants.{ChoosesData, Blends, CountsStems, Draws}
+use Rattle.subsetter_blend.specs.declared.runs.kind.Kind.TheVariants.{CallsLocal, CallsGlobal, Masks}
 use Rattle.subsetter_blend.specs.Runs.Number.{in_parts, are_within, whole_in, natural_in}
 use Rattle.subsetter_blend.specs.Runs.Blend.{blended}
 use Rattle.subsetter_blend.specs.Runs.Kind.{operator_kind, accepts}
 use Rattle.subsetter_blend.specs.Writing.Taking.{Event}
 
--- the subroutines that a charstring may call, and the scalars of the regions of each item variation data, where there are such data
+-- the subroutines that a charstring may call, and the scalars of the regions of each item variation data, where there
+-- are such data
 pub record Setting : Type 0 where
   pub library : Library
   pub scalars : ℕ → Option (List ℤ)
 
--- The operands, the last one pushed last; the stems so far; the bytes of a mask, or 0 before the first one; which item variation
--- data count, and whether that is settled: a blend or a vsindex was met.
+-- The operands, the last one pushed last; the stems so far; the bytes of a mask, or 0 before the first one; which item
+-- variation data count, and whether that is settled: a blend or a vsindex was met.
 pub record Registers : Type 0 where
   pub operands : List ℤ
   pub stems : ℕ
@@ -59,7 +62,8 @@ push number rest r =
 abbrev pub emit : Operator → List ℕ → List ℕ → Registers → Act
 emit operator mask rest r =
     if accepts operator (length r.operands)
-    then Does (Some (record { operator = operator; operands = r.operands; mask = mask })) (record r { operands = [] }) (On rest)
+    then Does (Some (record { operator = operator; operands = r.operands; mask = mask }))
+    (record r { operands = [] }) (On rest)
     else Fails CFFError
 
 -- the stems with those of the operands, two for each
@@ -110,7 +114,8 @@ last_natural r = option_and_then natural_in (last_operand r.operands)
 abbrev pub stacked : Option (List ℤ) → List ℕ → Registers → Act
 stacked None rest r = Fails CFFError
 stacked (Some operands) rest r =
-    if are_within operands then Does None (record r { operands = operands; settled = true }) (On rest) else Fails OverflowError
+    if are_within operands then Does None (record r { operands = operands; settled = true }) (On rest)
+    else Fails OverflowError
 
 abbrev pub blended_by : Option (List ℤ) → Option ℕ → List ℤ → Option (List ℤ)
 blended_by None n operands = None
@@ -128,7 +133,8 @@ if_there (Some scalars) act = act
 -- data of this number, where there are any
 abbrev pub chosen : Option ℕ → (ℕ → Option (List ℤ)) → List ℕ → Registers → Act
 chosen None scalars rest r = Fails CFFError
-chosen (Some n) scalars rest r = if_there (scalars n) (Does None (record r { operands = []; data_index = n; settled = true }) (On rest))
+chosen (Some n) scalars rest r =
+    if_there (scalars n) (Does None (record r { operands = []; data_index = n; settled = true }) (On rest))
 
 -- vsindex: once, before the first blend, with its one operand
 abbrev pub choose : (ℕ → Option (List ℤ)) → List ℕ → Registers → Act
@@ -189,7 +195,8 @@ done take (Does said next lead) s = done_with next lead (taken_also take said s)
 done take (Fails error) s = Err error
 
 -- continues from an act, no deeper than the limit
-abbrev pub follow : {S : Type 0} → ℕ → List (List ℕ) → Result (Done S) Error → (S → State → Result S Error) → Result S Error
+abbrev pub follow : {S : Type 0} → ℕ → List (List ℕ) → Result (Done S) Error → (S → State → Result S Error)
+    → Result S Error
 follow depth callers (Err error) go = Err error
 follow depth callers (Ok d) go =
     if nat_le (length (rests_after d.lead callers)) depth
@@ -197,7 +204,8 @@ follow depth callers (Ok d) go =
     else Err CFFError
 
 -- the run is over where nothing is left to run, and else it needs a token
-abbrev pub ended_or : {S : Type 0} → List (List ℕ) → Result S Error → (List ℕ → List (List ℕ) → Result S Error) → Result S Error
+abbrev pub ended_or : {S : Type 0} → List (List ℕ) → Result S Error → (List ℕ → List (List ℕ) → Result S Error)
+    → Result S Error
 ended_or [] over go = over
 ended_or (bytes ∷ callers) over go = go bytes callers
 
@@ -206,20 +214,27 @@ abbrev pub ended : {S : Type 0} → S → List ℤ → Result S Error
 ended s [] = Ok s
 ended s (z ∷ zs) = Err CFFError
 
--- a run from a state, with so many tokens at most
+-- a run from a state, with at most n tokens
 unfoldable pub run : {S : Type 0} → (Event → S → Result S Error) → Setting → ℕ → ℕ → S → State → Result S Error
-run take setting depth zero s state = ended_or (unended state.rests) (ended s state.registers.operands) (λ bytes callers. Err CFFError)
+run take setting depth zero s state =
+    ended_or (unended state.rests) (ended s state.registers.operands) (λ bytes callers. Err CFFError)
 run take setting depth (suc tokens) s state =
     ended_or (unended state.rests) (ended s state.registers.operands)
-    (λ bytes callers. follow depth callers (done take (act_at setting bytes state.registers) s) (run take setting depth tokens))
+    (λ bytes callers.
+    follow depth callers (done take (act_at setting bytes state.registers) s) (run take setting depth tokens))
 
 -- before the first token, where these item variation data count
 abbrev pub start : ℕ → List ℕ → State
-start data_index charstring = record { rests = charstring ∷ []; registers = record { operands = []; stems = 0; mask_len = 0; data_index = data_index; settled = false } }
+start data_index charstring =
+    record {
+      rests = charstring ∷ [];
+      registers = record { operands = []; stems = 0; mask_len = 0; data_index = data_index; settled = false };
+    }
 
 -- the run of a glyph's own charstring: setting tokens depth data charstring
 unfoldable pub run_all : {S : Type 0} → (Event → S → Result S Error) → Setting → ℕ → ℕ → ℕ → List ℕ → S → Result S Error
-run_all take setting tokens depth data_index charstring s = run take setting depth tokens s (start data_index charstring)
+run_all take setting tokens depth data_index charstring s =
+    run take setting depth tokens s (start data_index charstring)
 
 -- the events of a run, in their order
 abbrev pub also : Event → List Event → Result (List Event) Error

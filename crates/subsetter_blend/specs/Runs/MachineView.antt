@@ -11,10 +11,18 @@ use Rattle.subsetter_blend.specs.Runs.Machine.{Setting, Registers, Act, Does, Fa
 use Rattle.subsetter_blend.specs.Writing.Taking.{Event}
 
 abbrev pub registers_of : Machine → Registers
-registers_of m = record { operands = m.operands; stems = m.stems; mask_len = m.mask_len; data_index = m.data_index; settled = m.settled }
+registers_of m =
+    record {
+      operands = m.operands;
+      stems = m.stems;
+      mask_len = m.mask_len;
+      data_index = m.data_index;
+      settled = m.settled;
+    }
 
 abbrev pub setting_of : Subroutines → (ℕ → Option (List ℤ)) → Setting
-setting_of subroutines scalars = record { library = record { global = subroutines.global; local = subroutines.local }; scalars = scalars }
+setting_of subroutines scalars =
+    record { library = record { global = subroutines.global; local = subroutines.local }; scalars = scalars }
 
 abbrev pub continuation_of : Flow → Continuation
 continuation_of (GoesOn rest) = On rest.now
@@ -22,11 +30,13 @@ continuation_of (Calls body rest) = Into body.now rest.now
 
 -- the call did this act, which says no event, or reports its fault
 abbrev pub Silently : Act → Machine → Result Flow Error → Type 0
-Silently a new result = MatchResult result (λ flow. a ≡ Does None (registers_of new) (continuation_of flow)) (λ error. a ≡ Fails error)
+Silently a new result =
+    MatchResult result (λ flow. a ≡ Does None (registers_of new) (continuation_of flow)) (λ error. a ≡ Fails error)
 
 -- the call did this act, or reports its fault, want of memory aside
 abbrev pub Performs : {S : Type 0} → Act → (Event → S → Result S Error) → Machine → S → S → Result Flow Error → Type 0
 Performs a taken new before after result =
     MatchResult result
-    (λ flow. done taken a before ≡ Ok (record { registers = registers_of new; taken = after; lead = continuation_of flow }))
+    (λ flow.
+    done taken a before ≡ Ok (record { registers = registers_of new; taken = after; lead = continuation_of flow }))
     (λ error. error ≢ OutOfMemory → done taken a before ≡ Err error)

@@ -1,5 +1,7 @@
--- The numbers of a CFF2 charstring in parts of 2^30 (OpenType, "CFF2 CharString Format"; Technical Note 5177, section 3.2).
-use Rattle.std.specs.Prelude.{ℕ, ◌+◌, ◌/◌, ◌%◌, ◌^◌, ◌≤◌, ◌==◌, ℤ, pos, negsuc, ◌*ℤ◌, ◌-ℤ◌, Bool, true, ◌&&◌, nat_le, if◌then◌else◌, List, [], ◌∷◌, Option, Some, None, unsigned_abs}
+-- The numbers of a CFF2 charstring in parts of 2^30 (OpenType, "CFF2 CharString Format"; Technical Note 5177, section
+-- 3.2).
+use Rattle.std.specs.Prelude.{ℕ, ◌+◌, ◌/◌, ◌%◌, ◌^◌, ◌≤◌, ◌==◌, ℤ, pos, negsuc, ◌*ℤ◌, ◌-ℤ◌, Bool, true, ◌&&◌, nat_le}
+use Rattle.std.specs.Prelude.{if◌then◌else◌, List, [], ◌∷◌, Option, Some, None, unsigned_abs}
 use Rattle.std.specs.Option.{option_and_then}
 use Rattle.subsetter_cffdata.specs.declared.numerals.charstring_number.CharStringNumber.{CharStringNumber}
 use Rattle.subsetter_cffdata.specs.declared.numerals.charstring_number.CharStringNumber.TheVariants.{Integer, Fixed}
@@ -11,7 +13,7 @@ abbrev pub in_parts : CharStringNumber → ℤ
 in_parts (Integer v) = v *ℤ pos 1073741824
 in_parts (Fixed k) = k *ℤ pos 16384
 
--- within 32768 units
+-- within 32768 units, in parts of 2^30
 abbrev pub IsWithin : ℤ → Type 0
 IsWithin z = unsigned_abs z ≤ 2 ^ 45
 

@@ -9,7 +9,7 @@ pub record IsSmall (b : ℕ) : Type 0 where
   pub low : 32 ≤ b
   pub high : b < 247
 
--- the number, in parts
+-- the number of a byte from 32 to 246: b - 139, in parts
 abbrev pub small : ℕ → ℤ
 small b = in_parts (Integer (pos b -ℤ pos 139))
 

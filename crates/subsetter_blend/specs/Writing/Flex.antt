@@ -1,5 +1,7 @@
--- The short forms of flex as flex: six positions and the depth 50 (Technical Note 5177, section 4.2 "hflex", "flex", "hflex1" and "flex1").
-use Rattle.std.specs.Prelude.{ℕ, ◌==◌, ℤ, pos, ◌+ℤ◌, neg_ℤ, unsigned_abs, nat_lt, if◌then◌else◌, List, [], ◌∷◌, slice_index_or}
+-- The short forms of flex as flex: six positions and the depth 50 (Technical Note 5177, section 4.2 "hflex", "flex",
+-- "hflex1" and "flex1").
+use Rattle.std.specs.Prelude.{ℕ, ◌==◌, ℤ, pos, ◌+ℤ◌, neg_ℤ, unsigned_abs, nat_lt, if◌then◌else◌, List, [], ◌∷◌}
+use Rattle.std.specs.Prelude.{slice_index_or}
 use Rattle.subsetter_cffdata.specs.declared.dicts.operator.OperatorType.{OperatorType}
 use Rattle.subsetter_cffdata.specs.declared.dicts.operator.OperatorType.TheVariants.{OneByteOperator, TwoByteOperator}
 use Rattle.subsetter_blend.specs.Writing.Taking.{Event}
@@ -10,11 +12,14 @@ depth = pos 53687091200
 
 -- dx1 dx2 dy2 dx3 dx4 dx5 dx6
 abbrev pub opened_hflex : (ℕ → ℤ) → List ℤ
-opened_hflex at = at 0 ∷ pos 0 ∷ at 1 ∷ at 2 ∷ at 3 ∷ pos 0 ∷ at 4 ∷ pos 0 ∷ at 5 ∷ neg_ℤ (at 2) ∷ at 6 ∷ pos 0 ∷ depth ∷ []
+opened_hflex at =
+    at 0 ∷ pos 0 ∷ at 1 ∷ at 2 ∷ at 3 ∷ pos 0 ∷ at 4 ∷ pos 0 ∷ at 5 ∷ neg_ℤ (at 2) ∷ at 6 ∷ pos 0 ∷ depth ∷ []
 
 -- dx1 dy1 dx2 dy2 dx3 dx4 dx5 dy5 dx6: the end has the height of the start
 abbrev pub opened_hflex1 : (ℕ → ℤ) → List ℤ
-opened_hflex1 at = at 0 ∷ at 1 ∷ at 2 ∷ at 3 ∷ at 4 ∷ pos 0 ∷ at 5 ∷ pos 0 ∷ at 6 ∷ at 7 ∷ at 8 ∷ neg_ℤ (at 1 +ℤ at 3 +ℤ at 7) ∷ depth ∷ []
+opened_hflex1 at =
+    at 0 ∷ at 1 ∷ at 2 ∷ at 3 ∷ at 4 ∷ pos 0 ∷ at 5 ∷ pos 0 ∷ at 6 ∷ at 7 ∷ at 8 ∷ neg_ℤ (at 1 +ℤ at 3 +ℤ at 7) ∷ depth
+    ∷ []
 
 -- the last operand goes along the axis of the greater sum, and along the other one back to the start
 abbrev pub last_x : ℤ → ℤ → ℤ → ℤ
@@ -55,4 +60,9 @@ opened_operator (TwoByteOperator code) = TwoByteOperator (12 ∷ 35 ∷ [])
 opened_operator (OneByteOperator code) = OneByteOperator code
 
 unfoldable pub opened : Event → Event
-opened e = record { operator = record { 0 = opened_operator e.operator.0 }; operands = opened_operands e.operator.0 e.operands; mask = e.mask }
+opened e =
+    record {
+      operator = record { 0 = opened_operator e.operator.0 };
+      operands = opened_operands e.operator.0 e.operands;
+      mask = e.mask;
+    }

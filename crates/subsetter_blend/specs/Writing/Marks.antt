@@ -22,7 +22,8 @@ type_masks (TwoByteOperator _) mask = []
 
 -- an event has stems and perhaps a mask, or it draws
 abbrev pub marks : List ℤ → List ℤ → List Mark → List Segment → List Mark
-marks horizontal vertical masks segments = map (λ z. Edge false z) horizontal ++ (map (λ z. Edge true z) vertical ++ (masks ++ map (λ s. Draws s) segments))
+marks horizontal vertical masks segments =
+    map (λ z. Edge false z) horizontal ++ (map (λ z. Edge true z) vertical ++ (masks ++ map (λ s. Draws s) segments))
 
 abbrev pub event_marks : Event → Position → List Mark
 event_marks e at = marks (stems_of false e) (stems_of true e) (type_masks e.operator.0 e.mask) (event_drawn e at)

@@ -1,5 +1,6 @@
 -- Exact operands as whole ones: each position of the path, and each edge of a stem, is rounded once.
-use Rattle.std.specs.Prelude.{ℕ, ◌+◌, ℤ, pos, negsuc, ◌+ℤ◌, ◌-ℤ◌, int_le, Bool, ◌&&◌, if◌then◌else◌, List, [], ◌∷◌, ◌++◌, Option, Some, None, option_map}
+use Rattle.std.specs.Prelude.{ℕ, ◌+◌, ℤ, pos, negsuc, ◌+ℤ◌, ◌-ℤ◌, int_le, Bool, ◌&&◌, if◌then◌else◌, List, [], ◌∷◌}
+use Rattle.std.specs.Prelude.{◌++◌, Option, Some, None, option_map}
 use Rattle.std.specs.Option.{option_and_then}
 use Rattle.subsetter_cffdata.specs.declared.dicts.operator.Operator.{Operator}
 use Rattle.subsetter_cffdata.specs.declared.numerals.charstring_number.CharStringNumber.{CharStringNumber}
@@ -30,7 +31,8 @@ pub record Placed : Type 0 where
 abbrev pub short : ℤ → Option CharStringNumber
 short v = if is_short v then Some (Integer v) else None
 
--- from a coordinate to the next one: the difference of the two, each rounded. The next one is within 32768 units and, like the difference, of 16 bits
+-- from a coordinate to the next one: the difference of the two, each rounded. The next one is within 32768 units and,
+-- like the difference, of 16 bits
 unfoldable pub step : ℤ → ℤ → Option CharStringNumber
 step old new = if is_within new then (if is_short (whole new) then short (whole new -ℤ whole old) else None) else None
 
@@ -38,7 +40,7 @@ step old new = if is_within new then (if is_short (whole new) then short (whole 
 unfoldable pub whole_operand : ℤ → Option CharStringNumber
 whole_operand v = if is_within v then short (whole v) else None
 
--- where a move by so many parts goes
+-- where a move by v parts along an axis goes
 abbrev pub position_after : Along → ℤ → Position → Position
 position_after X v at = record { x = at.x +ℤ v; y = at.y }
 position_after Y v at = record { x = at.x; y = at.y +ℤ v }
@@ -51,7 +53,9 @@ number_of Y v at = step at.y (at.y +ℤ v)
 number_of Still v at = whole_operand v
 
 unfoldable pub moved : Along → ℤ → Placed → Option Placed
-moved along v p = option_map (λ n. record { at = position_after along v p.at; numbers = p.numbers ++ n ∷ [] }) (number_of along v p.at)
+moved along v p =
+    option_map (λ n. record { at = position_after along v p.at; numbers = p.numbers ++ n ∷ [] })
+    (number_of along v p.at)
 
 -- the moves of an operator with n operands, from the operand numbered i on; none where a number doesn't fit
 abbrev pub placed : Operator → ℕ → ℕ → List ℤ → Placed → Option Placed

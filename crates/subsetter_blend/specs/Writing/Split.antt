@@ -1,5 +1,7 @@
--- An operator of more operands than a Type 2 charstring may have (Technical Note 5177, appendix B: 48) as several ones that draw the same.
-use Rattle.std.specs.Prelude.{ℕ, zero, suc, ◌+◌, ◌%◌, ℤ, pos, ◌+ℤ◌, ◌==◌, ◌||◌, Bool, true, false, nat_le, if◌then◌else◌, List, [], ◌∷◌, length, take, drop}
+-- An operator of more operands than a Type 2 charstring may have (Technical Note 5177, appendix B: 48) as several ones
+-- that draw the same.
+use Rattle.std.specs.Prelude.{ℕ, zero, suc, ◌+◌, ◌%◌, ℤ, pos, ◌+ℤ◌, ◌==◌, ◌||◌, Bool, true, false, nat_le}
+use Rattle.std.specs.Prelude.{if◌then◌else◌, List, [], ◌∷◌, length, take, drop}
 use Rattle.subsetter_cffdata.specs.declared.dicts.operator.OperatorType.{OperatorType}
 use Rattle.subsetter_cffdata.specs.declared.dicts.operator.OperatorType.TheVariants.{OneByteOperator, TwoByteOperator}
 use Rattle.subsetter_blend.specs.Hint.{is_hint}
@@ -39,7 +41,8 @@ abbrev pub moved_by : ℤ → List ℤ → List ℤ
 moved_by sum [] = []
 moved_by sum (v ∷ vs) = (sum +ℤ v) ∷ vs
 
--- the stems of an operator begin at 0 again, so those of a further piece begin with the sum of all before; a path continues
+-- the stems of an operator begin at 0 again, so those of a further piece begin with the sum of all before; a path
+-- continues
 abbrev pub sum_before : Bool → List ℤ → ℤ
 sum_before true vs = sum_of vs
 sum_before false vs = pos 0
@@ -48,12 +51,17 @@ abbrev pub front_of : ℕ → Event → Event
 front_of k e = record { operator = record { 0 = piece_type e.operator.0 }; operands = take k e.operands; mask = [] }
 
 abbrev pub rest_of : ℕ → Event → Event
-rest_of k e = record { operator = e.operator; operands = moved_by (sum_before (is_hint e.operator.0) (take k e.operands)) (drop k e.operands); mask = e.mask }
+rest_of k e =
+    record {
+      operator = e.operator;
+      operands = moved_by (sum_before (is_hint e.operator.0) (take k e.operands)) (drop k e.operands);
+      mask = e.mask;
+    }
 
 abbrev pub next_cut : Event → ℕ
 next_cut e = cut e.operator.0 (length e.operands)
 
--- at most 48 operands each, of which so many are before the first piece's; so many further pieces at most
+-- at most 48 operands each, with `width` numbers before those of the first piece; at most `more` further pieces
 unfoldable pub pieces : ℕ → ℕ → Event → List Event
 pieces zero width e = e ∷ []
 pieces (suc more) width e =

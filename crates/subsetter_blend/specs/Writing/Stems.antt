@@ -1,10 +1,11 @@
 -- The stems that operators say (Technical Note 5177, section 4.3), and pieces of few operands.
-use Rattle.std.specs.Prelude.{ℕ, ◌+◌, ◌≤◌, ◌==◌, ◌||◌, ℤ, pos, ◌+ℤ◌, Bool, true, false, if◌then◌else◌, List, [], ◌∷◌, ◌++◌, length}
+use Rattle.std.specs.Prelude.{ℕ, ◌+◌, ◌≤◌, ◌==◌, ◌||◌, ℤ, pos, ◌+ℤ◌, Bool, true, false, if◌then◌else◌, List, [], ◌∷◌}
+use Rattle.std.specs.Prelude.{◌++◌, length}
 use Rattle.subsetter_cffdata.specs.declared.dicts.operator.OperatorType.{OperatorType}
 use Rattle.subsetter_cffdata.specs.declared.dicts.operator.OperatorType.TheVariants.{OneByteOperator, TwoByteOperator}
 use Rattle.subsetter_blend.specs.Writing.Taking.{Event}
 
--- at most 48 operands each, so many numbers standing before the first one's
+-- at most 48 operands each, with `width` numbers before those of the first one
 abbrev pub AreFew : ℕ → List Event → Type 0
 AreFew width [] = Unit {0}
 AreFew width (e ∷ es) = (width + length e.operands ≤ 48) × AreFew 0 es
@@ -20,7 +21,8 @@ has_stems false b = b == 1 || b == 18
 has_stems true b = b == 3 || b == 23 || b == 19 || b == 20
 
 abbrev pub type_stems : Bool → OperatorType → List ℤ → List ℤ
-type_stems vertical (OneByteOperator (b ∷ [])) operands = if has_stems vertical b then edges_from (pos 0) operands else []
+type_stems vertical (OneByteOperator (b ∷ [])) operands =
+    if has_stems vertical b then edges_from (pos 0) operands else []
 type_stems vertical (OneByteOperator _) operands = []
 type_stems vertical (TwoByteOperator _) operands = []
 

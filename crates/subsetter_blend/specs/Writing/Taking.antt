@@ -12,7 +12,8 @@ pub record Event : Type 0 where
 
 -- the call did this, or reports its fault, want of memory aside
 abbrev pub Did : {S A : Type 0} → (S → Result S Error) → S → S → Result A Error → Type 0
-Did does old new result = MatchResult result (λ _. does old ≡ Ok new) (λ error. error ≢ OutOfMemory → does old ≡ Err error)
+Did does old new result =
+    MatchResult result (λ _. does old ≡ Ok new) (λ error. error ≢ OutOfMemory → does old ≡ Err error)
 
 -- events that something takes one after the other
 abbrev pub and_then : {S : Type 0} → Result S Error → (S → Result S Error) → Result S Error

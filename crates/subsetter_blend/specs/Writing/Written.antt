@@ -1,5 +1,7 @@
--- The charstring that is written: whole events, the first with the advance in front as its width, and endchar (Technical Note 5177, section 4.1 and 3.1).
-use Rattle.std.specs.Prelude.{ℕ, ℤ, ◌==◌, ◌||◌, Bool, true, false, if◌then◌else◌, List, [], ◌∷◌, ◌++◌, length, Option, Some, None, Result, Ok, Err}
+-- The charstring that is written: whole events, the first with the advance in front as its width, and endchar
+-- (Technical Note 5177, section 4.1 and 3.1).
+use Rattle.std.specs.Prelude.{ℕ, ℤ, ◌==◌, ◌||◌, Bool, true, false, if◌then◌else◌, List, [], ◌∷◌, ◌++◌, length, Option}
+use Rattle.std.specs.Prelude.{Some, None, Result, Ok, Err}
 use Rattle.subsetter_base.specs.declared.error.Error.{Error}
 use Rattle.subsetter_base.specs.declared.error.Error.TheVariants.{CFFError, OverflowError}
 use Rattle.subsetter_cffdata.specs.declared.dicts.operator.OperatorType.{OperatorType}
@@ -26,7 +28,8 @@ width (Some advance) = Integer advance ∷ []
 
 -- a glyph begins with a hint or a move
 abbrev pub begins : OperatorType → Bool
-begins (OneByteOperator (b ∷ [])) = b == 1 || b == 3 || b == 18 || b == 19 || b == 20 || b == 23 || b == 4 || b == 21 || b == 22
+begins (OneByteOperator (b ∷ [])) =
+    b == 1 || b == 3 || b == 18 || b == 19 || b == 20 || b == 23 || b == 4 || b == 21 || b == 22
 begins _ = false
 
 abbrev pub may_begin : Option ℤ → OperatorType → Bool
@@ -53,11 +56,15 @@ inked e pen (Some p) = Ok (record {
 
 -- an event that is open, and has few operands
 abbrev pub whole_piece : Event → Pen → Result Inked Error
-whole_piece e pen = inked e pen (placed e.operator (length e.operands) 0 e.operands (record { at = start_point (is_hint e.operator.0) pen.at; numbers = width pen.advance }))
+whole_piece e pen =
+    inked e pen (placed e.operator (length e.operands) 0 e.operands
+    (record { at = start_point (is_hint e.operator.0) pen.at; numbers = width pen.advance }))
 
--- something takes an event's pieces, one after the other, where it may stand
+-- something takes an event's pieces, one after the other, where it may be
 abbrev pub in_pieces : {S : Type 0} → (Event → S → Result S Error) → Pen → Event → S → Result S Error
-in_pieces take pen e s = if may_begin pen.advance e.operator.0 then all_taken take (split (length (width pen.advance)) (opened e)) s else Err CFFError
+in_pieces take pen e s =
+    if may_begin pen.advance e.operator.0 then all_taken take (split (length (width pen.advance)) (opened e)) s
+    else Err CFFError
 
 -- ---- what is written so far, as bytes
 pub record Fitted : Type 0 where

@@ -1,4 +1,4 @@
--- How lists are handed to C in memory of the library: by where they stand and how long they are, and a status.
+-- How lists are handed to C in memory of the library: by where they are and how long they are, and a status.
 use Rattle.std.specs.Prelude.{◌≡◌, ℕ, List, [], Option}
 use Rattle.subsetter_base.specs.declared.error.Error.{Error}
 use Rattle.subsetter_sfnt.specs.Read.{Font}
@@ -30,10 +30,13 @@ pub record IsNothingMade (why : ℕ) (made : Buffers) (status : ℕ) : Type 0 wh
 abbrev pub IsFontMade : (List ℕ → Type 0) → (Error → Type 0) → Buffers → ℕ → Type 0
 IsFontMade Is Why = IsMade (λ made. (bytes : List ℕ) × Is bytes × (made ≡ only_font bytes)) Why
 
--- a subset
+-- how a subset is handed over in memory of the library, or the status that says why there is none
 abbrev pub IsSubsetMade : Option ℕ → ℕ → ℕ → Font → List ℕ → Buffers → ℕ → Type 0
-IsSubsetMade bound tokens depth font glyphs = IsFontMade (IsSoundSubset bound tokens depth font glyphs) (IsRefusal bound tokens depth font glyphs)
+IsSubsetMade bound tokens depth font glyphs =
+    IsFontMade (IsSoundSubset bound tokens depth font glyphs) (IsRefusal bound tokens depth font glyphs)
 
 -- a subset with its CIDs and widths
 abbrev pub IsEmbeddingMade : Option ℕ → ℕ → ℕ → Font → List ℕ → Buffers → ℕ → Type 0
-IsEmbeddingMade bound tokens depth font glyphs = IsMade (λ made. (e : Embedded) × IsSoundEmbedding bound tokens depth font glyphs e × (made ≡ lists_of e)) (IsEmbeddingRefusal bound tokens depth font glyphs)
+IsEmbeddingMade bound tokens depth font glyphs =
+    IsMade (λ made. (e : Embedded) × IsSoundEmbedding bound tokens depth font glyphs e × (made ≡ lists_of e))
+    (IsEmbeddingRefusal bound tokens depth font glyphs)

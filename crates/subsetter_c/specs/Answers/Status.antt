@@ -1,8 +1,9 @@
--- What the calls answer to C: a number.
+-- What the calls return to C: a number.
 use Rattle.std.specs.Prelude.{ℕ, List, codes, ◌==◌, if◌then◌else◌}
 use Rattle.subsetter_base.specs.Texts.{error_text}
 use Rattle.subsetter_base.specs.declared.error.Error.{Error}
-use Rattle.subsetter_base.specs.declared.error.Error.TheVariants.{UnknownKind, MalformedFont, Unimplemented, SubsetError, OverflowError, CFFError, OutOfMemory}
+use Rattle.subsetter_base.specs.declared.error.Error.TheVariants.{UnknownKind, MalformedFont, Unimplemented}
+use Rattle.subsetter_base.specs.declared.error.Error.TheVariants.{SubsetError, OverflowError, CFFError, OutOfMemory}
 
 -- the errors are numbered from 1 on, in the order of their names in `Error`; 0 is none
 abbrev pub status_of : Error → ℕ
@@ -54,7 +55,7 @@ overfull = 15
 abbrev pub invalid_numbers : ℕ
 invalid_numbers = 16
 
--- what a status says
+-- the text of a status
 unfoldable pub status_text : ℕ → List ℕ
 status_text status =
     if status == 0 then codes "all done"

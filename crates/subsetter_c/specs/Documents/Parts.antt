@@ -16,11 +16,12 @@ abbrev pub parts_status : PartsError → ℕ
 parts_status InvalidNumbers = invalid_numbers
 parts_status (Subset e) = status_of e
 
--- a call has answered these parts
+-- a call has returned these parts
 abbrev pub ArePartsAnswered : Result (Vec PdfPart Global) PartsError → List PdfPart → Type 0
 ArePartsAnswered answer parts = (v : Vec PdfPart Global) × (answer ≡ Ok v) × (v.items ≡ parts)
 
 -- parts of which `Are` holds, or an error of which `Why` holds, are handed over
-pub data ArePartsHanded (Are : List PdfPart → Type 0) (Why : PartsError → Type 0) (made : PartsMade) (status : ℕ) : Type 0 where
+pub data ArePartsHanded (Are : List PdfPart → Type 0) (Why : PartsError → Type 0) (made : PartsMade) (status : ℕ)
+    : Type 0 where
   whole : Are made.parts.now → status ≡ 0 → ArePartsHanded Are Why made status
   refused : (e : PartsError) → Why e → AreNoParts made → status ≡ parts_status e → ArePartsHanded Are Why made status

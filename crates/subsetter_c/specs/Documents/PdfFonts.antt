@@ -1,5 +1,6 @@
 -- How a font for a PDF is handed to C: by its lists, its numbers and a status.
-use Rattle.std.specs.Prelude.{◌≡◌, ◌⊎◌, ℕ, Bool, true, false, if◌then◌else◌, List, [], ◌∷◌, codes, Option, Some, None, ℤ, pos, Vec}
+use Rattle.std.specs.Prelude.{◌≡◌, ◌⊎◌, ℕ, Bool, true, false, if◌then◌else◌, List, [], ◌∷◌, codes, Option, Some, None}
+use Rattle.std.specs.Prelude.{ℤ, pos, Vec}
 use Rattle.std.specs.Global.{Global}
 use Rattle.subsetter_base.specs.declared.error.Error.{Error}
 use Rattle.subsetter_base.specs.declared.error.Error.TheVariants.{OutOfMemory}
@@ -15,7 +16,8 @@ use Rattle.pdf_codes.specs.Shown.{has_long_text}
 use Rattle.pdf_glyphs.specs.declared.columns.Columns.{Columns}
 use Rattle.pdf_values.specs.Permission.{is_permitted, permission}
 use Rattle.pdf_values.specs.declared.permission.Usage.{Usage}
-use Rattle.pdf_values.specs.declared.permission.Usage.TheVariants.{Unsaid, Installable, Editable, PreviewAndPrint, Restricted}
+use Rattle.pdf_values.specs.declared.permission.Usage.TheVariants.{Unsaid, Installable, Editable, PreviewAndPrint}
+use Rattle.pdf_values.specs.declared.permission.Usage.TheVariants.{Restricted}
 use Rattle.pdf_source.specs.declared.choice.FontOptions.{FontOptions}
 use Rattle.pdf_font.specs.First.{CanBeOpened}
 use Rattle.pdf_font.specs.PdfFont.{HasFontFault, HasNoPdfFont, IsPdfFont, font_of, lacks_outlines}
@@ -67,7 +69,9 @@ pub record AreNumbersOf (f : PdfFont) (n : PdfNumbers) : Type 0 where
   pub default_width : n.default_width ≡ f.default_width
   pub default_column_is : n.default_column ≡ default_column f.columns
   pub flags : n.flags ≡ f.descriptor.values.flags
-  pub bounds : n.bounds ≡ f.descriptor.values.bounds.x_min ∷ f.descriptor.values.bounds.y_min ∷ f.descriptor.values.bounds.x_max ∷ f.descriptor.values.bounds.y_max ∷ []
+  pub bounds : n.bounds
+      ≡ f.descriptor.values.bounds.x_min ∷ f.descriptor.values.bounds.y_min ∷ f.descriptor.values.bounds.x_max
+      ∷ f.descriptor.values.bounds.y_max ∷ []
   pub italic_angle : n.italic_angle ≡ f.descriptor.values.italic_angle
   pub ascent : n.ascent ≡ f.descriptor.values.heights.ascent
   pub descent : n.descent ≡ f.descriptor.values.heights.descent
@@ -81,7 +85,26 @@ pub record AreNumbersOf (f : PdfFont) (n : PdfNumbers) : Type 0 where
   pub may_embed_outlines : n.may_embed_outlines ≡ number_of f.permission.outlines
 
 abbrev pub no_numbers : PdfNumbers
-no_numbers = record { kind = 0; is_vertical = 0; default_width = 0; default_column = pos 0 ∷ pos 0 ∷ []; flags = 0; bounds = pos 0 ∷ pos 0 ∷ pos 0 ∷ pos 0 ∷ []; italic_angle = pos 0; ascent = pos 0; descent = pos 0; cap_height = pos 0; has_x_height = 0; x_height = pos 0; stem_v = 0; font_weight = 0; usage = 0; may_subset = 0; may_embed_outlines = 0 }
+no_numbers =
+    record {
+      kind = 0;
+      is_vertical = 0;
+      default_width = 0;
+      default_column = pos 0 ∷ pos 0 ∷ [];
+      flags = 0;
+      bounds = pos 0 ∷ pos 0 ∷ pos 0 ∷ pos 0 ∷ [];
+      italic_angle = pos 0;
+      ascent = pos 0;
+      descent = pos 0;
+      cap_height = pos 0;
+      has_x_height = 0;
+      x_height = pos 0;
+      stem_v = 0;
+      font_weight = 0;
+      usage = 0;
+      may_subset = 0;
+      may_embed_outlines = 0;
+    }
 
 -- ---- lists
 
@@ -141,17 +164,23 @@ refusal_status TextTooLong = invalid_text
 refusal_status BitmapsAlone = bitmaps_alone
 
 -- why there is no font
-pub record IsFontRefused (font : Font) (settings : List (Tag × ℤ)) (options : FontOptions) (us : List Used) (e : FontError) : Type 0 where
-  -- memory ran out, or the font or the request has a fault of that name, and then no call answers a font
-  pub why : (e ≡ Subset OutOfMemory) ⊎ (((order : List ℕ) × HasFontFault font settings options us order e) × HasNoPdfFont font settings options us)
+pub record IsFontRefused (font : Font) (settings : List (Tag × ℤ)) (options : FontOptions) (us : List Used)
+    (e : FontError) : Type 0 where
+  -- memory ran out, or the font or the request has a fault with that error, and then no call returns a font
+  pub why : (e ≡ Subset OutOfMemory)
+      ⊎ (((order : List ℕ) × HasFontFault font settings options us order e) × HasNoPdfFont font settings options us)
   -- a face without outlines is refused for that, also without memory
   pub bare : lacks_outlines font ≡ true → e ≡ BitmapsAlone
   -- and another that can't be opened
-  pub unopened : lacks_outlines font ≡ false → (fault : Error) → HasOpeningFaultAt font fault → (d : Error) × (e ≡ Subset d) × HasOpeningFaultAt font d
+  pub unopened : lacks_outlines font ≡ false → (fault : Error) → HasOpeningFaultAt font fault
+      → (d : Error) × (e ≡ Subset d) × HasOpeningFaultAt font d
   -- then one that `fsType` forbids, unless memory ran out
-  pub forbidden : CanBeOpened font → is_permitted (permission (stored font (codes "OS/2"))) options.rights ≡ false → (e ≡ Subset OutOfMemory) ⊎ (e ≡ NotPermitted (permission (stored font (codes "OS/2"))))
+  pub forbidden : CanBeOpened font → is_permitted (permission (stored font (codes "OS/2"))) options.rights ≡ false
+      → (e ≡ Subset OutOfMemory) ⊎ (e ≡ NotPermitted (permission (stored font (codes "OS/2"))))
   -- then one with a text that is too long
-  pub long : CanBeOpened font → is_permitted (permission (stored font (codes "OS/2"))) options.rights ≡ true → has_long_text us ≡ true → (e ≡ Subset OutOfMemory) ⊎ (e ≡ TextTooLong)
+  pub long : CanBeOpened font → is_permitted (permission (stored font (codes "OS/2"))) options.rights ≡ true
+      → has_long_text us ≡ true
+      → (e ≡ Subset OutOfMemory) ⊎ (e ≡ TextTooLong)
 
 -- a font is handed over, or an error: the lists and numbers, and the status
 pub data IsHandedBy (Is : PdfFont → Type 0) (Why : FontError → Type 0) (made : PdfMade) (status : ℕ) : Type 0 where
@@ -159,10 +188,12 @@ pub data IsHandedBy (Is : PdfFont → Type 0) (Why : FontError → Type 0) (made
   refused : (e : FontError) → Why e → IsEmpty made → status ≡ refusal_status e → IsHandedBy Is Why made status
 
 -- what a PDF has of a font is handed over, for options that the words choose
-pub record IsFontMade (bytes : List ℕ) (index : ℕ) (settings : List (Tag × ℤ)) (us : List Used) (words : List ℕ) (made : PdfMade) (status : ℕ) : Type 0 where
+pub record IsFontMade (bytes : List ℕ) (index : ℕ) (settings : List (Tag × ℤ)) (us : List Used) (words : List ℕ)
+    (made : PdfMade) (status : ℕ) : Type 0 where
   pub options : FontOptions
   pub chosen : AreFontOptionsChosen words options
-  pub handed : IsHandedBy (IsPdfFont (font_of bytes index options) settings options us) (IsFontRefused (font_of bytes index options) settings options us) made status
+  pub handed : IsHandedBy (IsPdfFont (font_of bytes index options) settings options us)
+      (IsFontRefused (font_of bytes index options) settings options us) made status
 
 -- no font is handed over, for the reason of a status
 pub record IsNoFontMade (why : ℕ) (made : PdfMade) (status : ℕ) : Type 0 where

@@ -31,4 +31,6 @@ IsGlyphRefusal font e = IsOutOfMemory (IsUnread font) e ⊎ IsUnread font e
 
 -- glyphs are handed over, or the reason why there are none: the buffer before and after, the size, and the status
 abbrev pub AreGlyphsHanded : Font → List ℕ → List ℕ → List ℕ → ℕ → ℕ → Type 0
-AreGlyphsHanded font text before after told status = (HasNoCmap font × IsNothingHanded no_cmap before after told status) ⊎ IsHandedOver (AreGlyphsOf font text) (IsGlyphRefusal font) before after told status
+AreGlyphsHanded font text before after told status =
+    (HasNoCmap font × IsNothingHanded no_cmap before after told status)
+    ⊎ IsHandedOver (AreGlyphsOf font text) (IsGlyphRefusal font) before after told status

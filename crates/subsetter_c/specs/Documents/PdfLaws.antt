@@ -13,4 +13,7 @@ use Rattle.subsetter_pdf_c.specs.declared.made.PdfMade.{PdfMade}
 use Rattle.subsetter_c.specs.Documents.PdfFonts.{IsLaidOut}
 
 abbrev pub ViewsAreOfTheFont : Type 0
-ViewsAreOfTheFont = (font : Font) (settings : List (Tag × ℤ)) (options : FontOptions) (us : List Used) (f : PdfFont) (made : PdfMade) → IsPdfFont font settings options us f → IsLaidOut f made → (w : FontView) → IsViewOf made [] w → IsViewOfFont f w
+ViewsAreOfTheFont =
+    (font : Font) (settings : List (Tag × ℤ)) (options : FontOptions) (us : List Used) (f : PdfFont) (made : PdfMade)
+    → IsPdfFont font settings options us f → IsLaidOut f made → (w : FontView) → IsViewOf made [] w
+    → IsViewOfFont f w

@@ -1,5 +1,7 @@
--- What the words of `struct subsetter_pdf_options` choose (bindings/c/subsetter.h): those of `subsetter_options`, and after them the choices of a font for a PDF.
-use Rattle.std.specs.Prelude.{◌≡◌, ◌≤◌, ◌<◌, ◌*◌, ◌++◌, ◌⊎◌, ℕ, List, length, drop, Option, Some, None, ◌==◌, if◌then◌else◌}
+-- What the words of `struct subsetter_pdf_options` choose (bindings/c/subsetter.h): those of `subsetter_options`, and
+-- after them the choices of a font for a PDF.
+use Rattle.std.specs.Prelude.{◌≡◌, ◌≤◌, ◌<◌, ◌*◌, ◌++◌, ◌⊎◌, ℕ, List, length, drop, Option, Some, None, ◌==◌}
+use Rattle.std.specs.Prelude.{if◌then◌else◌}
 use Rattle.std.specs.Int.{w32, to_be_bytes}
 use Rattle.pdf_text.specs.SubsetName.{IsTag}
 use Rattle.pdf_codes.specs.declared.codes.Codes.{Codes}

@@ -20,9 +20,10 @@ pub record ReadFits (r : ReadText) (before : ReadBuffers) : Type 0 where
   pub entries : length r.entries.items ≤ length before.entries
   pub missing : length r.missing.items ≤ length before.missing
 
--- each list stands at the front of its buffer
+-- each list is at the front of its buffer
 abbrev pub read_begun : ReadText → ReadBuffers → ReadBuffers
-read_begun r before = record { entries = begun_with r.entries.items before.entries; missing = begun_with r.missing.items before.missing }
+read_begun r before =
+    record { entries = begun_with r.entries.items before.entries; missing = begun_with r.missing.items before.missing }
 
 abbrev pub read_sizes : ReadText → ReadSizes
 read_sizes r = record { entries = length r.entries.items; missing = length r.missing.items }
@@ -30,12 +31,17 @@ read_sizes r = record { entries = length r.entries.items; missing = length r.mis
 abbrev pub no_read_sizes : ReadSizes
 no_read_sizes = record { entries = 0; missing = 0 }
 
--- what is read of which `Is` holds, or an error of which `Why` holds, is handed over: the buffers before and after, the sizes, and the status
-pub data IsReadHanded (Is : ReadText → Type 0) (Why : Error → Type 0) (before after : ReadBuffers) (told : ReadSizes) (status : ℕ) : Type 0 where
-  whole : (r : ReadText) → Is r → ReadFits r before → after ≡ read_begun r before → told ≡ read_sizes r → status ≡ 0 → IsReadHanded Is Why before after told status
+-- what is read of which `Is` holds, or an error of which `Why` holds, is handed over: the buffers before and after, the
+-- sizes, and the status
+pub data IsReadHanded (Is : ReadText → Type 0) (Why : Error → Type 0) (before after : ReadBuffers) (told : ReadSizes)
+    (status : ℕ) : Type 0 where
+  whole : (r : ReadText) → Is r → ReadFits r before → after ≡ read_begun r before → told ≡ read_sizes r → status ≡ 0
+      → IsReadHanded Is Why before after told status
   -- a buffer is too small
-  short : (r : ReadText) → Is r → ¬ (ReadFits r before) → after ≡ before → told ≡ read_sizes r → status ≡ too_small → IsReadHanded Is Why before after told status
-  refused : (e : Error) → Why e → after ≡ before → told ≡ no_read_sizes → status ≡ status_of e → IsReadHanded Is Why before after told status
+  short : (r : ReadText) → Is r → ¬ (ReadFits r before) → after ≡ before → told ≡ read_sizes r → status ≡ too_small
+      → IsReadHanded Is Why before after told status
+  refused : (e : Error) → Why e → after ≡ before → told ≡ no_read_sizes → status ≡ status_of e
+      → IsReadHanded Is Why before after told status
 
 -- nothing is handed over, for the reason of a status
 pub record IsNothingRead (why : ℕ) (before after : ReadBuffers) (told : ReadSizes) (status : ℕ) : Type 0 where
@@ -57,4 +63,6 @@ pub record IsReadOf (font : Font) (text : List ℕ) (r : ReadText) : Type 0 wher
 
 -- a text is handed over that is read, or the reason why there is none
 abbrev pub IsReadMade : Font → List ℕ → ReadBuffers → ReadBuffers → ReadSizes → ℕ → Type 0
-IsReadMade font text before after told status = (HasNoCmap font × IsNothingRead no_cmap before after told status) ⊎ IsReadHanded (IsReadOf font text) (IsGlyphRefusal font) before after told status
+IsReadMade font text before after told status =
+    (HasNoCmap font × IsNothingRead no_cmap before after told status)
+    ⊎ IsReadHanded (IsReadOf font text) (IsGlyphRefusal font) before after told status

@@ -14,7 +14,8 @@ use Rattle.subsetter_text_c.specs.declared.shown.ShownRun.{ShownRun}
 use Rattle.subsetter_text_c.specs.declared.units.Units.{Units}
 use Rattle.subsetter_text_c.specs.declared.units.Units.TheVariants.{Utf8, Utf16, Utf32}
 use Rattle.subsetter_text_c.specs.Items.{labelled_in}
-use Rattle.subsetter_text_c.specs.Shown.{AreUnshown, IsOneShown, IsTextShown, IsTextUnshown, Lists, are_one, lists_shown}
+use Rattle.subsetter_text_c.specs.Shown.{AreUnshown, IsOneShown, IsTextShown, IsTextUnshown, Lists, are_one}
+use Rattle.subsetter_text_c.specs.Shown.{lists_shown}
 use Rattle.subsetter_c.specs.Answers.Status.{invalid_text, out_of_memory, overfull}
 use Rattle.subsetter_c.specs.Documents.PdfObjects.{IsNothing}
 use Rattle.subsetter_c.specs.declared.documents.pdf_files.ObjectsMade.{ObjectsMade}
@@ -29,7 +30,8 @@ text_size = 168
 
 -- there is a text: unitsPerEm has 16 bits and isn't 0, and own glyphs can have at most 65,535 parts
 abbrev pub is_text : TextMade → Bool
-is_text t = t.size == text_size && (nat_lt 0 t.units_per_em && (nat_lt t.units_per_em 65536 && nat_lt t.most_parts 65536))
+is_text t =
+    t.size == text_size && (nat_lt 0 t.units_per_em && (nat_lt t.units_per_em 65536 && nat_lt t.most_parts 65536))
 
 -- a vertical text has runs from top to bottom alone, and another has none
 abbrev pub is_direction : ℕ → ℕ → Bool
@@ -91,14 +93,21 @@ pub record IsNoneLeft (left : PairsLeft) : Type 0 where
   pub own : left.own.now ≡ []
   pub parts : left.parts.now ≡ []
 
--- a run of which `Is` holds, or an error of which `Why` holds, is handed over: the text before and after, the operators, the lists that the text has no more, and the status
-pub data IsRunHanded (Is : ShownRun → Type 0) (Why : RunError → Type 0) (before after : TextMade) (made : ObjectsMade) (left : PairsLeft) (status : ℕ) : Type 0 where
+-- a run of which `Is` holds, or an error of which `Why` holds, is handed over: the text before and after, the
+-- operators, the lists that the text has no more, and the status
+pub data IsRunHanded (Is : ShownRun → Type 0) (Why : RunError → Type 0) (before after : TextMade) (made : ObjectsMade)
+    (left : PairsLeft) (status : ℕ) : Type 0 where
   -- of the text these lists alone are other ones
-  shown : (s : ShownRun) → Is s → after ≡ record before { pairs = after.pairs; own = after.own; parts = after.parts } → lists_of after ≡ lists_shown s → made.bytes.now ≡ s.operators.items → made.offsets.now ≡ [] → AreLeft before left → status ≡ 0 → IsRunHanded Is Why before after made left status
-  refused : (e : RunError) → Why e → after ≡ before → IsNothing made → IsNoneLeft left → status ≡ run_status e → IsRunHanded Is Why before after made left status
+  shown : (s : ShownRun) → Is s → after ≡ record before { pairs = after.pairs; own = after.own; parts = after.parts }
+      → lists_of after ≡ lists_shown s → made.bytes.now ≡ s.operators.items → made.offsets.now ≡ []
+      → AreLeft before left → status ≡ 0
+      → IsRunHanded Is Why before after made left status
+  refused : (e : RunError) → Why e → after ≡ before → IsNothing made → IsNoneLeft left → status ≡ run_status e
+      → IsRunHanded Is Why before after made left status
 
 -- nothing is handed over, for the reason of a status
-pub record IsNoRunMade (why : ℕ) (before after : TextMade) (made : ObjectsMade) (left : PairsLeft) (status : ℕ) : Type 0 where
+pub record IsNoRunMade (why : ℕ) (before after : TextMade) (made : ObjectsMade) (left : PairsLeft) (status : ℕ)
+    : Type 0 where
   pub same : after ≡ before
   pub nothing : IsNothing made
   pub none_left : IsNoneLeft left
@@ -106,32 +115,39 @@ pub record IsNoRunMade (why : ℕ) (before after : TextMade) (made : ObjectsMade
 
 -- ---- a run of items
 
-pub record IsRunShownIn (t : TextMade) (items : List TextItem) (characters : List ℕ) (d o size : ℕ) (s : ShownRun) : Type 0 where
+pub record IsRunShownIn (t : TextMade) (items : List TextItem) (characters : List ℕ) (d o size : ℕ) (s : ShownRun)
+    : Type 0 where
   pub font : Font
   pub of_text : IsFontOf t font
   pub choice : Choice
   pub choice_is : IsChoiceOf t choice
-  pub is : IsOneShown font choice (run_direction d) (run_order o) size (lists_of t) (lists_shown s) (are_one characters items) (map (labelled_in characters) items) s.operators.items
+  pub is : IsOneShown font choice (run_direction d) (run_order o) size (lists_of t) (lists_shown s)
+      (are_one characters items) (map (labelled_in characters) items) s.operators.items
 
-pub record IsRunUnshownIn (t : TextMade) (items : List TextItem) (characters : List ℕ) (d o : ℕ) (e : RunError) : Type 0 where
+pub record IsRunUnshownIn (t : TextMade) (items : List TextItem) (characters : List ℕ) (d o : ℕ) (e : RunError)
+    : Type 0 where
   pub font : Font
   pub of_text : IsFontOf t font
   pub choice : Choice
   pub choice_is : IsChoiceOf t choice
-  pub why : AreUnshown font choice (run_direction d) (run_order o) (lists_of t) (are_one characters items) (map (labelled_in characters) items) e
+  pub why : AreUnshown font choice (run_direction d) (run_order o) (lists_of t)
+      (are_one characters items) (map (labelled_in characters) items) e
 
 -- ---- a run of glyphs with cluster numbers
 
-pub record IsTextShownIn (t : TextMade) (width : ℕ) (utf8 utf16 utf32 : List ℕ) (glyphs : List Shaped) (d o size : ℕ) (s : ShownRun) : Type 0 where
+pub record IsTextShownIn (t : TextMade) (width : ℕ) (utf8 utf16 utf32 : List ℕ) (glyphs : List Shaped) (d o size : ℕ)
+    (s : ShownRun) : Type 0 where
   pub font : Font
   pub of_text : IsFontOf t font
   pub choice : Choice
   pub choice_is : IsChoiceOf t choice
   pub units : Units
   pub units_are : AreUnits width utf8 utf16 utf32 units
-  pub is : IsTextShown font choice (run_direction d) (run_order o) size (lists_of t) (lists_shown s) units glyphs s.operators.items
+  pub is : IsTextShown font choice (run_direction d) (run_order o)
+      size (lists_of t) (lists_shown s) units glyphs s.operators.items
 
-pub record IsTextUnshownIn (t : TextMade) (width : ℕ) (utf8 utf16 utf32 : List ℕ) (glyphs : List Shaped) (d o : ℕ) (e : RunError) : Type 0 where
+pub record IsTextUnshownIn (t : TextMade) (width : ℕ) (utf8 utf16 utf32 : List ℕ) (glyphs : List Shaped) (d o : ℕ)
+    (e : RunError) : Type 0 where
   pub font : Font
   pub of_text : IsFontOf t font
   pub choice : Choice

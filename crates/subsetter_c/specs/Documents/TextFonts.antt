@@ -1,5 +1,6 @@
 -- How a text before its first run, and the font of one, are handed to C.
-use Rattle.std.specs.Prelude.{◌≡◌, ◌⊎◌, ◌<◌, ℕ, ◌==◌, ◌&&◌, Bool, true, false, if◌then◌else◌, List, [], length, Result, Ok, ℤ}
+use Rattle.std.specs.Prelude.{◌≡◌, ◌⊎◌, ◌<◌, ℕ, ◌==◌, ◌&&◌, Bool, true, false, if◌then◌else◌, List, [], length, Result}
+use Rattle.std.specs.Prelude.{Ok, ℤ}
 use Rattle.subsetter_base.specs.Bytes.{◌>>=◌}
 use Rattle.subsetter_base.specs.Gives.{Fails}
 use Rattle.subsetter_base.specs.declared.error.Error.{Error}
@@ -69,10 +70,18 @@ chosen_by true direction limits font settings = own_choice font settings limits.
 chosen_by false direction limits font settings = plain_by direction limits font settings
 
 abbrev pub kept_seen : TextKept → Chosen
-kept_seen k = record { lines = record { units = k.units; metrics = k.metrics.items; inked = k.inked.items }; advances = k.advances.items; can_be_part = k.partable.items; most_parts = k.most_parts; is_still = k.is_still }
+kept_seen k =
+    record {
+      lines = record { units = k.units; metrics = k.metrics.items; inked = k.inked.items };
+      advances = k.advances.items;
+      can_be_part = k.partable.items;
+      most_parts = k.most_parts;
+      is_still = k.is_still;
+    }
 
 -- the text of a font at coordinates, before its first run
-pub record IsTextOf (m : Chosen) (font : List ℕ) (index : ℕ) (coordinates : List Coordinate) (direction : Direction) (made : TextMade) : Type 0 where
+pub record IsTextOf (m : Chosen) (font : List ℕ) (index : ℕ) (coordinates : List Coordinate) (direction : Direction)
+    (made : TextMade) : Type 0 where
   pub size : made.size ≡ text_size
   pub units : made.units_per_em ≡ m.lines.units
   pub divides : 0 < made.units_per_em
@@ -109,20 +118,30 @@ pub record IsNoText (made : TextMade) : Type 0 where
   pub parts : made.parts.now ≡ []
 
 -- a text that keeps what `Is` holds of, or an error of which `Why` holds, is handed over
-pub data IsTextHanded (Is : TextKept → Type 0) (Why : Error → Type 0) (font : List ℕ) (index : ℕ) (direction : Direction) (made : TextMade) (status : ℕ) : Type 0 where
-  kept : (k : TextKept) → Is k → IsTextOf (kept_seen k) font index k.coordinates.items direction made → status ≡ 0 → IsTextHanded Is Why font index direction made status
-  unkept : (e : Error) → Why e → IsNoText made → status ≡ status_of e → IsTextHanded Is Why font index direction made status
+pub data IsTextHanded (Is : TextKept → Type 0) (Why : Error → Type 0) (font : List ℕ) (index : ℕ)
+    (direction : Direction) (made : TextMade) (status : ℕ) : Type 0 where
+  kept : (k : TextKept) → Is k → IsTextOf (kept_seen k) font index k.coordinates.items direction made → status ≡ 0
+      → IsTextHanded Is Why font index direction made status
+  unkept : (e : Error) → Why e → IsNoText made → status ≡ status_of e
+      → IsTextHanded Is Why font index direction made status
 
 -- it has what a reading of the font gives, or the error is the reading's, unless memory ran out
-pub data IsTextRead (reading : Result Chosen Error) (font : List ℕ) (index : ℕ) (coordinates : List Coordinate) (direction : Direction) (made : TextMade) (status : ℕ) : Type 0 where
-  text : (m : Chosen) → reading ≡ Ok m → IsTextOf m font index coordinates direction made → status ≡ 0 → IsTextRead reading font index coordinates direction made status
-  no_text : (e : Error) → Fails e reading → IsNoText made → status ≡ status_of e → IsTextRead reading font index coordinates direction made status
+pub data IsTextRead (reading : Result Chosen Error) (font : List ℕ) (index : ℕ) (coordinates : List Coordinate)
+    (direction : Direction) (made : TextMade) (status : ℕ) : Type 0 where
+  text : (m : Chosen) → reading ≡ Ok m → IsTextOf m font index coordinates direction made → status ≡ 0
+      → IsTextRead reading font index coordinates direction made status
+  no_text : (e : Error) → Fails e reading → IsNoText made → status ≡ status_of e
+      → IsTextRead reading font index coordinates direction made status
 
 -- a text is handed over, for options that the words choose
-pub record IsTextMade (font : List ℕ) (index : ℕ) (coordinates : List Coordinate) (words : List ℕ) (made : TextMade) (status : ℕ) : Type 0 where
+pub record IsTextMade (font : List ℕ) (index : ℕ) (coordinates : List Coordinate) (words : List ℕ) (made : TextMade)
+    (status : ℕ) : Type 0 where
   pub options : FontOptions
   pub chosen : AreFontOptionsChosen words options
-  pub handed : IsTextRead (chosen_by (makes_own words && is_horizontal options.direction) options.direction options.limits (font_at font index all_extras) (settings_of coordinates)) font index coordinates options.direction made status
+  pub handed : IsTextRead
+      (chosen_by (makes_own words && is_horizontal options.direction) options.direction
+      options.limits (font_at font index all_extras) (settings_of coordinates))
+      font index coordinates options.direction made status
 
 -- ---- the font of a text
 
@@ -137,25 +156,35 @@ count_of t = if length t.own.now == 0 then 65536 else length t.metrics.now
 pub record IsTextFontOf (t : TextMade) (options : FontOptions) (made : TextFont) : Type 0 where
   pub own : List OwnInk
   pub own_are : inks_of own ≡ inks_in t.own.now t.parts.now
-  pub is : IsTextFont (font_of t.font.now t.index options) (settings_of t.coordinates.now) options (count_of t) own (by_code (pairs_in t.pairs.now)) made
+  pub is : IsTextFont (font_of t.font.now t.index options) (settings_of t.coordinates.now)
+      options (count_of t) own (by_code (pairs_in t.pairs.now)) made
 
 -- the font or the codes have a fault
 pub record IsTextAtFault (t : TextMade) (options : FontOptions) (e : FontError) : Type 0 where
   pub own : List OwnInk
   pub own_are : inks_of own ≡ inks_in t.own.now t.parts.now
-  pub why : HasTextFault (font_of t.font.now t.index options) (settings_of t.coordinates.now) options (count_of t) own (by_code (pairs_in t.pairs.now)) e
+  pub why : HasTextFault (font_of t.font.now t.index options) (settings_of t.coordinates.now)
+      options (count_of t) own (by_code (pairs_in t.pairs.now)) e
 
--- memory ran out, there are more codes than a font can have, the own glyphs aren't such, or the font or the codes have a fault
+-- memory ran out, there are more codes than a font can have, the own glyphs aren't such, or the font or the codes have
+-- a fault
 abbrev pub HasNoTextFont : TextMade → FontOptions → FontError → Type 0
-HasNoTextFont t options e = (e ≡ Subset OutOfMemory) ⊎ (((e ≡ Subset OverflowError) × (65535 < length (pairs_in t.pairs.now))) ⊎ (((e ≡ TextTooLong) × (are_own t.own.now t.parts.now ≡ false)) ⊎ IsTextAtFault t options e))
+HasNoTextFont t options e =
+    (e ≡ Subset OutOfMemory)
+    ⊎ (((e ≡ Subset OverflowError) × (65535 < length (pairs_in t.pairs.now)))
+    ⊎ (((e ≡ TextTooLong) × (are_own t.own.now t.parts.now ≡ false)) ⊎ IsTextAtFault t options e))
 
 -- a font of which `Is` holds, or an error of which `Why` holds, is handed over: it has no entries
-pub data IsTextFontHandedBy (Is : TextFont → Type 0) (Why : FontError → Type 0) (made : FontMade) (status : ℕ) : Type 0 where
-  whole_font : (t : TextFont) → Is t → IsWholeLaidOut t.font [] [] [] (bytes_of t.cid_to_gid_map) made → status ≡ 0 → IsTextFontHandedBy Is Why made status
-  no_font : (e : FontError) → Why e → IsWholeEmpty made → status ≡ refusal_status e → IsTextFontHandedBy Is Why made status
+pub data IsTextFontHandedBy (Is : TextFont → Type 0) (Why : FontError → Type 0) (made : FontMade) (status : ℕ)
+    : Type 0 where
+  whole_font : (t : TextFont) → Is t → IsWholeLaidOut t.font [] [] [] (bytes_of t.cid_to_gid_map) made → status ≡ 0
+      → IsTextFontHandedBy Is Why made status
+  no_font : (e : FontError) → Why e → IsWholeEmpty made → status ≡ refusal_status e
+      → IsTextFontHandedBy Is Why made status
 
 -- the font of a text is handed over, for options that the words choose
 pub record IsTextFontMade (t : TextMade) (words : List ℕ) (made : FontMade) (status : ℕ) : Type 0 where
   pub options : FontOptions
   pub chosen : AreFontOptionsChosen words options
-  pub handed : IsTextFontHandedBy (IsTextFontOf t (directed t options)) (HasNoTextFont t (directed t options)) made status
+  pub handed :
+      IsTextFontHandedBy (IsTextFontOf t (directed t options)) (HasNoTextFont t (directed t options)) made status

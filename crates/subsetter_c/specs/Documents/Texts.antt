@@ -23,13 +23,21 @@ pub record AreLookedUp (bytes : List ℕ) (index : ℕ) (text glyphs characters 
   pub ends_are : ends ≡ one_each 0 (length characters)
 
 -- a font for these, or the reason why there is none; or the reason why there are no glyphs
-pub data IsTextHandedBy (bytes : List ℕ) (index : ℕ) (settings : List (Tag × ℤ)) (text : List ℕ) (options : FontOptions) (made : FontMade) (status : ℕ) : Type 0 where
-  looked_up : (glyphs characters ends : List ℕ) → AreLookedUp bytes index text glyphs characters ends → IsWholeHandedBy (IsPdfFont (font_of bytes index options) settings options (uses_in glyphs characters ends)) (IsFontRefused (font_of bytes index options) settings options (uses_in glyphs characters ends)) glyphs characters ends made status → IsTextHandedBy bytes index settings text options made status
-  unmapped : HasNoCmap (font_at bytes index all_extras) → IsWholeEmpty made → status ≡ no_cmap → IsTextHandedBy bytes index settings text options made status
-  no_glyphs : (e : Error) → IsGlyphRefusal (font_at bytes index all_extras) e → IsWholeEmpty made → status ≡ status_of e → IsTextHandedBy bytes index settings text options made status
+pub data IsTextHandedBy (bytes : List ℕ) (index : ℕ) (settings : List (Tag × ℤ)) (text : List ℕ) (options : FontOptions)
+    (made : FontMade) (status : ℕ) : Type 0 where
+  looked_up : (glyphs characters ends : List ℕ) → AreLookedUp bytes index text glyphs characters ends
+      → IsWholeHandedBy (IsPdfFont (font_of bytes index options) settings options (uses_in glyphs characters ends))
+      (IsFontRefused (font_of bytes index options) settings options (uses_in glyphs characters ends)) glyphs
+      characters ends made status
+      → IsTextHandedBy bytes index settings text options made status
+  unmapped : HasNoCmap (font_at bytes index all_extras) → IsWholeEmpty made → status ≡ no_cmap
+      → IsTextHandedBy bytes index settings text options made status
+  no_glyphs : (e : Error) → IsGlyphRefusal (font_at bytes index all_extras) e → IsWholeEmpty made → status ≡ status_of e
+      → IsTextHandedBy bytes index settings text options made status
 
 -- the same for options that the words choose
-pub record IsTextMade (bytes : List ℕ) (index : ℕ) (settings : List (Tag × ℤ)) (text words : List ℕ) (made : FontMade) (status : ℕ) : Type 0 where
+pub record IsTextMade (bytes : List ℕ) (index : ℕ) (settings : List (Tag × ℤ)) (text words : List ℕ) (made : FontMade)
+    (status : ℕ) : Type 0 where
   pub options : FontOptions
   pub chosen : AreFontOptionsChosen words options
   pub handed : IsTextHandedBy bytes index settings text options made status

@@ -45,15 +45,21 @@ pub record IsWholeEmpty (made : FontMade) : Type 0 where
   pub cid_to_gid_map : made.cid_to_gid_map.now ≡ []
 
 -- a font of glyphs with their texts is handed over, or an error
-pub data IsWholeHandedBy (Is : PdfFont → Type 0) (Why : FontError → Type 0) (glyphs text ends : List ℕ) (made : FontMade) (status : ℕ) : Type 0 where
-  whole : (f : PdfFont) → Is f → IsWholeLaidOut f glyphs text ends [] made → status ≡ 0 → IsWholeHandedBy Is Why glyphs text ends made status
-  refused : (e : FontError) → Why e → IsWholeEmpty made → status ≡ refusal_status e → IsWholeHandedBy Is Why glyphs text ends made status
+pub data IsWholeHandedBy (Is : PdfFont → Type 0) (Why : FontError → Type 0) (glyphs text ends : List ℕ)
+    (made : FontMade) (status : ℕ) : Type 0 where
+  whole : (f : PdfFont) → Is f → IsWholeLaidOut f glyphs text ends [] made → status ≡ 0
+      → IsWholeHandedBy Is Why glyphs text ends made status
+  refused : (e : FontError) → Why e → IsWholeEmpty made → status ≡ refusal_status e
+      → IsWholeHandedBy Is Why glyphs text ends made status
 
 -- what a PDF has of a font is handed over, for options that the words choose
-pub record IsWholeMade (bytes : List ℕ) (index : ℕ) (settings : List (Tag × ℤ)) (glyphs text ends words : List ℕ) (made : FontMade) (status : ℕ) : Type 0 where
+pub record IsWholeMade (bytes : List ℕ) (index : ℕ) (settings : List (Tag × ℤ)) (glyphs text ends words : List ℕ)
+    (made : FontMade) (status : ℕ) : Type 0 where
   pub options : FontOptions
   pub chosen : AreFontOptionsChosen words options
-  pub handed : IsWholeHandedBy (IsPdfFont (font_of bytes index options) settings options (uses_in glyphs text ends)) (IsFontRefused (font_of bytes index options) settings options (uses_in glyphs text ends)) glyphs text ends made status
+  pub handed : IsWholeHandedBy (IsPdfFont (font_of bytes index options) settings options (uses_in glyphs text ends))
+      (IsFontRefused (font_of bytes index options) settings options (uses_in glyphs text ends)) glyphs text ends
+      made status
 
 -- no font is handed over, for the reason of a status
 pub record IsNoWholeMade (why : ℕ) (made : FontMade) (status : ℕ) : Type 0 where

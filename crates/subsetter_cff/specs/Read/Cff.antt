@@ -1,6 +1,7 @@
--- The parts of a CFF table (Technical Note 5176, section 2 "Data Layout"): header, Name INDEX, Top DICT INDEX, String INDEX,
--- Global Subr INDEX, one after the other; the rest is found by offsets from the table's start.
-use Rattle.std.specs.Prelude.{ℕ, ◌-◌, ◌==◌, if◌then◌else◌, Bool, List, ◌∷◌, take, drop, length, is_some, Option, Some, None}
+-- The parts of a CFF table (Technical Note 5176, section 2 "Data Layout"): header, Name INDEX, Top DICT INDEX, String
+-- INDEX, Global Subr INDEX, one after the other; the rest is found by offsets from the table's start.
+use Rattle.std.specs.Prelude.{ℕ, ◌-◌, ◌==◌, if◌then◌else◌, Bool, List, ◌∷◌, take, drop, length, is_some, Option, Some}
+use Rattle.std.specs.Prelude.{None}
 use Rattle.std.specs.Option.{option_map}
 use Rattle.subsetter_base.specs.Options.{◌>>=◌}
 use Rattle.subsetter_cffdata.specs.Indexes.Index.{index_at}
@@ -12,7 +13,7 @@ use Rattle.subsetter_cff.specs.Read.Entries.Operators.{registry_operator, char_s
 use Rattle.subsetter_base.specs.Bytes.{first_number}
 
 -- ---- in the order of the bytes
--- what stands after the header, whose third byte says how long it is (section 6 "Header")
+-- what is after the header, whose third byte says how long it is (section 6 "Header")
 unfoldable pub past_header : List ℕ → Option (List ℕ)
 past_header (major ∷ minor ∷ size ∷ bytes) = Some (drop size (major ∷ minor ∷ size ∷ bytes))
 past_header _ = None
@@ -41,7 +42,7 @@ top_dict bytes = top_index bytes >>= λ tops. option_map entries (entry_at tops.
 abbrev pub before : List ℕ → List ℕ → List ℕ
 before bytes left = take (length bytes - length left) bytes
 
--- the bytes of the Name INDEX, as they stand
+-- the bytes of the Name INDEX, as they are
 unfoldable pub name_bytes : List ℕ → Option (List ℕ)
 name_bytes bytes = past_header bytes >>= λ start. name_index bytes >>= λ names. Some (before start names.1)
 
@@ -49,7 +50,7 @@ name_bytes bytes = past_header bytes >>= λ start. name_index bytes >>= λ names
 pub record Cff : Type 0 where
   -- the whole table
   pub bytes : List ℕ
-  -- the Name INDEX as it stands
+  -- the Name INDEX as it is
   pub names : List ℕ
   pub top : List Entry
   pub strings : List (Option (List ℕ))
@@ -62,7 +63,9 @@ cff_parts bytes = do
   top ← top_dict bytes
   strings ← string_index bytes
   subroutines ← subroutine_index bytes
-  if version == 1 then Some (record { bytes = bytes; names = names; top = top; strings = strings.0; subroutines = subroutines.0 }) else None
+  if version == 1
+      then Some (record { bytes = bytes; names = names; top = top; strings = strings.0; subroutines = subroutines.0 })
+      else None
 
 -- ---- what the top dict leads to
 -- the bytes from the offset on that an operator of the top dict names

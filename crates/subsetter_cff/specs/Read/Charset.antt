@@ -6,7 +6,8 @@ use Rattle.subsetter_base.specs.Bytes.{byte}
 use Rattle.subsetter_cff.specs.Read.Cff.{Cff, at_offset}
 use Rattle.subsetter_cff.specs.Read.Entries.Operators.{charset_operator}
 
--- Ranges, a first CID and how many glyphs follow its own: where the glyph lies in them. Each covers a glyph, so glyph + 1 steps are enough.
+-- Ranges, a first CID and how many glyphs follow its own: where the glyph lies in them. Each covers a glyph, so glyph +
+-- 1 steps are enough.
 unfoldable pub in_ranges : ℕ → ℕ → List ℕ → Option ℕ
 in_ranges zero glyph bytes = None
 in_ranges (suc steps) glyph bytes = do

@@ -9,7 +9,8 @@ use Rattle.subsetter_cff.specs.Read.FdArray.Private.{Private, private_of}
 abbrev pub library : Cff → Private → Library
 library cff private = record { global = cff.subroutines; local = private.subroutines }
 
--- the trace of a glyph's charstring, with so many tokens at most and no deeper than the depth, where the charstring itself is at 1
+-- the trace of a glyph's charstring, with at most `tokens` tokens and no deeper than the depth, where the charstring
+-- itself is at 1
 unfoldable pub glyph_trace : Cff → ℕ → ℕ → ℕ → Option Trace
 glyph_trace cff tokens depth glyph = do
   bytes ← char_string cff glyph

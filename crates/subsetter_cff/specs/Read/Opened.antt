@@ -1,6 +1,7 @@
--- A CFF table that can be taken as a source, or the error that is answered. A demanded operator has just its operands
--- (Technical Note 5176, section 9 "Top DICT Data" and section 18 "CID-keyed Fonts").
-use Rattle.std.specs.Prelude.{ℕ, ◌==◌, ◌&&◌, nat_lt, if◌then◌else◌, Bool, true, List, [], ◌∷◌, length, is_some, Some, Result, Ok, Err}
+-- A CFF table that can be taken as a source, or the error. A demanded operator has just its operands (Technical Note
+-- 5176, section 9 "Top DICT Data" and section 18 "CID-keyed Fonts").
+use Rattle.std.specs.Prelude.{ℕ, ◌==◌, ◌&&◌, nat_lt, if◌then◌else◌, Bool, true, List, [], ◌∷◌, length, is_some, Some}
+use Rattle.std.specs.Prelude.{Result, Ok, Err}
 use Rattle.std.specs.Option.{ok_or}
 use Rattle.std.specs.Str.{bytes_eq}
 use Rattle.subsetter_base.specs.Bytes.{◌>>=◌, first_number}
@@ -52,8 +53,10 @@ unfoldable pub opened_parts : List ℕ → Result Cff Error
 opened_parts bytes = do
   cff ← ok_or (cff_parts bytes) MalformedFont
   charstrings ← ok_or (char_strings cff) MalformedFont
-  check (all_meet top_demands cff.top && nat_lt 0 (length charstrings)) MalformedFont (if is_cid_keyed cff then opened_cid cff else Ok cff)
+  check (all_meet top_demands cff.top && nat_lt 0 (length charstrings))
+      MalformedFont (if is_cid_keyed cff then opened_cid cff else Ok cff)
 
 -- a first byte that isn't 1 is another version; none at all is a bad font
 unfoldable pub opened : List ℕ → Result Cff Error
-opened bytes = ok_or (first_number bytes) MalformedFont >>= λ version. check (version == 1) CFFError (opened_parts bytes)
+opened bytes =
+    ok_or (first_number bytes) MalformedFont >>= λ version. check (version == 1) CFFError (opened_parts bytes)

@@ -17,9 +17,11 @@ pub data FontString : Type 0 where
 abbrev pub standard_strings : ℕ
 standard_strings = 391
 
--- numbers below 391 are standard strings, the others entries of the String INDEX; none where that entry is missing or unreadable
+-- numbers below 391 are standard strings, the others entries of the String INDEX; none where that entry is missing or
+-- unreadable
 unfoldable pub string_of : List (Option (List ℕ)) → ℕ → Option FontString
-string_of strings s = if nat_lt s standard_strings then Some (Standard s) else option_map Custom (entry_at strings (s - standard_strings))
+string_of strings s =
+    if nat_lt s standard_strings then Some (Standard s) else option_map Custom (entry_at strings (s - standard_strings))
 
 abbrev pub string_by : List (Option (List ℕ)) → Option (List Number) → Option (Option FontString)
 string_by strings None = Some None

@@ -26,17 +26,23 @@ pub record AreAll (n : ℕ) (all : List ℕ) : Type 0 where
 -- ---- read afresh, of any font, without any layout
 -- a subset of a subset is a subset of the first font
 abbrev pub IsComposed : Type 0
-IsComposed = (font copy again : Cff) (tokens depth : ℕ) (first second : List ℕ) → IsCffSubset font tokens depth first copy → IsCffSubset copy tokens depth second again
+IsComposed =
+    (font copy again : Cff) (tokens depth : ℕ) (first second : List ℕ) → IsCffSubset font tokens depth first copy
+    → IsCffSubset copy tokens depth second again
     → AreGlyphs first second × IsCffSubset font tokens depth (composed first second) again
 
 -- the same of the bytes of three tables
 abbrev pub TablesCompose : Type 0
-TablesCompose = (bytes out again : List ℕ) (tokens depth : ℕ) (first second : List ℕ) → IsSubsetTable bytes tokens depth first out → IsSubsetTable out tokens depth second again
+TablesCompose =
+    (bytes out again : List ℕ) (tokens depth : ℕ) (first second : List ℕ) → IsSubsetTable bytes tokens depth first out
+    → IsSubsetTable out tokens depth second again
     → AreGlyphs first second × IsSubsetTable bytes tokens depth (composed first second) again
 
 -- a subset of all glyphs in order has the same charstrings
 abbrev pub KeepsAllCharStrings : Type 0
-KeepsAllCharStrings = (font copy again : Cff) (tokens depth : ℕ) (first all : List ℕ) → IsCffSubset font tokens depth first copy → AreAll (length first) all → IsCffSubset copy tokens depth all again
+KeepsAllCharStrings =
+    (font copy again : Cff) (tokens depth : ℕ) (first all : List ℕ) → IsCffSubset font tokens depth first copy
+    → AreAll (length first) all → IsCffSubset copy tokens depth all again
     → char_strings again ≡ char_strings copy
 
 -- both tables can be read, and have the same charstrings
@@ -49,10 +55,12 @@ pub record HaveSameCharStrings (a b : List ℕ) : Type 0 where
 
 -- the same of the bytes of three tables
 abbrev pub TablesKeepAllCharStrings : Type 0
-TablesKeepAllCharStrings = (bytes out again : List ℕ) (tokens depth : ℕ) (first all : List ℕ) → IsSubsetTable bytes tokens depth first out → AreAll (length first) all → IsSubsetTable out tokens depth all again
+TablesKeepAllCharStrings =
+    (bytes out again : List ℕ) (tokens depth : ℕ) (first all : List ℕ) → IsSubsetTable bytes tokens depth first out
+    → AreAll (length first) all → IsSubsetTable out tokens depth all again
     → HaveSameCharStrings out again
 
--- ---- the table that is answered, of a CID-keyed font
+-- ---- the table that is returned, of a CID-keyed font
 -- 1 to 65535 glyphs, and a depth of 1 or more
 pub record IsRequested (depth : ℕ) (glyphs : List ℕ) : Type 0 where
   pub deep : 1 ≤ depth
@@ -61,31 +69,45 @@ pub record IsRequested (depth : ℕ) (glyphs : List ℕ) : Type 0 where
 
 -- the subset of the subset is that of the first font, byte for byte, and is refused where that is, by the same error
 abbrev pub IsSameTable : Type 0
-IsSameTable = (bytes : List ℕ) (cff : Cff) (tokens depth : ℕ) (first second out : List ℕ) → IsRequested depth first → cff_parts bytes ≡ Some cff → is_cid_keyed cff ≡ true
-    → cff_subset bytes tokens depth first ≡ Ok out → AreGlyphs first second → cff_subset out tokens depth second ≡ cff_subset bytes tokens depth (composed first second)
+IsSameTable =
+    (bytes : List ℕ) (cff : Cff) (tokens depth : ℕ) (first second out : List ℕ) → IsRequested depth first
+    → cff_parts bytes ≡ Some cff → is_cid_keyed cff ≡ true
+    → cff_subset bytes tokens depth first ≡ Ok out → AreGlyphs first second
+    → cff_subset out tokens depth second ≡ cff_subset bytes tokens depth (composed first second)
 
 -- all glyphs in order give the table back: none is refused, and no byte is another
 abbrev pub IsGivenBack : Type 0
-IsGivenBack = (bytes : List ℕ) (cff : Cff) (tokens depth : ℕ) (first all out : List ℕ) → IsRequested depth first → cff_parts bytes ≡ Some cff → is_cid_keyed cff ≡ true
-    → cff_subset bytes tokens depth first ≡ Ok out → AreAll (length first) all → cff_subset out tokens depth all ≡ Ok out
+IsGivenBack =
+    (bytes : List ℕ) (cff : Cff) (tokens depth : ℕ) (first all out : List ℕ) → IsRequested depth first
+    → cff_parts bytes ≡ Some cff → is_cid_keyed cff ≡ true
+    → cff_subset bytes tokens depth first ≡ Ok out → AreAll (length first) all
+    → cff_subset out tokens depth all ≡ Ok out
 
--- no fault stands in the table, for all its glyphs
+-- the table has no fault, for all its glyphs
 abbrev pub HasNoFaultAgain : Type 0
-HasNoFaultAgain = (bytes : List ℕ) (cff : Cff) (tokens depth : ℕ) (first all out : List ℕ) (e : Error) → IsRequested depth first → cff_parts bytes ≡ Some cff → is_cid_keyed cff ≡ true
+HasNoFaultAgain =
+    (bytes : List ℕ) (cff : Cff) (tokens depth : ℕ) (first all out : List ℕ) (e : Error) → IsRequested depth first
+    → cff_parts bytes ≡ Some cff → is_cid_keyed cff ≡ true
     → cff_subset bytes tokens depth first ≡ Ok out → AreAll (length first) all → HasCffFault out tokens depth all e → ⊥
 
 -- ---- of any font, so also of one that isn't CID-keyed
--- what is answered for all glyphs of a subset is given back from then on
+-- what is returned for all glyphs of a subset is given back from then on
 abbrev pub StaysFromThenOn : Type 0
 StaysFromThenOn = (bytes : List ℕ) (tokens depth : ℕ) (first all out again : List ℕ) → IsRequested depth first
-    → cff_subset bytes tokens depth first ≡ Ok out → AreAll (length first) all → cff_subset out tokens depth all ≡ Ok again → cff_subset again tokens depth all ≡ Ok again
+    → cff_subset bytes tokens depth first ≡ Ok out → AreAll (length first) all
+    → cff_subset out tokens depth all ≡ Ok again
+    → cff_subset again tokens depth all ≡ Ok again
 
--- what is answered for all glyphs of a subset has its charstrings, and is given back from then on
+-- what is returned for all glyphs of a subset has its charstrings, and is given back from then on
 abbrev pub AnsweredAgain : Type 0
 AnsweredAgain = (bytes : List ℕ) (tokens depth : ℕ) (first all out again : List ℕ) → IsRequested depth first
-    → cff_subset bytes tokens depth first ≡ Ok out → AreAll (length first) all → cff_subset out tokens depth all ≡ Ok again
+    → cff_subset bytes tokens depth first ≡ Ok out → AreAll (length first) all
+    → cff_subset out tokens depth all ≡ Ok again
     → HaveSameCharStrings out again × (cff_subset again tokens depth all ≡ Ok again)
 
 -- a glyph that a subset hasn't is a fault in it
 abbrev pub UnknownIsFault : Type 0
-UnknownIsFault = (font copy : Cff) (tokens depth glyph : ℕ) (glyphs : List ℕ) → IsCffSubset font tokens depth glyphs copy → length glyphs ≤ glyph → HasGlyphFault copy tokens depth glyph MalformedFont
+UnknownIsFault =
+    (font copy : Cff) (tokens depth glyph : ℕ) (glyphs : List ℕ) → IsCffSubset font tokens depth glyphs copy
+    → length glyphs ≤ glyph
+    → HasGlyphFault copy tokens depth glyph MalformedFont

@@ -7,16 +7,18 @@ use Rattle.subsetter_cff.specs.Read.Entries.Lookup.{last_of}
 use Rattle.subsetter_cff.specs.Read.Strings.{string_at}
 use Rattle.subsetter_cff.specs.Read.Cff.{Cff, cff_parts, char_string}
 use Rattle.subsetter_cff.specs.Read.FdArray.Private.{Private, private_of, own_entries}
-use Rattle.subsetter_cff.specs.Read.Entries.Matrices.{thousandth_matrix, unit_matrix, zero_box, font_dict_name, own_matrix}
+use Rattle.subsetter_cff.specs.Read.Entries.Matrices.{thousandth_matrix, unit_matrix, zero_box, font_dict_name}
+use Rattle.subsetter_cff.specs.Read.Entries.Matrices.{own_matrix}
 use Rattle.subsetter_cff.specs.Read.GlyphTrace.{library}
-use Rattle.subsetter_cff.specs.Read.Entries.Operators.{copyright_operator, notice_operator, font_name_operator, font_box_operator, font_matrix_operator}
+use Rattle.subsetter_cff.specs.Read.Entries.Operators.{copyright_operator, notice_operator, font_name_operator}
+use Rattle.subsetter_cff.specs.Read.Entries.Operators.{font_box_operator, font_matrix_operator}
 use Rattle.subsetter_cff.specs.Write.Laying.Layout.{Parts, FontDict, cff_table}
 use Rattle.subsetter_cff.specs.Write.Laying.Fits.{Fits}
 use Rattle.subsetter_cff.specs.Write.Subset.{IsCffSubset}
 use Rattle.subsetter_cff.specs.Write.Laying.ReadsAs.{font_dict_in}
 
--- the matrix that is written for a font dict: its own, or 1 0 0 1 0 0; where the font has none, its own with the first four numbers
--- a thousand times as great (section 9 "Top DICT Data" and section 18 "CID-keyed Fonts")
+-- the matrix that is written for a font dict: its own, or 1 0 0 1 0 0; where the font has none, its own with the first
+-- four numbers a thousand times as great (section 9 "Top DICT Data" and section 18 "CID-keyed Fonts")
 abbrev pub new_matrix : Option (List Number) → Option (List Number) → Option (List Number)
 new_matrix top None = Some unit_matrix
 new_matrix (Some top) (Some own) = Some own
@@ -51,5 +53,7 @@ pub record IsMade (source : Cff) (tokens depth : ℕ) (glyphs : List ℕ) (p : P
 
 -- Where the parts are made of a source, the table that is laid out for them, read afresh, is a subset of it.
 abbrev pub MadeIsSubset : Type 0
-MadeIsSubset = (source : Cff) (tokens depth : ℕ) (glyphs : List ℕ) (p : Parts) → 1 ≤ depth → IsMade source tokens depth glyphs p → Fits p
+MadeIsSubset =
+    (source : Cff) (tokens depth : ℕ) (glyphs : List ℕ) (p : Parts) → 1 ≤ depth → IsMade source tokens depth glyphs p
+    → Fits p
     → (out : Cff) × ((cff_parts (cff_table p) ≡ Some out) × IsCffSubset source tokens depth glyphs out)

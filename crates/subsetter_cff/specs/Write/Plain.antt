@@ -1,6 +1,7 @@
--- The plain way to subset a CFF table (Technical Note 5176): the parts of the new one, with the error that is answered where they
--- can't be made.
-use Rattle.std.specs.Prelude.{ℕ, ◌+◌, ◌^◌, ◌==◌, nat_lt, if◌then◌else◌, true, false, List, [], ◌∷◌, length, map, slice_get, unwrap_or, Option, Some, None, Result, Ok}
+-- The plain way to subset a CFF table (Technical Note 5176): the parts of the new one, with the error that is returned
+-- where they can't be made.
+use Rattle.std.specs.Prelude.{ℕ, ◌+◌, ◌^◌, ◌==◌, nat_lt, if◌then◌else◌, true, false, List, [], ◌∷◌, length, map}
+use Rattle.std.specs.Prelude.{slice_get, unwrap_or, Option, Some, None, Result, Ok}
 use Rattle.std.specs.List.{concat}
 use Rattle.std.specs.Option.{ok_or, option_and_then}
 use Rattle.subsetter_base.specs.Bytes.{◌>>=◌}
@@ -17,8 +18,10 @@ use Rattle.subsetter_cff.specs.Read.FdArray.FontDicts.{font_dicts, font_dict_num
 use Rattle.subsetter_cff.specs.Read.FdArray.Private.{Private, no_private, own_entries, private_at, private_of}
 use Rattle.subsetter_cff.specs.Read.Entries.Matrices.{thousandth_matrix, zero_box}
 use Rattle.subsetter_cff.specs.Read.GlyphTrace.{library}
-use Rattle.subsetter_cff.specs.Read.Entries.Operators.{copyright_operator, notice_operator, font_name_operator, font_box_operator, font_matrix_operator}
-use Rattle.subsetter_cff.specs.Write.Laying.Layout.{FontDict, Select, First, Numbers, Parts, char_strings_offset, cff_table}
+use Rattle.subsetter_cff.specs.Read.Entries.Operators.{copyright_operator, notice_operator, font_name_operator}
+use Rattle.subsetter_cff.specs.Read.Entries.Operators.{font_box_operator, font_matrix_operator}
+use Rattle.subsetter_cff.specs.Write.Laying.Layout.{FontDict, Select, First, Numbers, Parts, char_strings_offset}
+use Rattle.subsetter_cff.specs.Write.Laying.Layout.{cff_table}
 use Rattle.subsetter_cff.specs.Write.Made.{new_matrix}
 use Rattle.subsetter_cff.specs.Read.Opened.{check, opened}
 use Rattle.subsetter_cff.specs.Write.NewDicts.WrittenNumbers.{any_long, written_numbers}
@@ -67,12 +70,18 @@ pub record SourceDict : Type 0 where
 
 abbrev pub as_source_dict : Cff → List Entry → Option SourceDict
 as_source_dict cff dict =
-    option_and_then (λ private. Some (record { own = last_of font_matrix_operator dict; private = private; name = string_at cff.strings font_name_operator dict })) (private_at cff.bytes dict)
+    option_and_then (λ private. Some (record {
+      own = last_of font_matrix_operator dict;
+      private = private;
+      name = string_at cff.strings font_name_operator dict;
+    }))
+    (private_at cff.bytes dict)
 
 -- the font dict of a number; a font without font dicts has one, with the private dict of the top dict
 abbrev pub source_dict : Cff → ℕ → Option SourceDict
 source_dict cff number =
-    if is_cid_keyed cff then option_and_then (as_source_dict cff) (option_and_then (λ dicts. slice_get dicts number) (font_dicts cff))
+    if is_cid_keyed cff
+    then option_and_then (as_source_dict cff) (option_and_then (λ dicts. slice_get dicts number) (font_dicts cff))
     else Some (record { own = None; private = unwrap_or (private_at cff.bytes cff.top) no_private; name = Some None })
 
 -- the new font dict that is made of it, without the entries that lead to subroutines
@@ -92,10 +101,13 @@ new_font_dicts cff (n ∷ ns) = do
 
 -- the new number of each glyph's font dict is its place among the used ones
 abbrev pub new_select : Cff → List ℕ → List KeptGlyph → Select
-new_select cff used kept = if is_cid_keyed cff then Numbers (map (λ (k : KeptGlyph). unwrap_or (index_of used k.number) 0) kept) else First
+new_select cff used kept =
+    if is_cid_keyed cff then Numbers (map (λ (k : KeptGlyph). unwrap_or (index_of used k.number) 0) kept) else First
 
 -- ---- the parts
-abbrev pub all_parts : Cff → Option FontString → Option FontString → Option FontString → List FontDict → Select → List (List ℕ) → Parts
+abbrev pub all_parts : Cff → Option FontString → Option FontString → Option FontString → List FontDict → Select
+    → List (List ℕ)
+    → Parts
 all_parts cff copyright notice font_name dicts select char_strings = record {
   names = cff.names;
   copyright = copyright;
@@ -108,8 +120,11 @@ all_parts cff copyright notice font_name dicts select char_strings = record {
   char_strings = char_strings;
 }
 
-abbrev pub new_parts : Cff → Option FontString → Option FontString → Option FontString → List FontDict → Select → List KeptGlyph → Parts
-new_parts cff copyright notice font_name dicts select kept = all_parts cff copyright notice font_name dicts select (map (λ (k : KeptGlyph). k.bytes) kept)
+abbrev pub new_parts : Cff → Option FontString → Option FontString → Option FontString → List FontDict → Select
+    → List KeptGlyph
+    → Parts
+new_parts cff copyright notice font_name dicts select kept =
+    all_parts cff copyright notice font_name dicts select (map (λ (k : KeptGlyph). k.bytes) kept)
 
 -- the strings of the top dict, then the font dicts
 unfoldable pub parts_for : Cff → List KeptGlyph → Result Parts Error

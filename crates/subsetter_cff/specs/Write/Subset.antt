@@ -9,7 +9,8 @@ use Rattle.subsetter_cff.specs.Read.FdArray.Keying.{keying}
 use Rattle.subsetter_cff.specs.Read.FdArray.Private.{Private, private_of, private_entries}
 use Rattle.subsetter_cff.specs.Read.Entries.Matrices.{matrices, stated_matrices, font_dict_name, zero_box}
 use Rattle.subsetter_cff.specs.Read.GlyphTrace.{glyph_trace}
-use Rattle.subsetter_cff.specs.Read.Entries.Operators.{copyright_operator, notice_operator, font_name_operator, font_box_operator, subroutines_operator}
+use Rattle.subsetter_cff.specs.Read.Entries.Operators.{copyright_operator, notice_operator, font_name_operator}
+use Rattle.subsetter_cff.specs.Read.Entries.Operators.{font_box_operator, subroutines_operator}
 use Rattle.subsetter_cff.specs.Write.Laying.ReadsAs.{adobe_identity}
 
 -- both are there, and equal
@@ -29,7 +30,8 @@ pub record KeepsGlyph (source out : Cff) (tokens depth old new : ℕ) : Type 0 w
   pub private_dict : Private
   pub private_dict_is : private_of out new ≡ Some private_dict
   pub no_subroutines : first_of subroutines_operator private_dict.entries ≡ None
-  -- both matrices stand in the new table: a source without one in its top dict gives 0.001 0 0 0.001 0 0 and a font dict's own, scaled
+  -- both matrices are in the new table: a source without one in its top dict gives 0.001 0 0 0.001 0 0 and a font
+  -- dict's own, scaled
   pub matrices_kept : Keeps (matrices source old) (stated_matrices out new)
   pub font_dict_name_kept : Keeps (font_dict_name source old) (font_dict_name out new)
 
@@ -44,7 +46,10 @@ pub record IsCffSubset (source : Cff) (tokens depth : ℕ) (glyphs : List ℕ) (
   pub no_subroutines : out.subroutines ≡ []
   -- names, notices and box
   pub names : out.names ≡ source.names
-  pub copyright : Keeps (string_at source.strings copyright_operator source.top) (string_at out.strings copyright_operator out.top)
-  pub notice : Keeps (string_at source.strings notice_operator source.top) (string_at out.strings notice_operator out.top)
-  pub font_name : Keeps (string_at source.strings font_name_operator source.top) (string_at out.strings font_name_operator out.top)
+  pub copyright :
+      Keeps (string_at source.strings copyright_operator source.top) (string_at out.strings copyright_operator out.top)
+  pub notice :
+      Keeps (string_at source.strings notice_operator source.top) (string_at out.strings notice_operator out.top)
+  pub font_name :
+      Keeps (string_at source.strings font_name_operator source.top) (string_at out.strings font_name_operator out.top)
   pub box : last_of font_box_operator out.top ≡ Some (unwrap_or (last_of font_box_operator source.top) zero_box)

@@ -1,6 +1,7 @@
--- The numbers of a DICT in parts of 2^30, which not all of them have, and what a blend makes of them (OpenType, "CFF2": "Private DICT
--- Data", the operator blend).
-use Rattle.std.specs.Prelude.{ℕ, ◌+◌, ◌-◌, ◌*◌, ℤ, pos, negsuc, ◌+ℤ◌, ◌-ℤ◌, nat_le, nat_lt, if◌then◌else◌, List, [], ◌∷◌, ◌++◌, length, take, drop, map, slice_index_or, Option, Some, None}
+-- The numbers of a DICT in parts of 2^30, which not all of them have, and what a blend makes of them (OpenType, "CFF2":
+-- "Private DICT Data", the operator blend).
+use Rattle.std.specs.Prelude.{ℕ, ◌+◌, ◌-◌, ◌*◌, ℤ, pos, negsuc, ◌+ℤ◌, ◌-ℤ◌, nat_le, nat_lt, if◌then◌else◌, List, []}
+use Rattle.std.specs.Prelude.{◌∷◌, ◌++◌, length, take, drop, map, slice_index_or, Option, Some, None}
 use Rattle.std.specs.List.{range_with_len}
 use Rattle.std.specs.Option.{option_map}
 use Rattle.subsetter_cffdata.specs.Numerals.Numbers.{Number, Integer, Real, Fixed}
@@ -34,16 +35,18 @@ abbrev pub held : Option ℤ → Option ℤ
 held None = None
 held (Some z) = if is_within z then Some z else None
 
--- the result numbered i: after all defaults stand the deltas of the first one, then those of the second one, and so on
+-- the result numbered i: after all defaults come the deltas of the first one, then those of the second one, and so on
 unfoldable pub result_at : List ℤ → List (Option ℤ) → List (Option ℤ) → ℕ → Option ℤ
-result_at scalars defaults deltas i = held (varied (slice_index_or defaults i None) scalars (drop (i * length scalars) deltas))
+result_at scalars defaults deltas i =
+    held (varied (slice_index_or defaults i None) scalars (drop (i * length scalars) deltas))
 
 abbrev pub results : List ℤ → List (Option ℤ) → List (Option ℤ) → List (Option ℤ)
 results scalars defaults deltas = map (result_at scalars defaults deltas) (range_with_len 0 (length defaults))
 
 -- the operands after a place, of which the first n are defaults, give way to the results
 abbrev pub blended_from : ℕ → List ℤ → ℕ → List (Option ℤ) → List (Option ℤ)
-blended_from base scalars n operands = take base operands ++ results scalars (take n (drop base operands)) (drop n (drop base operands))
+blended_from base scalars n operands =
+    take base operands ++ results scalars (take n (drop base operands)) (drop n (drop base operands))
 
 -- the last operands are n defaults and their deltas, if there are as many
 unfoldable pub blended : List ℤ → ℕ → List (Option ℤ) → Option (List (Option ℤ))

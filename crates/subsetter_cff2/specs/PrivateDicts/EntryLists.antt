@@ -1,4 +1,5 @@
--- The entries of a DICT with all their operands, of which an entry of CFF2 may have 513 (OpenType, "CFF2": "DICT Data").
+-- The entries of a DICT with all their operands, of which an entry of CFF2 may have 513 (OpenType, "CFF2": "DICT
+-- Data").
 use Rattle.std.specs.Prelude.{ℕ, zero, suc, List, [], ◌∷◌, length}
 use Rattle.std.specs.Option.{option_map_or}
 use Rattle.subsetter_cffdata.specs.Dicts.Dict.{Entry, entry_at}

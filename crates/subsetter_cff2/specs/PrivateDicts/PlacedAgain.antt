@@ -18,4 +18,7 @@ pub record IsReadBack (p : Placed) (t : PlacedText) : Type 0 where
   pub no_subroutines : first_of subroutines_operator p.entries ≡ None
 
 abbrev pub PlacedIsReadBack : Type 0
-PlacedIsReadBack = (v : Option Variation) (bytes : List ℕ) (t : PlacedText) (p : Placed) → private_text v bytes ≡ Ok t → private_at_location v bytes ≡ Some p → IsReadBack p t
+PlacedIsReadBack =
+    (v : Option Variation) (bytes : List ℕ) (t : PlacedText) (p : Placed) → private_text v bytes ≡ Ok t
+    → private_at_location v bytes ≡ Some p
+    → IsReadBack p t

@@ -1,4 +1,5 @@
--- Font dicts, private dicts and local subroutines (OpenType, "CFF2": "Font DICT Data", "Private DICT Data", "Local/Global Subrs INDEXes").
+-- Font dicts, private dicts and local subroutines (OpenType, "CFF2": "Font DICT Data", "Private DICT Data",
+-- "Local/Global Subrs INDEXes").
 use Rattle.std.specs.Prelude.{ℕ, ◌-◌, List, [], drop, Option, Some, None}
 use Rattle.subsetter_base.specs.Bytes.{range}
 use Rattle.subsetter_base.specs.Options.{◌>>=◌}
@@ -24,11 +25,13 @@ abbrev pub index_if : List ℕ → Option ℕ → Option (List (Option (List ℕ
 index_if bytes None = Some []
 index_if bytes (Some offset) = wide_index bytes offset
 
--- what the last subroutine entry leads to, from the private dict's start on; none where it has other operands, or no INDEX can be read
+-- what the last subroutine entry leads to, from the private dict's start on; none where it has other operands, or no
+-- INDEX can be read
 abbrev pub subroutines_by : List ℕ → Option (List Number) → Option (List (Option (List ℕ)))
 subroutines_by bytes said = optional_offset said >>= index_if bytes
 
--- the private dict of a range of the table; none where the range leaves the table, or the subroutines are outside or unreadable
+-- the private dict of a range of the table; none where the range leaves the table, or the subroutines are outside or
+-- unreadable
 unfoldable pub private_in : List ℕ → ℕ × ℕ → Option Private2
 private_in bytes place = do
   dict ← range bytes place.0 (place.1 - place.0)

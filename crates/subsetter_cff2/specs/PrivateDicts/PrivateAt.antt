@@ -1,6 +1,8 @@
--- A private dict at a place (OpenType, "CFF2": "Private DICT Data"): its entries with every blend resolved, and the item variation data
--- of its charstrings. Each edge of an array of differences, and each other number, is rounded once to a whole unit.
-use Rattle.std.specs.Prelude.{ℕ, ◌+◌, ◌-◌, ℤ, pos, Bool, true, false, nat_le, if◌then◌else◌, List, [], ◌∷◌, ◌++◌, length, take, map, is_some, unwrap_or, slice_get, Option, Some, None}
+-- A private dict at a place (OpenType, "CFF2": "Private DICT Data"): its entries with every blend resolved, and the
+-- item variation data of its charstrings. Each edge of an array of differences, and each other number, is rounded once
+-- to a whole unit.
+use Rattle.std.specs.Prelude.{ℕ, ◌+◌, ◌-◌, ℤ, pos, Bool, true, false, nat_le, if◌then◌else◌, List, [], ◌∷◌, ◌++◌}
+use Rattle.std.specs.Prelude.{length, take, map, is_some, unwrap_or, slice_get, Option, Some, None}
 use Rattle.std.specs.Option.{option_map}
 use Rattle.std.specs.List.{list_all}
 use Rattle.subsetter_base.specs.Options.{◌>>=◌}
@@ -13,10 +15,12 @@ use Rattle.subsetter_cff2.specs.PrivateDicts.EntryLists.{entry_lists}
 use Rattle.subsetter_cff2.specs.PrivateDicts.PrivateKinds.{kind_by}
 use Rattle.subsetter_cff2.specs.Variation.{Variation, data_scalars}
 use Rattle.subsetter_cff2.specs.declared.private_dicts.kinds.PrivateOperator.{PrivateOperator}
-use Rattle.subsetter_cff2.specs.declared.private_dicts.kinds.PrivateOperator.TheVariants.{Blends, ChoosesData, Edges, Numbers, Dropped}
+use Rattle.subsetter_cff2.specs.declared.private_dicts.kinds.PrivateOperator.TheVariants.{Blends, ChoosesData, Edges}
+use Rattle.subsetter_cff2.specs.declared.private_dicts.kinds.PrivateOperator.TheVariants.{Numbers, Dropped}
 
--- The operands, the last one pushed last: their defaults, and their parts at the place, which a real, a number past 16 bits, and what
--- varies by one don't have; which item variation data count, and whether that is settled: a blend or a vsindex was met.
+-- The operands, the last one pushed last: their defaults, and their parts at the place, which a real, a number past 16
+-- bits, and what varies by one don't have; which item variation data count, and whether that is settled: a blend or a
+-- vsindex was met.
 pub record Registers : Type 0 where
   pub defaults : List Number
   pub parts : List (Option ℤ)
@@ -31,7 +35,10 @@ cleared r = record r { defaults = []; parts = [] }
 
 -- operands go onto the stack, which holds 513
 unfoldable pub pushed : Registers → List Number → Option Registers
-pushed r xs = if nat_le (length r.defaults + length xs) 513 then Some (record r { defaults = r.defaults ++ xs; parts = r.parts ++ map in_parts xs }) else None
+pushed r xs =
+    if nat_le (length r.defaults + length xs) 513
+    then Some (record r { defaults = r.defaults ++ xs; parts = r.parts ++ map in_parts xs })
+    else None
 
 -- vsindex: its one operand names data that are there, once, and before the first blend
 unfoldable pub chosen : Option Variation → Registers → Option Registers
@@ -45,7 +52,7 @@ chosen (Some v) r = if r.settled then None else do
 unfoldable pub last_natural : List Number → Option ℕ
 last_natural xs = slice_get xs (length xs - 1) >>= as_u32
 
--- blend: the last operand says how many results there are; they stand where their defaults stood
+-- blend: the last operand says how many results there are; they take the place of their defaults
 unfoldable pub blended_by : Option Variation → Registers → Option Registers
 blended_by None r = None
 blended_by (Some v) r = do
@@ -65,11 +72,13 @@ rounded false vs = map whole vs
 
 -- where an operand has no parts, all keep their defaults
 unfoldable pub placed_numbers : Bool → List Number → List (Option ℤ) → List Number
-placed_numbers is_array defaults parts = if list_all is_some parts then map Integer (rounded is_array (map known parts)) else defaults
+placed_numbers is_array defaults parts =
+    if list_all is_some parts then map Integer (rounded is_array (map known parts)) else defaults
 
 -- at most 48 operands: a DICT of CFF holds no more
 abbrev pub placed_entry : Bool → List ℕ → Registers → Entry
-placed_entry is_array operator r = record { operator = operator; operands = placed_numbers is_array (take 48 r.defaults) (take 48 r.parts) }
+placed_entry is_array operator r =
+    record { operator = operator; operands = placed_numbers is_array (take 48 r.defaults) (take 48 r.parts) }
 
 -- what is said for the entry that an operator ends, if anything, and what is left
 pub record Step : Type 0 where

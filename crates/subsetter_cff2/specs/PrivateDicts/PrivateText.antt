@@ -11,7 +11,8 @@ use Rattle.subsetter_cff.specs.Write.NewDicts.Rewritten.{written_entry}
 use Rattle.subsetter_blend.specs.Runs.Number.{whole}
 use Rattle.subsetter_cff2.specs.PrivateDicts.Blend.{edges}
 use Rattle.subsetter_cff2.specs.PrivateDicts.EntryLists.{entry_lists}
-use Rattle.subsetter_cff2.specs.PrivateDicts.PrivateAt.{Registers, Step, pushed, step_by, Placed, at_start, private_at_location}
+use Rattle.subsetter_cff2.specs.PrivateDicts.PrivateAt.{Registers, Step, pushed, step_by, Placed, at_start}
+use Rattle.subsetter_cff2.specs.PrivateDicts.PrivateAt.{private_at_location}
 use Rattle.subsetter_cff2.specs.PrivateDicts.PrivateKinds.{kind_by}
 use Rattle.subsetter_cff2.specs.Variation.{Variation}
 use Rattle.subsetter_blend.specs.Writing.Split.{sum_of}
@@ -30,7 +31,7 @@ step_text_of s = entry_text s.said >>= λ text. Ok (record { text = text; next =
 abbrev pub operator_text : Option Variation → Registers → List ℕ → Result TextStep Error
 operator_text v r operator = ok_or (step_by (kind_by operator) v operator r) MalformedFont >>= step_text_of
 
--- an entry
+-- the text of an entry
 unfoldable pub step_text : Option Variation → Registers → List ℕ → List Number → Result TextStep Error
 step_text v r operator xs = ok_or (pushed r xs) MalformedFont >>= λ here. operator_text v here operator
 
@@ -58,7 +59,9 @@ placed_as p = record { text = dict (rewritten_entries p.entries); data_index = p
 
 -- where a text is written, it is that of the private dict at the place
 abbrev pub TextIsPlaced : Type 0
-TextIsPlaced = (v : Option Variation) (bytes : List ℕ) (t : PlacedText) → private_text v bytes ≡ Ok t → (p : Placed) × ((private_at_location v bytes ≡ Some p) × (t ≡ placed_as p))
+TextIsPlaced =
+    (v : Option Variation) (bytes : List ℕ) (t : PlacedText) → private_text v bytes ≡ Ok t
+    → (p : Placed) × ((private_at_location v bytes ≡ Some p) × (t ≡ placed_as p))
 
 -- ---- zones
 -- each edge of a placed array is the exact one, rounded once

@@ -1,8 +1,9 @@
--- An FDSelect whose ranges are in order, so that a glyph is looked up by halves, or are in blocks, of which those without the glyph are passed.
+-- An FDSelect whose ranges are in order, so that a glyph is looked up by halves, or are in blocks, of which those
+-- without the glyph are passed.
 use Rattle.std.specs.Prelude.{◌≡◌, ℕ, ◌+◌, ◌*◌, ◌<◌, ◌≤◌, min, Bool, List, slice_index, Option, Some, None, IfSome}
 use Rattle.subsetter_cff2.specs.Selection.Select.{Range, range_at, width_of, in_ranges, selected}
 
--- the bytes of a table, and where FDSelect stands in them
+-- the bytes of a table, and where FDSelect is in them
 pub record SelectSource : Type 0 where
   pub bytes : List ℕ
   pub select : Option ℕ
@@ -32,13 +33,17 @@ IsWithin least greatest r = (least ≤ r.first) × (r.next ≤ greatest)
 
 -- the ranges from one on, as far as another
 abbrev pub AreWithin : List ℕ → Bool → ℕ → ℕ → ℕ → ℕ → ℕ → Type 0
-AreWithin bytes is_wide at from to least greatest = (i : ℕ) → from ≤ i → i < to → IfSome (range_numbered bytes is_wide at i) (IsWithin least greatest)
+AreWithin bytes is_wide at from to least greatest =
+    (i : ℕ) → from ≤ i → i < to → IfSome (range_numbered bytes is_wide at i) (IsWithin least greatest)
 
--- those of each of 256 blocks of so many
+-- those of each of 256 blocks of `size` ranges
 abbrev pub AreBounds : List ℕ → Bool → ℕ → ℕ → ℕ → List ℕ → List ℕ → Type 0
 AreBounds bytes is_wide at count size least greatest =
-    (block : ℕ) → block < 256 → AreWithin bytes is_wide at (min (block * size) count) (min (block * size + size) count) (slice_index least block) (slice_index greatest block)
+    (block : ℕ) → block < 256
+    → AreWithin bytes is_wide at (min (block * size) count)
+    (min (block * size + size) count) (slice_index least block) (slice_index greatest block)
 
--- a glyph's font dict is looked up in so many ranges from a place on
+-- a glyph's font dict is looked up in `count` ranges from a place on
 abbrev pub IsByRanges : List ℕ → Option ℕ → Bool → ℕ → ℕ → Type 0
-IsByRanges bytes select is_wide at count = (glyph : ℕ) → selected bytes select glyph ≡ in_ranges bytes is_wide glyph count at
+IsByRanges bytes select is_wide at count =
+    (glyph : ℕ) → selected bytes select glyph ≡ in_ranges bytes is_wide glyph count at

@@ -1,5 +1,6 @@
 -- A DICT: entries, each its operands and then its operator.
-use Rattle.std.specs.Prelude.{◌≡◌, ◌≢◌, ℕ, zero, suc, ◌<◌, ◌≤◌, IsTrue, Bool, ◌==◌, ◌||◌, nat_lt, if◌then◌else◌, List, [], ◌∷◌, ◌++◌, take, length, map, pos, ◌^◌, Option, Some, None}
+use Rattle.std.specs.Prelude.{◌≡◌, ◌≢◌, ℕ, zero, suc, ◌<◌, ◌≤◌, IsTrue, Bool, ◌==◌, ◌||◌, nat_lt, if◌then◌else◌, List}
+use Rattle.std.specs.Prelude.{[], ◌∷◌, ◌++◌, take, length, map, pos, ◌^◌, Option, Some, None}
 use Rattle.std.specs.Option.{option_map_or}
 use Rattle.std.specs.List.{flat_map, AllByRecursion}
 use Rattle.subsetter_base.specs.Options.{◌>>=◌}
@@ -17,7 +18,8 @@ is_operator b = nat_lt b 28 || ((b == 31) || (b == 255))
 
 -- 12 is a prefix, with one byte more
 abbrev pub operator_from : ℕ → List ℕ → Option (List ℕ × List ℕ)
-operator_from b bytes = if b == 12 then (byte bytes >>= λ second. Some (12 ∷ second.0 ∷ [], second.1)) else Some (b ∷ [], bytes)
+operator_from b bytes =
+    if b == 12 then (byte bytes >>= λ second. Some (12 ∷ second.0 ∷ [], second.1)) else Some (b ∷ [], bytes)
 
 -- a DICT's tokens
 pub data Token : Type 0 where
@@ -26,7 +28,8 @@ pub data Token : Type 0 where
 
 unfoldable pub token_at : List ℕ → Option (Token × List ℕ)
 token_at bytes = byte bytes >>= λ b.
-    if is_operator b.0 then (operator_from b.0 b.1 >>= λ o. Some (Operator o.0, o.1)) else (dict_number_from b.0 b.1 >>= λ x. Some (Operand x.0, x.1))
+    if is_operator b.0 then (operator_from b.0 b.1 >>= λ o. Some (Operator o.0, o.1))
+    else (dict_number_from b.0 b.1 >>= λ x. Some (Operand x.0, x.1))
 
 -- Operands up to an operator. Each step takes at least a byte, so as many steps as bytes are enough.
 unfoldable pub entry_in : ℕ → List ℕ → Option (Entry × List ℕ)
@@ -34,7 +37,8 @@ entry_in zero bytes = None
 entry_in (suc steps) [] = None
 entry_in (suc steps) (b ∷ bytes) =
     if is_operator b then (operator_from b bytes >>= λ o. Some (record { operator = o.0; operands = [] }, o.1))
-    else (dict_number_from b bytes >>= λ x. entry_in steps x.1 >>= λ e. Some (record { operator = e.0.operator; operands = x.0 ∷ e.0.operands }, e.1))
+    else (dict_number_from b bytes >>= λ x. entry_in steps x.1
+    >>= λ e. Some (record { operator = e.0.operator; operands = x.0 ∷ e.0.operands }, e.1))
 
 unfoldable pub entry_at : List ℕ → Option (Entry × List ℕ)
 entry_at bytes = entry_in (length bytes) bytes

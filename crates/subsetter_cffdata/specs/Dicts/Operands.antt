@@ -1,5 +1,7 @@
--- The operands that operators demand of a DICT's entry (Technical Note 5176, section 4 "DICT Data", table 6 "Operand Types").
-use Rattle.std.specs.Prelude.{ℕ, ◌+◌, ℤ, pos, negsuc, nat_lt, ◌==◌, if◌then◌else◌, List, [], ◌∷◌, take, length, Option, Some, None}
+-- The operands that operators demand of a DICT's entry (Technical Note 5176, section 4 "DICT Data", table 6 "Operand
+-- Types").
+use Rattle.std.specs.Prelude.{ℕ, ◌+◌, ℤ, pos, negsuc, nat_lt, ◌==◌, if◌then◌else◌, List, [], ◌∷◌, take, length, Option}
+use Rattle.std.specs.Prelude.{Some, None}
 use Rattle.std.specs.Option.{option_map}
 use Rattle.subsetter_base.specs.Options.{◌>>=◌}
 use Rattle.subsetter_cffdata.specs.Numerals.Numbers.{Number, as_i32, as_u32}
@@ -29,7 +31,7 @@ unfoldable pub range_operands : List Number → Option (ℕ × ℕ)
 range_operands (size ∷ offset ∷ []) = as_u32 size >>= λ n. as_u32 offset >>= λ start. Some (start, start + n)
 range_operands _ = None
 
--- just so many numbers
+-- just `count` numbers
 unfoldable pub just : ℕ → List Number → Option (List Number)
 just count xs = if length xs == count then Some xs else None
 

@@ -1,4 +1,4 @@
--- Where a parser of a DICT stands.
+-- Where a parser of a DICT is.
 use Rattle.std.specs.Prelude.{◌≡◌, ℕ, List, [], take, drop, map, length, Option}
 use Rattle.std.specs.Option.{option_map_or}
 use Rattle.subsetter_cffdata.specs.declared.dicts.dict.DictionaryParser.{DictionaryParser}
@@ -22,7 +22,7 @@ shown p = map number_of (take p.operands_len p.operands.now)
 abbrev pub operands_in : DictionaryParser → List Number
 operands_in p = option_map_or (λ xs. xs) (operands_at (length p.operands.now) (entry_of p)) []
 
--- the operands of the entry are shown, and it stands where it stood
+-- the operands of the entry are shown, and it is where it was
 pub record ShowsEntry (old now : DictionaryParser) : Type 0 where
   pub shows : shown now ≡ operands_in old
   pub entry : entry_of now ≡ entry_of old

@@ -1,13 +1,15 @@
--- Entries of whole numbers that stand as they are written: each number in the first form that holds it (Technical Note 5176, section 4
--- "DICT Data", table 3 "Operand Encoding").
-use Rattle.std.specs.Prelude.{◌≡◌, ℕ, zero, suc, ◌+◌, ◌*◌, ◌≤◌, ℤ, FitsSigned, false, nat_lt, nat_le, ◌==◌, if◌then◌else◌, List, [], ◌∷◌, ◌++◌, length, map, Option, Some, None}
+-- Entries of whole numbers as they are written: each number in the first form that holds it (Technical Note 5176,
+-- section 4 "DICT Data", table 3 "Operand Encoding").
+use Rattle.std.specs.Prelude.{◌≡◌, ℕ, zero, suc, ◌+◌, ◌*◌, ◌≤◌, ℤ, FitsSigned, false, nat_lt, nat_le, ◌==◌}
+use Rattle.std.specs.Prelude.{if◌then◌else◌, List, [], ◌∷◌, ◌++◌, length, map, Option, Some, None}
 use Rattle.std.specs.Int.{w32}
 use Rattle.std.specs.List.{list_any, AllByRecursion}
 use Rattle.std.specs.Option.{option_map_or}
 use Rattle.subsetter_cffdata.specs.Numerals.Numbers.{Number, integer, is_too_long}
-use Rattle.subsetter_cffdata.specs.Dicts.Dict.{Plain, NewEntry, entry_bytes, is_operator, operand_limit, IsOperator, FitsOperand}
+use Rattle.subsetter_cffdata.specs.Dicts.Dict.{Plain, NewEntry, entry_bytes, is_operator, operand_limit, IsOperator}
+use Rattle.subsetter_cffdata.specs.Dicts.Dict.{FitsOperand}
 
--- ---- reading: each answers what follows
+-- ---- reading: each gives what follows
 -- two bytes after byte 28, whose number has no form of one or two bytes, and no byte is 256 or more
 abbrev pub after_word : List ℕ → Option (List ℕ)
 after_word (high ∷ low ∷ rest) =
@@ -42,7 +44,7 @@ unfoldable pub operator_at : List ℕ → Option (List ℕ × List ℕ)
 operator_at (b ∷ rest) = if is_operator b then (if b == 12 then marked_operator rest else Some (b ∷ [], rest)) else None
 operator_at [] = None
 
--- the operator after so many such numbers at most, and what follows it
+-- the operator after at most n such numbers, and what follows it
 unfoldable pub plain_in : ℕ → List ℕ → Option (List ℕ × List ℕ)
 plain_in zero bytes = operator_at bytes
 plain_in (suc n) bytes = option_map_or (plain_in n) (after_number bytes) (operator_at bytes)
@@ -60,7 +62,7 @@ pub record IsNumberAndRest (bytes rest : List ℕ) : Type 0 where
 abbrev pub plain_entry : List ℕ → List Number → NewEntry
 plain_entry operator numbers = record { operator = operator; operands = map Plain numbers }
 
--- an entry of at most so many numbers as it is written, and what follows it
+-- an entry of at most `most` numbers as it is written, and what follows it
 pub record IsEntryAndRest (most : ℕ) (operator bytes rest : List ℕ) : Type 0 where
   pub numbers : List Number
   pub operator_fits : IsOperator operator

@@ -1,5 +1,7 @@
--- An INDEX: a count, the size of an offset, the offsets, the data. Offsets count from the byte before the data (Technical Note 5176, section 5 "INDEX Data").
-use Rattle.std.specs.Prelude.{ℕ, Bool, ◌+◌, ◌-◌, ◌*◌, ◌==◌, ◌||◌, nat_lt, if◌then◌else◌, List, [], ◌∷◌, ◌++◌, take, drop, length, map, Option, Some, None}
+-- An INDEX: a count, the size of an offset, the offsets, the data. Offsets count from the byte before the data
+-- (Technical Note 5176, section 5 "INDEX Data").
+use Rattle.std.specs.Prelude.{ℕ, Bool, ◌+◌, ◌-◌, ◌*◌, ◌==◌, ◌||◌, nat_lt, if◌then◌else◌, List, [], ◌∷◌, ◌++◌, take}
+use Rattle.std.specs.Prelude.{drop, length, map, Option, Some, None}
 use Rattle.std.specs.Int.{is_in_range, bytes_high_first}
 use Rattle.std.specs.List.{flat_map, concat, range_with_len}
 use Rattle.subsetter_base.specs.Bytes.{be, byte}
@@ -45,7 +47,8 @@ index_body count bytes = do
 abbrev pub is_no_count : ℕ → Bool
 is_no_count count = (count == 0) || (count == 4294967295)
 
--- The entries of the INDEX in front, and what follows it. The count has two bytes; INDEX structures of later forms have four.
+-- The entries of the INDEX in front, and what follows it. The count has two bytes; INDEX structures of later forms have
+-- four.
 unfoldable pub index_of : ℕ → List ℕ → Option (List (Option (List ℕ)) × List ℕ)
 index_of width bytes = do
   count ← card width bytes

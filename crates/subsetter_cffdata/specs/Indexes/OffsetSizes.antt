@@ -11,4 +11,6 @@ size_of Size4 = 4
 
 -- a size is 1 to 4
 abbrev pub size_from : ℕ → Option OffsetSize
-size_from b = if b == 1 then Some Size1 else (if b == 2 then Some Size2 else (if b == 3 then Some Size3 else (if b == 4 then Some Size4 else None)))
+size_from b =
+    if b == 1 then Some Size1
+    else (if b == 2 then Some Size2 else (if b == 3 then Some Size3 else (if b == 4 then Some Size4 else None)))

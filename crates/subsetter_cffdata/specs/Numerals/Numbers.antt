@@ -1,5 +1,6 @@
 -- The numbers of a DICT and of a charstring.
-use Rattle.std.specs.Prelude.{ℕ, ◌+◌, ◌-◌, ◌*◌, ◌/◌, ◌%◌, Bool, false, length, FitsSigned, ℤ, pos, negsuc, neg_ℤ, ◌-ℤ◌, ◌==◌, nat_lt, if◌then◌else◌, List, [], ◌∷◌, Option, Some, None}
+use Rattle.std.specs.Prelude.{ℕ, ◌+◌, ◌-◌, ◌*◌, ◌/◌, ◌%◌, Bool, false, length, FitsSigned, ℤ, pos, negsuc, neg_ℤ, ◌-ℤ◌}
+use Rattle.std.specs.Prelude.{◌==◌, nat_lt, if◌then◌else◌, List, [], ◌∷◌, Option, Some, None}
 use Rattle.std.specs.Int.{w16, w32, cast_signed, cast_unsigned, to_be_bytes}
 use Rattle.subsetter_cffdata.specs.Bytes.{card}
 use Rattle.subsetter_base.specs.Options.{◌>>=◌}
@@ -13,13 +14,20 @@ pub data Number : Type 0 where
   Fixed : ℤ → Number
 
 -- ---- reading: the number whose first byte is b
--- 32 to 246 stand for themselves less 139; 247 to 250 and 251 to 254 have one more byte, and no byte is 256 or more
+-- 32 to 246 mean themselves less 139; 247 to 250 and 251 to 254 have one more byte, and no byte is 256 or more
 unfoldable pub short_integer : ℕ → List ℕ → Option (ℤ × List ℕ)
 short_integer b bytes =
     if nat_lt b 32 then None else
     (if nat_lt b 247 then Some (pos b -ℤ pos 139, bytes) else
-    (if nat_lt b 251 then (byte bytes >>= λ low. if nat_lt low.0 256 then Some (pos ((b - 247) * 256 + low.0 + 108), low.1) else None) else
-    (if nat_lt b 255 then (byte bytes >>= λ low. if nat_lt low.0 256 then Some (neg_ℤ (pos ((b - 251) * 256 + low.0 + 108)), low.1) else None) else None)))
+    (if nat_lt b 251
+    then (byte bytes >>= λ low. if nat_lt low.0 256 then Some (pos ((b - 247) * 256 + low.0 + 108), low.1)
+    else None)
+    else
+    (if nat_lt b 255
+    then (byte bytes >>= λ low. if nat_lt low.0 256
+    then Some (neg_ℤ (pos ((b - 251) * 256 + low.0 + 108)), low.1)
+    else None)
+    else None)))
 
 -- two and four bytes in two's complement
 unfoldable pub signed16 : List ℕ → Option (ℤ × List ℕ)
@@ -36,7 +44,8 @@ integer_from b bytes =
 
 unfoldable pub dict_number_from : ℕ → List ℕ → Option (Number × List ℕ)
 dict_number_from b bytes =
-    if b == 30 then (real_at bytes >>= λ d. Some (Real d.0, d.1)) else (integer_from b bytes >>= λ z. Some (Integer z.0, z.1))
+    if b == 30 then (real_at bytes >>= λ d. Some (Real d.0, d.1))
+    else (integer_from b bytes >>= λ z. Some (Integer z.0, z.1))
 
 abbrev pub at_front : {X : Type 0} → (ℕ → List ℕ → Option (X × List ℕ)) → List ℕ → Option (X × List ℕ)
 at_front from bytes = byte bytes >>= λ b. from b.0 b.1
@@ -72,7 +81,8 @@ integer (negsuc m) =
     let n = m + 1 in
     if nat_lt n 108 then (139 - n) ∷ [] else
     (if nat_lt n 1132 then ((n - 108) / 256 + 251) ∷ ((n - 108) % 256) ∷ [] else
-    (if nat_lt m 32768 then 28 ∷ to_be_bytes w16 (cast_unsigned w16 (negsuc m)) else 29 ∷ to_be_bytes w32 (cast_unsigned w32 (negsuc m))))
+    (if nat_lt m 32768 then 28 ∷ to_be_bytes w16 (cast_unsigned w16 (negsuc m))
+    else 29 ∷ to_be_bytes w32 (cast_unsigned w32 (negsuc m))))
 
 -- an offset or a length: always five bytes, so that its value doesn't move what follows
 abbrev pub offset : ℕ → List ℕ

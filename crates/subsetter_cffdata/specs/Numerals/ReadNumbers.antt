@@ -9,7 +9,8 @@ use Rattle.subsetter_cffdata.specs.Dicts.Dict.{Entry}
 abbrev pub Within : ℕ → ℤ → Type 0
 Within n z = unsigned_abs z ≤ n
 
--- An integer fits in 32 bits. The power of ten of a real comes from an exponent of at most 999, at most 64 digits after the point and at most 64 zeros at the end.
+-- An integer fits in 32 bits. The power of ten of a real comes from an exponent of at most 999, at most 64 digits after
+-- the point and at most 64 zeros at the end.
 abbrev pub IsBounded : Number → Type 0
 IsBounded (Integer z) = FitsSigned w32 z
 IsBounded (Real d) = Within 1127 d.power

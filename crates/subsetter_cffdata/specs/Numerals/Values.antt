@@ -1,4 +1,5 @@
--- The exact value of a number, as a decimal (Technical Note 5176, section 4 "DICT Data"; Technical Note 5177, section 3.2 "Charstring Number Encoding").
+-- The exact value of a number, as a decimal (Technical Note 5176, section 4 "DICT Data"; Technical Note 5177, section
+-- 3.2 "Charstring Number Encoding").
 use Rattle.std.specs.Prelude.{◌*◌, ℤ, pos, negsuc, ◌+ℤ◌, if◌then◌else◌, List, [], ◌∷◌, Option, Some, None, unsigned_abs}
 use Rattle.std.specs.Option.{option_map}
 use Rattle.std.specs.Int.{is_negative}

@@ -1,5 +1,7 @@
 -- Real numbers of a DICT: exact decimals, and their text.
-use Rattle.std.specs.Prelude.{◌≡◌, ℕ, suc, ◌+◌, ◌-◌, ◌*◌, ◌/◌, ◌%◌, ◌^◌, ◌<◌, ◌≤◌, IsTrue, ℤ, pos, negsuc, neg_ℤ, ◌+ℤ◌, ◌-ℤ◌, ◌*ℤ◌, Bool, true, false, ◌&&◌, ◌==◌, nat_lt, nat_le, if◌then◌else◌, List, [], ◌∷◌, ◌++◌, take, drop, length, replicate, Option, Some, None, unsigned_abs}
+use Rattle.std.specs.Prelude.{◌≡◌, ℕ, suc, ◌+◌, ◌-◌, ◌*◌, ◌/◌, ◌%◌, ◌^◌, ◌<◌, ◌≤◌, IsTrue, ℤ, pos, negsuc, neg_ℤ, ◌+ℤ◌}
+use Rattle.std.specs.Prelude.{◌-ℤ◌, ◌*ℤ◌, Bool, true, false, ◌&&◌, ◌==◌, nat_lt, nat_le, if◌then◌else◌, List, [], ◌∷◌}
+use Rattle.std.specs.Prelude.{◌++◌, take, drop, length, replicate, Option, Some, None, unsigned_abs}
 use Rattle.std.specs.Option.{option_map}
 use Rattle.std.specs.Int.{is_negative}
 use Rattle.std.specs.Int.Digits.{number_from_digits, digits_with_fuel}
@@ -100,7 +102,8 @@ unfoldable pub unsigned_real : Bool → List ℕ → Option Decimal
 unsigned_real negative text =
     let f = fraction (after_digits text) in
     let ds = digits text ++ f.0 in
-    if length (digits text) + length f.0 == 0 then None else option_map (λ e. decimal negative ds (e -ℤ pos (length f.0))) (exponent f.1)
+    if length (digits text) + length f.0 == 0 then None
+    else option_map (λ e. decimal negative ds (e -ℤ pos (length f.0))) (exponent f.1)
 
 -- an optional minus in front
 unfoldable pub real_of : List ℕ → Option Decimal
@@ -108,7 +111,8 @@ real_of text = let s = sign text in unsigned_real s.0 s.1
 
 -- ---- the nibbles of a text, and f at the end
 abbrev pub characters : ℕ → Option (List ℕ)
-characters nibble = if nibble == 13 then None else (if nibble == 12 then Some (exponent_mark ∷ minus ∷ []) else Some (nibble ∷ []))
+characters nibble =
+    if nibble == 13 then None else (if nibble == 12 then Some (exponent_mark ∷ minus ∷ []) else Some (nibble ∷ []))
 
 -- a text with characters in front
 abbrev pub with_text : List ℕ → Option (List ℕ × List ℕ) → Option (List ℕ × List ℕ)
@@ -126,19 +130,23 @@ text_limit = 64
 
 -- the real after a byte 30
 unfoldable pub real_at : List ℕ → Option (Decimal × List ℕ)
-real_at bytes = text_at bytes >>= λ t. if nat_le (length t.0) text_limit then (real_of t.0 >>= λ d. Some (d, t.1)) else None
+real_at bytes =
+    text_at bytes >>= λ t. if nat_le (length t.0) text_limit then (real_of t.0 >>= λ d. Some (d, t.1)) else None
 
 -- ---- the text that is written
 -- the digits with k of them after the point
 abbrev pub pointed : List ℕ → ℕ → List ℕ
-pointed ds k = if nat_lt k (length ds) then take (length ds - k) ds ++ point ∷ drop (length ds - k) ds else 0 ∷ point ∷ (replicate (k - length ds) 0 ++ ds)
+pointed ds k =
+    if nat_lt k (length ds) then take (length ds - k) ds ++ point ∷ drop (length ds - k) ds
+    else 0 ∷ point ∷ (replicate (k - length ds) 0 ++ ds)
 
 abbrev pub unsigned_text : List ℕ → ℤ → List ℕ
 unsigned_text [] power = 0 ∷ []
 unsigned_text (d ∷ ds) (pos k) = (d ∷ ds) ++ replicate k 0
 unsigned_text (d ∷ ds) (negsuc k) = pointed (d ∷ ds) (suc k)
 
--- The digits of n, the highest first, none for 0. A text has at most 64 characters, so 65 digits are as many as are requested.
+-- The digits of n, the highest first, none for 0. A text has at most 64 characters, so 65 digits are as many as are
+-- requested.
 unfoldable pub decimal_digits : ℕ → List ℕ
 decimal_digits n = digits_with_fuel 10 65 n
 

@@ -1,4 +1,4 @@
--- What can stand in a font against the coordinates of an instance, under the name of the error that it is answered by (OpenType, "fvar" and "avar").
+-- The faults of a font in the coordinates of an instance, each with its error (OpenType, "fvar" and "avar").
 use Rattle.std.specs.Prelude.{◌≡◌, ◌≢◌, ◌<◌, ℕ, suc, ◌+◌, ◌*◌, List, length, codes, Option, Some, IsSome}
 use Rattle.subsetter_base.specs.Bytes.{number}
 use Rattle.subsetter_base.specs.declared.error.Error.{Error}
@@ -19,18 +19,22 @@ pub data HasAxesFault (fvar : List ℕ) : Type 0 where
   -- axisSize is less than 20
   short_axis : (size : ℕ) → number fvar 10 2 ≡ Some size → size < 20 → HasAxesFault fvar
   -- the record of an axis, the one numbered k, goes past the end
-  cut_axis : (at count size k : ℕ) → number fvar 4 2 ≡ Some at → number fvar 8 2 ≡ Some count → number fvar 10 2 ≡ Some size → k < count → length fvar < at + k * size + size → HasAxesFault fvar
+  cut_axis : (at count size k : ℕ) → number fvar 4 2 ≡ Some at → number fvar 8 2 ≡ Some count
+      → number fvar 10 2 ≡ Some size → k < count → length fvar < at + k * size + size
+      → HasAxesFault fvar
 
 -- of the segment maps of the next n axes, which begin at this offset
 pub data HasSegmentFault (avar : List ℕ) : ℕ → ℕ → Type 0 where
   -- positionMapCount of the first goes past the end
   cut_count : (n at : ℕ) → length avar < at + 2 → HasSegmentFault avar (suc n) at
   -- the maps after it go past the end, four bytes each
-  cut_map : (n at count : ℕ) → number avar at 2 ≡ Some count → length avar < at + 2 + count * 4 → HasSegmentFault avar (suc n) at
+  cut_map : (n at count : ℕ) → number avar at 2 ≡ Some count → length avar < at + 2 + count * 4
+      → HasSegmentFault avar (suc n) at
   -- those of an axis after it
-  later_map : (n at count : ℕ) → number avar at 2 ≡ Some count → HasSegmentFault avar n (at + 2 + count * 4) → HasSegmentFault avar (suc n) at
+  later_map : (n at count : ℕ) → number avar at 2 ≡ Some count → HasSegmentFault avar n (at + 2 + count * 4)
+      → HasSegmentFault avar (suc n) at
 
--- of the segment maps in avar, for so many axes of fvar; axisCount is its bytes 6 and 7
+-- of the segment maps in avar, for `axis_count` axes of fvar; axisCount is its bytes 6 and 7
 pub data HasAvarFault (axis_count : ℕ) (avar : List ℕ) : Type 0 where
   -- it ends before the end of axisCount
   cut_avar : length avar < 8 → HasAvarFault axis_count avar
@@ -42,6 +46,10 @@ pub data HasAvarFault (axis_count : ℕ) (avar : List ℕ) : Type 0 where
 pub data HasCoordinatesFault (find : List ℕ → Option (List ℕ)) : Error → Type 0 where
   -- fvar or avar has another major version than 1
   other_fvar : HasOtherVersion find (codes "fvar") → HasCoordinatesFault find Unimplemented
-  other_avar : IsSome (find (codes "fvar")) → HasOtherVersion find (codes "avar") → HasCoordinatesFault find Unimplemented
-  in_axes : (fvar : List ℕ) → find (codes "fvar") ≡ Some fvar → HasAxesFault fvar → HasCoordinatesFault find MalformedFont
-  in_avar : (fvar avar : List ℕ) (axis_count : ℕ) → find (codes "fvar") ≡ Some fvar → find (codes "avar") ≡ Some avar → number fvar 8 2 ≡ Some axis_count → HasAvarFault axis_count avar → HasCoordinatesFault find MalformedFont
+  other_avar : IsSome (find (codes "fvar")) → HasOtherVersion find (codes "avar")
+      → HasCoordinatesFault find Unimplemented
+  in_axes : (fvar : List ℕ) → find (codes "fvar") ≡ Some fvar → HasAxesFault fvar
+      → HasCoordinatesFault find MalformedFont
+  in_avar : (fvar avar : List ℕ) (axis_count : ℕ) → find (codes "fvar") ≡ Some fvar → find (codes "avar") ≡ Some avar
+      → number fvar 8 2 ≡ Some axis_count → HasAvarFault axis_count avar
+      → HasCoordinatesFault find MalformedFont

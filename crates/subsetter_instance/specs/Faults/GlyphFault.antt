@@ -1,5 +1,5 @@
--- What can stand against the description of a glyph and against its metric (OpenType, "maxp", "loca", "glyf", "hhea" and "hmtx"). Each is answered by
--- `MalformedFont`.
+-- The faults of the description of a glyph and of its metric (OpenType, "maxp", "loca", "glyf", "hhea" and "hmtx").
+-- Each has the error `MalformedFont`.
 use Rattle.std.specs.Prelude.{◌≡◌, ◌≤◌, ◌<◌, ℕ, ◌+◌, ◌-◌, ◌*◌, length, Some, if◌then◌else◌}
 use Rattle.subsetter_instance.specs.Source.{Source, offset}
 
@@ -21,4 +21,6 @@ pub data HasHmtxFault (s : Source) (g : ℕ) : Type 0 where
   -- the glyph's pair goes past the end of hmtx
   cut_pair : g < s.number_of_h_metrics → length s.hmtx < 4 * g + 4 → HasHmtxFault s g
   -- or its bearing, where it has no pair of its own
-  cut_bearing : s.number_of_h_metrics ≤ g → length s.hmtx < 4 * s.number_of_h_metrics + 2 * (g - s.number_of_h_metrics) + 2 → HasHmtxFault s g
+  cut_bearing : s.number_of_h_metrics ≤ g
+      → length s.hmtx < 4 * s.number_of_h_metrics + 2 * (g - s.number_of_h_metrics) + 2
+      → HasHmtxFault s g

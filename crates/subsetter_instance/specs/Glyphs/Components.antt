@@ -1,5 +1,6 @@
 -- The components of a composite glyph (OpenType, "glyf": "Composite glyph description").
-use Rattle.std.specs.Prelude.{ℕ, zero, suc, ◌+◌, List, [], ◌∷◌, Option, Some, None, Result, Ok, Err, if◌then◌else◌, ℤ, pos, map}
+use Rattle.std.specs.Prelude.{ℕ, zero, suc, ◌+◌, List, [], ◌∷◌, Option, Some, None, Result, Ok, Err, if◌then◌else◌, ℤ}
+use Rattle.std.specs.Prelude.{pos, map}
 use Rattle.std.specs.Int.{w8, w16, cast_signed}
 use Rattle.std.specs.Option.{ok_or, option_map}
 use Rattle.subsetter_base.specs.Bytes as bytes
@@ -13,7 +14,7 @@ use Rattle.subsetter_instance.specs.declared.glyphs.components.Arguments.TheVari
 use Rattle.subsetter_instance.specs.declared.glyphs.components.Matrix.{Matrix}
 use Rattle.subsetter_instance.specs.declared.glyphs.components.Component.{Component}
 
--- a number of so many bytes with its sign: int8, int16
+-- a number of one byte or of two, with its sign: int8, int16
 abbrev pub signed_byte : List ℕ → ℕ → Option ℤ
 signed_byte bytes at = option_map (cast_signed w8) (number bytes at 1)
 
@@ -46,26 +47,27 @@ word_points bytes = do
   child ← number bytes 6 2
   Some (Points parent child)
 
--- two words where the flags have ARG_1_AND_2_ARE_WORDS, else two bytes; an offset where they have ARGS_ARE_XY_VALUES, else two points
+-- two words where the flags have ARG_1_AND_2_ARE_WORDS, else two bytes; an offset where they have ARGS_ARE_XY_VALUES,
+-- else two points
 abbrev pub arguments_at : ℕ → List ℕ → Option Arguments
 arguments_at flags bytes =
     if has_flag flags 0x0001
     then (if has_flag flags 0x0002 then word_offset bytes else word_points bytes)
     else (if has_flag flags 0x0002 then byte_offset bytes else byte_points bytes)
 
--- where they end
+-- where the arguments of a component end: after two words (ARG_1_AND_2_ARE_WORDS) or two bytes
 abbrev pub arguments_end : ℕ → ℕ
 arguments_end flags = if has_flag flags 0x0001 then 8 else 6
 
 -- ---- the matrix, of F2DOT14
 
--- one scale
+-- WE_HAVE_A_SCALE: one scale
 abbrev pub scale_at : List ℕ → ℕ → Option (Option Matrix)
 scale_at bytes at = do
   scale ← signed_word bytes at
   Some (Some (record { xx = scale; yx = pos 0; xy = pos 0; yy = scale }))
 
--- xscale and yscale
+-- WE_HAVE_AN_X_AND_Y_SCALE: xscale and yscale
 abbrev pub scales_at : List ℕ → ℕ → Option (Option Matrix)
 scales_at bytes at = do
   xx ← signed_word bytes at
@@ -89,9 +91,11 @@ matrix_at flags bytes at =
     else if has_flag flags 0x0080 then two_by_two_at bytes at
     else Some None
 
--- where it ends
+-- where the transformation of a component ends
 abbrev pub matrix_end : ℕ → ℕ → ℕ
-matrix_end flags at = at + (if has_flag flags 0x0008 then 2 else if has_flag flags 0x0040 then 4 else if has_flag flags 0x0080 then 8 else 0)
+matrix_end flags at =
+    at
+    + (if has_flag flags 0x0008 then 2 else if has_flag flags 0x0040 then 4 else if has_flag flags 0x0080 then 8 else 0)
 
 -- ---- components
 
@@ -105,11 +109,13 @@ component_at bytes = do
   rest ← after (matrix_end flags (arguments_end flags)) bytes
   Some (record { flags = flags; glyph = glyph; arguments = arguments; matrix = matrix }, rest)
 
--- one after another, another one following exactly where the flags have MORE_COMPONENTS. Each takes a step before it is read
+-- one after another, another one following exactly where the flags have MORE_COMPONENTS. Each takes a step before it is
+-- read
 unfoldable pub components_at : ℕ → List ℕ → Result (List Component × ℕ) Error
 components_at zero rest = Err OverflowError
 components_at (suc steps) rest = bytes.◌>>=◌ (ok_or (component_at rest) MalformedFont) (λ c.
-    if has_flag c.0.flags 0x0020 then bytes.◌>>=◌ (components_at steps c.1) (λ more. Ok (c.0 ∷ more.0, more.1)) else Ok (c.0 ∷ [], steps))
+    if has_flag c.0.flags 0x0020 then bytes.◌>>=◌ (components_at steps c.1) (λ more. Ok (c.0 ∷ more.0, more.1))
+    else Ok (c.0 ∷ [], steps))
 
 -- ---- offsets, as gvar varies them: 0 and 0 where points are matched
 

@@ -1,5 +1,7 @@
--- What a glyph is at a place: its unfolded points, rounded, with its advance and its left side bearing (OpenType, "HVAR" and "hmtx").
-use Rattle.std.specs.Prelude.{ℕ, ◌^◌, Bool, List, [], ◌∷◌, Option, Some, None, Result, Ok, Err, nat_lt, if◌then◌else◌, ℤ, pos, ◌+ℤ◌, ◌-ℤ◌, int_le, unsigned_abs}
+-- What a glyph is at a place: its unfolded points, rounded, with its advance and its left side bearing (OpenType,
+-- "HVAR" and "hmtx").
+use Rattle.std.specs.Prelude.{ℕ, ◌^◌, Bool, List, [], ◌∷◌, Option, Some, None, Result, Ok, Err, nat_lt, if◌then◌else◌}
+use Rattle.std.specs.Prelude.{ℤ, pos, ◌+ℤ◌, ◌-ℤ◌, int_le, unsigned_abs}
 use Rattle.std.specs.Int.{int_min}
 use Rattle.std.specs.List.{fold}
 use Rattle.std.specs.Option.{ok_or}
@@ -43,12 +45,17 @@ points_or_fault left _ _ _ = Ok []
 
 -- an advance isn't under 0, and has 16 bits
 abbrev pub advance_or_fault : ℤ → Result ℕ Error
-advance_or_fault v = if int_le v (pos 0) then Ok 0 else if nat_lt (unsigned_abs v) (2 ^ 16) then Ok (unsigned_abs v) else Err OverflowError
+advance_or_fault v =
+    if int_le v (pos 0) then Ok 0
+    else if nat_lt (unsigned_abs v) (2 ^ 16) then Ok (unsigned_abs v)
+    else Err OverflowError
 
--- where there is HVAR it says by how much the advance that hmtx has varies, else it is the width between the phantom points
+-- where there is HVAR it says by how much the advance that hmtx has varies, else it is the width between the phantom
+-- points
 abbrev pub advance : Option (List ℕ) → List ℤ → ℕ → ℕ → ℤ → Result ℕ Error
 advance None at g before width = advance_or_fault (whole width)
-advance (Some hvar) at g before width = whole_or_fault (advance_delta hvar at g) >>= λ d. advance_or_fault (pos before +ℤ d)
+advance (Some hvar) at g before width =
+    whole_or_fault (advance_delta hvar at g) >>= λ d. advance_or_fault (pos before +ℤ d)
 
 -- the left side bearing is the least x, 0 without points
 abbrev pub bearing : List Point → ℤ
@@ -66,7 +73,10 @@ pub record Drawn : Type 0 where
 
 -- an outline can be written: each delta between neighbours has 16 bits, and it has no more points and contours than fit
 abbrev pub drawn_if_fit : List ℕ → List Point → ℕ → Result Drawn Error
-drawn_if_fit ends points width = if parts_fit ends points then Ok (record { ends = ends; points = points; advance = width; bearing = bearing points }) else Err OverflowError
+drawn_if_fit ends points width =
+    if parts_fit ends points
+    then Ok (record { ends = ends; points = points; advance = width; bearing = bearing points })
+    else Err OverflowError
 
 -- what is drawn of an unfolded glyph
 unfoldable pub rounded : Source → List ℤ → ℕ → LongHorMetric → Unfolded → Result Drawn Error
@@ -79,7 +89,7 @@ rounded s at g m u = do
 abbrev pub levels : ℕ
 levels = 65
 
--- a glyph at a place, drawn in so many steps
+-- a glyph at a place, drawn in at most `steps` steps
 unfoldable pub drawn : Source → List ℤ → ℕ → ℕ → Result Drawn Error
 drawn s at steps g = do
   m ← ok_or (metric s g) MalformedFont

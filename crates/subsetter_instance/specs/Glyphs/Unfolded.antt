@@ -1,5 +1,8 @@
--- A glyph at a place, unfolded: where its contours and its phantom points lie (OpenType, "glyf": "Phantom points", and "gvar").
-use Rattle.std.specs.Prelude.{◌≡◌, ◌≤◌, ◌<◌, ℕ, zero, suc, ◌+◌, ◌^◌, Bool, false, not, ◌&&◌, ◌||◌, List, [], ◌∷◌, ◌++◌, length, take, map, zip, All, slice_get, slice_index_or, Option, Some, None, Result, Ok, Err, nat_le, nat_lt, if◌then◌else◌, ℤ, pos, ◌+ℤ◌, ◌-ℤ◌, ◌*ℤ◌, unsigned_abs}
+-- A glyph at a place, unfolded: where its contours and its phantom points lie (OpenType, "glyf": "Phantom points", and
+-- "gvar").
+use Rattle.std.specs.Prelude.{◌≡◌, ◌≤◌, ◌<◌, ℕ, zero, suc, ◌+◌, ◌^◌, Bool, false, not, ◌&&◌, ◌||◌, List, [], ◌∷◌, ◌++◌}
+use Rattle.std.specs.Prelude.{length, take, map, zip, All, slice_get, slice_index_or, Option, Some, None, Result, Ok}
+use Rattle.std.specs.Prelude.{Err, nat_le, nat_lt, if◌then◌else◌, ℤ, pos, ◌+ℤ◌, ◌-ℤ◌, ◌*ℤ◌, unsigned_abs}
 use Rattle.std.specs.Int.{w16, cast_signed}
 use Rattle.std.specs.List.{list_all, range_with_len}
 use Rattle.std.specs.Option.{ok_or}
@@ -22,8 +25,8 @@ use Rattle.subsetter_instance.specs.declared.glyphs.components.Component.{Compon
 use Rattle.subsetter_instance.specs.Source.{Source, description, metric}
 use Rattle.subsetter_sfnt.specs.declared.fields.hmtx.LongHorMetric.{LongHorMetric}
 
--- The number of each contour's last point, which points are on the curve, where they lie, and x of the left and of the right phantom point.
--- All coordinates are in parts of 2^30.
+-- The number of each contour's last point, which points are on the curve, where they lie, and x of the left and of the
+-- right phantom point. All coordinates are in parts of 2^30.
 pub record Unfolded : Type 0 where
   pub ends : List ℕ
   pub on : List Bool
@@ -55,13 +58,13 @@ in_range_or_fault u steps = if are_near u.xs && are_near u.ys then Ok (u, steps)
 
 -- ---- moved
 
--- where the points of an outline go, in parts of 2^30, in so many steps
+-- where the points of an outline go, in parts of 2^30, in at most `steps` steps
 abbrev pub moved : Option Gvar → ℕ → Outline → List ℤ → ℕ → Result (List ℤ × List ℤ × ℕ) Error
 moved None g o at steps = Ok (in_units o.xs, in_units o.ys, steps)
 moved (Some t) g o at steps = moved_points t g o at steps
 
--- four phantom points after n points, each a contour of its own. They are handed over at 0, as what moves them doesn't depend on where
--- they lie
+-- four phantom points after n points, each a contour of its own. They are handed over at 0, as what moves them doesn't
+-- depend on where they lie
 abbrev pub with_phantoms : List ℕ → List ℤ → List ℤ → Outline
 with_phantoms ends xs ys = record {
   xs = xs ++ (pos 0 ∷ pos 0 ∷ pos 0 ∷ pos 0 ∷ []);
@@ -69,7 +72,8 @@ with_phantoms ends xs ys = record {
   ends = ends ++ (length xs ∷ (length xs + 1) ∷ (length xs + 2) ∷ (length xs + 3) ∷ []);
 }
 
--- where the left side of the default lies: xMin of its header less its bearing, of a glyph without bytes 0 less its bearing
+-- where the left side of the default lies: xMin of its header less its bearing, of a glyph without bytes 0 less its
+-- bearing
 abbrev pub signed_or_zero : Option ℕ → ℤ
 signed_or_zero None = pos 0
 signed_or_zero (Some n) = cast_signed w16 n
@@ -80,12 +84,14 @@ x_min bytes = signed_or_zero (number bytes 2 2)
 abbrev pub left_side : List ℕ → LongHorMetric → ℤ
 left_side bytes m = x_min bytes -ℤ cast_signed w16 m.lsb
 
--- the left phantom point, and the right one, which is an advance from it: of the default, and moved as the first two of the points after n
+-- the left phantom point, and the right one, which is an advance from it: of the default, and moved as the first two of
+-- the points after n
 abbrev pub left_point : List ℕ → LongHorMetric → ℕ → List ℤ → ℤ
 left_point bytes m n xs = pos (2 ^ 30) *ℤ left_side bytes m +ℤ slice_index_or xs n (pos 0)
 
 abbrev pub right_point : List ℕ → LongHorMetric → ℕ → List ℤ → ℤ
-right_point bytes m n xs = pos (2 ^ 30) *ℤ (left_side bytes m +ℤ pos m.advance_width) +ℤ slice_index_or xs (n + 1) (pos 0)
+right_point bytes m n xs =
+    pos (2 ^ 30) *ℤ (left_side bytes m +ℤ pos m.advance_width) +ℤ slice_index_or xs (n + 1) (pos 0)
 
 -- ---- a simple glyph
 
@@ -124,7 +130,8 @@ unfolded_simple s at steps g bytes m = do
   in_range_or_fault (simple_outline bytes m outline.0 outline.1 to.0 to.1) to.2
 
 -- the same of an outline of which flags and coordinates are known
-unfoldable pub unfolded_by_flags : Source → List ℤ → ℕ → ℕ → List ℕ → LongHorMetric → List ℕ → List ℕ → List ℤ → List ℤ → Result (Unfolded × ℕ) Error
+unfoldable pub unfolded_by_flags : Source → List ℤ → ℕ → ℕ → List ℕ → LongHorMetric → List ℕ → List ℕ → List ℤ → List ℤ
+    → Result (Unfolded × ℕ) Error
 unfolded_by_flags s at steps g bytes m ends flags xs ys = do
   left ← spent (length flags + 5) steps
   to ← moved s.gvar g (with_phantoms ends xs ys) at left
@@ -158,15 +165,16 @@ shifted by vs = map (λ v. v +ℤ by) vs
 abbrev pub is_identity : Matrix → Bool
 is_identity m = int_eq m.xx (pos 16384) && (int_eq m.yx (pos 0) && (int_eq m.xy (pos 0) && int_eq m.yy (pos 16384)))
 
--- An offset is to be scaled: SCALED_COMPONENT_OFFSET with a matrix that isn't the identity (OpenType, "glyf": composite glyph flags). Beside
--- UNSCALED_COMPONENT_OFFSET, which is the default, it doesn't count.
+-- An offset is to be scaled: SCALED_COMPONENT_OFFSET with a matrix that isn't the identity (OpenType, "glyf": composite
+-- glyph flags). Beside UNSCALED_COMPONENT_OFFSET, which is the default, it doesn't count.
 abbrev pub is_scaled : ℕ → Option Matrix → Bool
 is_scaled flags None = false
 is_scaled flags (Some m) = has_flag flags 0x0800 && not (has_flag flags 0x1000 || is_identity m)
 
 -- a point by its number
 abbrev pub point_at : List ℤ → List ℤ → ℕ → Option (ℤ × ℤ)
-point_at xs ys number = optional.◌>>=◌ (slice_get xs number) (λ x. optional.◌>>=◌ (slice_get ys number) (λ y. Some (x, y)))
+point_at xs ys number =
+    optional.◌>>=◌ (slice_get xs number) (λ x. optional.◌>>=◌ (slice_get ys number) (λ y. Some (x, y)))
 
 -- how far a point of a component is from the point of those before it that it is to lie on
 unfoldable pub matched : Option (ℤ × ℤ) → Option (ℤ × ℤ) → Result (ℤ × ℤ) Error
@@ -175,16 +183,22 @@ matched parent child = do
   q ← ok_or child MalformedFont
   Ok (p.0 -ℤ q.0, p.1 -ℤ q.1)
 
--- how far a component moves: by its varied offset, which isn't taken where it is to be scaled, or until two points match
+-- how far a component moves: by its varied offset, which isn't taken where it is to be scaled, or until two points
+-- match
 abbrev pub shift_by : Arguments → Bool → ℤ → ℤ → Unfolded → List ℤ → List ℤ → Result (ℤ × ℤ) Error
 shift_by (Offset _ _) scaled x y before xs ys = if scaled then Err Unimplemented else Ok (x, y)
-shift_by (Points parent child) scaled x y before xs ys = matched (point_at before.xs before.ys parent) (point_at xs ys child)
+shift_by (Points parent child) scaled x y before xs ys =
+    matched (point_at before.xs before.ys parent) (point_at xs ys child)
 
 -- a component's points, through its matrix and moved
 unfoldable pub placed : Component → ℤ → ℤ → Unfolded → Unfolded → Result Unfolded Error
 placed c x y before part = do
-  by ← shift_by c.arguments (is_scaled c.flags c.matrix) x y before (transformed_xs c.matrix part.xs part.ys) (transformed_ys c.matrix part.xs part.ys)
-  Ok (record part { xs = shifted by.0 (transformed_xs c.matrix part.xs part.ys); ys = shifted by.1 (transformed_ys c.matrix part.xs part.ys) })
+  by ← shift_by c.arguments (is_scaled c.flags c.matrix) x y before
+      (transformed_xs c.matrix part.xs part.ys) (transformed_ys c.matrix part.xs part.ys)
+  Ok (record part {
+    xs = shifted by.0 (transformed_xs c.matrix part.xs part.ys);
+    ys = shifted by.1 (transformed_ys c.matrix part.xs part.ys);
+  })
 
 -- after the components before it: at most 65535 points
 abbrev pub joined_parts : Unfolded → Unfolded → Unfolded
@@ -196,7 +210,8 @@ joined_parts before part = record before {
 }
 
 abbrev pub joined_or_fault : Unfolded → Unfolded → ℕ → Result (Unfolded × ℕ) Error
-joined_or_fault before part steps = if nat_lt (length before.on + length part.on) 65536 then Ok (joined_parts before part, steps) else Err OverflowError
+joined_or_fault before part steps =
+    if nat_lt (length before.on + length part.on) 65536 then Ok (joined_parts before part, steps) else Err OverflowError
 
 -- the components before it, with one more, and the steps that it left
 unfoldable pub with_part : Component → ℤ → ℤ → Unfolded → Unfolded → ℕ → Result (Unfolded × ℕ) Error
@@ -220,10 +235,11 @@ with_points c x y before part xs ys steps = do
   by ← shift_by c.arguments (is_scaled c.flags c.matrix) x y before xs ys
   joined_moved before part by.0 by.1 xs ys steps
 
--- USE_MY_METRICS: the phantom points of a component, as it is at the place, before its matrix and its offset, take the place of the glyph's
--- own and of those of the components before it
+-- USE_MY_METRICS: the phantom points of a component, as it is at the place, before its matrix and its offset, take the
+-- place of the glyph's own and of those of the components before it
 abbrev pub with_metrics : ℕ → Unfolded → Unfolded → Unfolded
-with_metrics flags before part = if has_flag flags 0x0200 then record before { left = part.left; right = part.right } else before
+with_metrics flags before part =
+    if has_flag flags 0x0200 then record before { left = part.left; right = part.right } else before
 
 abbrev pub with_component : Component → ℤ → ℤ → Unfolded → Unfolded → ℕ → Result (Unfolded × ℕ) Error
 with_component c x y before part steps = with_part c x y (with_metrics c.flags before part) part steps
@@ -255,17 +271,25 @@ pub record Composite : Type 0 where
   pub right : ℤ
   pub steps : ℕ
 
--- five steps, and one for each component, are taken before the variations are read. A component is a point of gvar, and a contour of its
--- own. The header has ten bytes
+-- five steps, and one for each component, are taken before the variations are read. A component is a point of gvar, and
+-- a contour of its own. The header has ten bytes
 unfoldable pub composite : Source → List ℤ → ℕ → ℕ → List ℕ → LongHorMetric → Result Composite Error
 composite s at steps g bytes m = do
   left ← spent 5 steps
   body ← ok_or (after 10 bytes) MalformedFont
   cs ← components_at left body
   to ← moved s.gvar g (with_phantoms (range_with_len 0 (length cs.0)) (offset_xs cs.0) (offset_ys cs.0)) at cs.1
-  Ok (record { components = cs.0; xs = to.0; ys = to.1; left = left_point bytes m (length cs.0) to.0; right = right_point bytes m (length cs.0) to.0; steps = to.2 })
+  Ok (record {
+    components = cs.0;
+    xs = to.0;
+    ys = to.1;
+    left = left_point bytes m (length cs.0) to.0;
+    right = right_point bytes m (length cs.0) to.0;
+    steps = to.2;
+  })
 
-unfoldable pub unfolded_composite : Child → Source → List ℤ → ℕ → ℕ → List ℕ → LongHorMetric → Result (Unfolded × ℕ) Error
+unfoldable pub unfolded_composite : Child → Source → List ℤ → ℕ → ℕ → List ℕ → LongHorMetric
+    → Result (Unfolded × ℕ) Error
 unfolded_composite child s at steps g bytes m = do
   c ← composite s at steps g bytes m
   joined child c.components 0 c.xs c.ys (no_points c.left c.right, c.steps)
@@ -284,10 +308,11 @@ is_composite bytes = is_below_zero (number bytes 0 2)
 abbrev pub counted_description : Source → ℕ → Option (List ℕ)
 counted_description s g = if nat_lt g s.count then description s g else None
 
--- A glyph at a place, and the steps that are left. It may lead to components so many levels deep.
+-- A glyph at a place, and the steps that are left. It may lead to components down to a depth, in a number of steps.
 unfoldable pub unfolded : ℕ → Source → List ℤ → ℕ → ℕ → Result (Unfolded × ℕ) Error
 unfolded zero s at steps g = Err MalformedFont
 unfolded (suc depth) s at steps g = do
   bytes ← ok_or (counted_description s g) MalformedFont
   m ← ok_or (metric s g) MalformedFont
-  if is_composite bytes then unfolded_composite (unfolded depth s at) s at steps g bytes m else unfolded_simple s at steps g bytes m
+  if is_composite bytes then unfolded_composite (unfolded depth s at) s at steps g bytes m
+      else unfolded_simple s at steps g bytes m

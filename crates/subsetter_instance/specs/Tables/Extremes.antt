@@ -11,7 +11,8 @@ use Rattle.subsetter_instance.specs.declared.tables.extremes.Extents.{Extents}
 
 -- ---- a glyph with contours, and several
 
--- a right side bearing, which is 32767 where it is greater, as 16 bits hold no more; none is under -32767, as no advance is under 0
+-- a right side bearing, which is 32767 where it is greater, as 16 bits hold no more; none is under -32767, as no
+-- advance is under 0
 abbrev pub saturated : ℤ → ℤ
 saturated v = int_min v (pos 32767)
 
@@ -27,7 +28,13 @@ glyph_extents advance (p ∷ points) = Some (extents_of advance (box_around p po
 -- the least box around two, and the lesser right side bearing
 abbrev pub both : Extents → Extents → Extents
 both a b = record {
-  bounds = record { x_min = int_min a.bounds.x_min b.bounds.x_min; y_min = int_min a.bounds.y_min b.bounds.y_min; x_max = int_max a.bounds.x_max b.bounds.x_max; y_max = int_max a.bounds.y_max b.bounds.y_max };
+  bounds =
+      record {
+        x_min = int_min a.bounds.x_min b.bounds.x_min;
+        y_min = int_min a.bounds.y_min b.bounds.y_min;
+        x_max = int_max a.bounds.x_max b.bounds.x_max;
+        y_max = int_max a.bounds.y_max b.bounds.y_max;
+      };
   right = int_min a.right b.right;
 }
 
@@ -40,7 +47,7 @@ joined (Some a) (Some b) = Some (both a b)
 abbrev pub all_extents : List Drawn → Option Extents
 all_extents drawn = fold (λ e d. joined e (glyph_extents d.advance d.points)) None drawn
 
--- the greatest advance
+-- advanceWidthMax: the greatest advance
 abbrev pub widest : List Drawn → ℕ
 widest drawn = fold max 0 (map (λ d. d.advance) drawn)
 
@@ -51,9 +58,9 @@ abbrev pub box_bytes : Option Extents → List ℕ
 box_bytes None = 0 ∷ 0 ∷ 0 ∷ 0 ∷ 0 ∷ 0 ∷ 0 ∷ 0 ∷ []
 box_bytes (Some e) = bounds_bytes e.bounds
 
--- minLeftSideBearing, minRightSideBearing and xMaxExtent of "hhea": 0 where no glyph has contours. The left side bearing of a glyph is
--- its least x, so the least of them is that of the box; and the extent, which is the left side bearing and the width of the glyph's
--- box, is its greatest x
+-- minLeftSideBearing, minRightSideBearing and xMaxExtent of "hhea": 0 where no glyph has contours. The left side
+-- bearing of a glyph is its least x, so the least of them is that of the box; and the extent, which is the left side
+-- bearing and the width of the glyph's box, is its greatest x
 abbrev pub side_bytes : Option Extents → List ℕ
 side_bytes None = 0 ∷ 0 ∷ 0 ∷ 0 ∷ 0 ∷ 0 ∷ []
 side_bytes (Some e) = signed_word e.bounds.x_min ++ signed_word e.right ++ signed_word e.bounds.x_max

@@ -1,5 +1,6 @@
 -- The metrics of `hhea` and `post` that vary (OpenType, "MVAR", "hhea" and "post"), and the angle of `post` ("fvar").
-use Rattle.std.specs.Prelude.{ℕ, Bool, ◌+◌, List, ◌++◌, length, take, drop, slice_range, codes, Option, Some, None, Result, Ok, nat_lt, if◌then◌else◌, ℤ, pos, ◌+ℤ◌}
+use Rattle.std.specs.Prelude.{ℕ, Bool, ◌+◌, List, ◌++◌, length, take, drop, slice_range, codes, Option, Some, None}
+use Rattle.std.specs.Prelude.{Result, Ok, nat_lt, if◌then◌else◌, ℤ, pos, ◌+ℤ◌}
 use Rattle.std.specs.Int.{w32, cast_unsigned, to_be_bytes}
 use Rattle.std.specs.List.{list_all}
 use Rattle.std.specs.Option.{ok_or, option_and_then, option_map}
@@ -33,7 +34,8 @@ abbrev pub line_bytes : ℤ × ℤ × ℤ → List ℕ
 line_bytes l = signed_word l.0 ++ signed_word l.1 ++ signed_word l.2
 
 abbrev pub moved_hhea : List ℕ → ℤ × ℤ × ℤ → ℤ × ℤ × ℤ → List ℕ
-moved_hhea hhea lines caret = take 4 hhea ++ line_bytes lines ++ slice_range hhea 10 18 ++ line_bytes caret ++ drop 24 hhea
+moved_hhea hhea lines caret =
+    take 4 hhea ++ line_bytes lines ++ slice_range hhea 10 18 ++ line_bytes caret ++ drop 24 hhea
 
 -- ascender, descender and lineGap, and caretSlopeRise, caretSlopeRun and caretOffset; without MVAR nothing varies
 unfoldable pub varied_hhea : Option (List ℕ) → List ℤ → List ℕ → Result (List ℕ) Error
@@ -66,22 +68,24 @@ varied_post_if mvar at (Some post) = varied_post mvar at post >>= λ new. Ok (So
 
 -- ---- the slant
 
--- italicAngle of post is the coordinate on `slnt`, whose scale is that of post.italicAngle (OpenType, "Registered design-variation axis tag:
--- 'slnt'"), where the font has this axis; in 65536ths of a degree
+-- italicAngle of post is the coordinate on `slnt`, whose scale is that of post.italicAngle (OpenType, "Registered
+-- design-variation axis tag: 'slnt'"), where the font has this axis; in 65536ths of a degree
 abbrev pub slant_by : Option (List ℕ) → List (Tag × ℤ) → Option ℤ
-slant_by fvar settings = option_map (λ a. clamped a settings) (option_and_then (find_axis (codes "slnt")) (option_and_then axes fvar))
+slant_by fvar settings =
+    option_map (λ a. clamped a settings) (option_and_then (find_axis (codes "slnt")) (option_and_then axes fvar))
 
 -- the default: each coordinate is 0
 abbrev pub is_default : List ℤ → Bool
 is_default at = list_all (λ c. int_eq c (pos 0)) at
 
--- off the default
+-- italicAngle by `slnt`, off the default
 abbrev pub slant : (List ℕ → Option (List ℕ)) → List (Tag × ℤ) → List ℤ → Option ℤ
 slant find settings at = if is_default at then None else slant_by (find (codes "fvar")) settings
 
 -- a table that ends before it does stays
 abbrev pub with_angle : ℤ → List ℕ → List ℕ
-with_angle angle post = if nat_lt (length post) 8 then post else take 4 post ++ to_be_bytes w32 (cast_unsigned w32 angle) ++ drop 8 post
+with_angle angle post =
+    if nat_lt (length post) 8 then post else take 4 post ++ to_be_bytes w32 (cast_unsigned w32 angle) ++ drop 8 post
 
 abbrev pub slanted : Option ℤ → Option (List ℕ) → Option (List ℕ)
 slanted None post = post
@@ -103,4 +107,7 @@ lines_of find settings at = do
 
 -- the tables, these two as they vary
 abbrev pub with_lines : (List ℕ → Option (List ℕ)) → Lines → List ℕ → Option (List ℕ)
-with_lines find lines tag = if bytes_eq tag (codes "hhea") then Some lines.hhea else if bytes_eq tag (codes "post") then lines.post else find tag
+with_lines find lines tag =
+    if bytes_eq tag (codes "hhea") then Some lines.hhea
+    else if bytes_eq tag (codes "post") then lines.post
+    else find tag

@@ -34,8 +34,10 @@ abbrev pub starts_by : (ℕ → Option Drawn) → ℕ → List ℕ → List ℕ
 starts_by among at [] = []
 starts_by among at (g ∷ order) = at ∷ starts_by among (at + length (outline_bytes (among g))) order
 
--- where each of n glyphs begins from a number on, and where the last one ends: a glyph that isn't among these begins where the next of them does
+-- where each of n glyphs begins from a number on, and where the last one ends: a glyph that isn't among these begins
+-- where the next of them does
 abbrev pub offsets_by : ℕ → ℕ → ℕ → List ℕ → List ℕ → List ℕ
 offsets_by n end from [] starts = replicate (n + 1 - from) end
 offsets_by n end from (g ∷ order) [] = []
-offsets_by n end from (g ∷ order) (start ∷ starts) = replicate (g + 1 - from) start ++ offsets_by n end (g + 1) order starts
+offsets_by n end from (g ∷ order) (start ∷ starts) =
+    replicate (g + 1 - from) start ++ offsets_by n end (g + 1) order starts

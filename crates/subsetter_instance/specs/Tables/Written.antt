@@ -1,5 +1,6 @@
 -- The tables of an instance (OpenType, "glyf", "loca", "head", "hhea", "hmtx" and "maxp").
-use Rattle.std.specs.Prelude.{ℕ, ◌+◌, Bool, List, [], ◌∷◌, ◌++◌, length, map, slice_get, codes, Option, Some, None, max, nat_lt}
+use Rattle.std.specs.Prelude.{ℕ, ◌+◌, Bool, List, [], ◌∷◌, ◌++◌, length, map, slice_get, codes, Option, Some, None, max}
+use Rattle.std.specs.Prelude.{nat_lt}
 use Rattle.std.specs.List.{flat_map, fold, range_with_len}
 use Rattle.std.specs.Option.{option_and_then}
 use Rattle.std.specs.Int.{w16, w32, to_be_bytes, cast_unsigned}
@@ -49,12 +50,13 @@ drawn_metric (Some d) = record { advance_width = d.advance; lsb = cast_unsigned 
 abbrev pub hmtx_of : List (Option Drawn) → List ℕ
 hmtx_of all = hmtx_bytes (length all) (map drawn_metric all)
 
--- advanceWidthMax, minLeftSideBearing, minRightSideBearing and xMaxExtent are those of what is drawn, and numberOfHMetrics is the number of
--- glyphs
+-- advanceWidthMax, minLeftSideBearing, minRightSideBearing and xMaxExtent are those of what is drawn, and
+-- numberOfHMetrics is the number of glyphs
 abbrev pub hhea_bytes : ℕ → List Drawn → List ℕ → List ℕ
 hhea_bytes n drawn hhea = hhea_with (extreme_bytes drawn) n hhea
 
--- checksumAdjustment is 0 until the file is laid out, xMin, yMin, xMax and yMax are those of what is drawn, and indexToLocFormat is 0 or 1
+-- checksumAdjustment is 0 until the file is laid out, xMin, yMin, xMax and yMax are those of what is drawn, and
+-- indexToLocFormat is 0 or 1
 abbrev pub head_bytes : Bool → List Drawn → List ℕ → List ℕ
 head_bytes long drawn head = head_with long (box_bytes (all_extents drawn)) head
 
@@ -65,10 +67,13 @@ most_points drawn = fold max 0 (map (λ d. length d.points) drawn)
 abbrev pub most_contours : List Drawn → ℕ
 most_contours drawn = fold max 0 (map (λ d. length d.ends) drawn)
 
--- version 1.0: the number of glyphs, the most points and contours, none of composite glyphs; one zone; nothing of instructions; no
--- component, at depth 1
+-- version 1.0: the number of glyphs, the most points and contours, none of composite glyphs; one zone; nothing of
+-- instructions; no component, at depth 1
 abbrev pub maxp_bytes : ℕ → List Drawn → List ℕ
-maxp_bytes n drawn = to_be_bytes w32 0x00010000 ++ flat_map (to_be_bytes w16) (n ∷ most_points drawn ∷ most_contours drawn ∷ 0 ∷ 0 ∷ 1 ∷ 0 ∷ 0 ∷ 0 ∷ 0 ∷ 0 ∷ 0 ∷ 0 ∷ 1 ∷ [])
+maxp_bytes n drawn =
+    to_be_bytes w32 0x00010000
+    ++ flat_map (to_be_bytes w16)
+    (n ∷ most_points drawn ∷ most_contours drawn ∷ 0 ∷ 0 ∷ 1 ∷ 0 ∷ 0 ∷ 0 ∷ 0 ∷ 0 ∷ 0 ∷ 0 ∷ 1 ∷ [])
 
 -- the tables: no hinting, and name and post as they are found
 abbrev pub tables : (List ℕ → Option (List ℕ)) → List ℕ → List ℕ → ℕ → List Drawn → List (Option Drawn) → FontTables

@@ -30,7 +30,9 @@ index_to_loc_format head = number head 50 2
 abbrev pub format_bytes : Bool → List ℕ
 format_bytes long = 0 ∷ (if long then 1 else 0) ∷ []
 
--- `head` with zeros in checksumAdjustment (bytes 8 to 12) until the file is laid out, with a box in xMin, yMin, xMax and yMax (36 to 44), and with the format of loca in
--- indexToLocFormat (50 to 52)
+-- `head` with zeros in checksumAdjustment (bytes 8 to 12) until the file is laid out, with a box in xMin, yMin, xMax
+-- and yMax (36 to 44), and with the format of loca in indexToLocFormat (50 to 52)
 abbrev pub head_with : Bool → List ℕ → List ℕ → List ℕ
-head_with long box head = take 8 head ++ (0 ∷ 0 ∷ 0 ∷ 0 ∷ []) ++ (slice_range head 12 36 ++ box ++ slice_range head 44 50) ++ format_bytes long ++ drop 52 head
+head_with long box head =
+    take 8 head ++ (0 ∷ 0 ∷ 0 ∷ 0 ∷ []) ++ (slice_range head 12 36 ++ box ++ slice_range head 44 50)
+    ++ format_bytes long ++ drop 52 head

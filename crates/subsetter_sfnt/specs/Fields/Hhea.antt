@@ -9,12 +9,14 @@ ascender hhea = signed_field hhea 4
 abbrev pub descender : Option (List ℕ) → Option ℤ
 descender hhea = signed_field hhea 6
 
--- numberOfHMetrics
+-- numberOfHMetrics, at byte 34
 abbrev pub number_of_h_metrics : List ℕ → Option ℕ
 number_of_h_metrics hhea = number hhea 34 2
 
 -- ---- written
 
--- `hhea` with extremes in advanceWidthMax, minLeftSideBearing, minRightSideBearing and xMaxExtent (bytes 10 to 18), and with numberOfHMetrics (34 to 36)
+-- `hhea` with extremes in advanceWidthMax, minLeftSideBearing, minRightSideBearing and xMaxExtent (bytes 10 to 18), and
+-- with numberOfHMetrics (34 to 36)
 abbrev pub hhea_with : List ℕ → ℕ → List ℕ → List ℕ
-hhea_with extremes count hhea = (take 10 hhea ++ extremes ++ slice_range hhea 18 34) ++ to_be_bytes w16 count ++ drop 36 hhea
+hhea_with extremes count hhea =
+    (take 10 hhea ++ extremes ++ slice_range hhea 18 34) ++ to_be_bytes w16 count ++ drop 36 hhea

@@ -15,6 +15,6 @@ loca_offset loca long g = if long then number loca (4 * g) 4 else option_map (λ
 abbrev pub offset_bytes : Bool → ℕ → List ℕ
 offset_bytes long at = if long then to_be_bytes w32 at else to_be_bytes w16 (at / 2)
 
--- the table of offsets
+-- the bytes of loca: offsets of four bytes, or their halves in two bytes
 abbrev pub loca_bytes : Bool → List ℕ → List ℕ
 loca_bytes long offsets = flat_map (offset_bytes long) offsets

@@ -57,10 +57,15 @@ pub record FontTables : Type 0 where
 -- their rows, in ascending order of their tags
 abbrev pub rows : FontTables → List Row
 rows t =
-    record { tag = codes "CFF "; bytes = t.cff } ∷ record { tag = codes "cvt "; bytes = t.cvt } ∷ record { tag = codes "fpgm"; bytes = t.fpgm } ∷ record { tag = codes "glyf"; bytes = t.glyf } ∷ record { tag = codes "head"; bytes = t.head } ∷ record { tag = codes "hhea"; bytes = t.hhea } ∷ record { tag = codes "hmtx"; bytes = t.hmtx }
-    ∷ record { tag = codes "loca"; bytes = t.loca } ∷ record { tag = codes "maxp"; bytes = t.maxp } ∷ record { tag = codes "name"; bytes = t.name } ∷ record { tag = codes "post"; bytes = t.post } ∷ record { tag = codes "prep"; bytes = t.prep } ∷ []
+    record { tag = codes "CFF "; bytes = t.cff } ∷ record { tag = codes "cvt "; bytes = t.cvt }
+    ∷ record { tag = codes "fpgm"; bytes = t.fpgm } ∷ record { tag = codes "glyf"; bytes = t.glyf }
+    ∷ record { tag = codes "head"; bytes = t.head } ∷ record { tag = codes "hhea"; bytes = t.hhea }
+    ∷ record { tag = codes "hmtx"; bytes = t.hmtx }
+    ∷ record { tag = codes "loca"; bytes = t.loca } ∷ record { tag = codes "maxp"; bytes = t.maxp }
+    ∷ record { tag = codes "name"; bytes = t.name } ∷ record { tag = codes "post"; bytes = t.post }
+    ∷ record { tag = codes "prep"; bytes = t.prep } ∷ []
 
--- the tables of every font that a source has; hhea stands with hmtx alone
+-- the tables of every font that a source has; hhea is there only with hmtx
 abbrev pub shared_in : (List ℕ → Option (List ℕ)) → FontTables
 shared_in find = record {
   cff = None;
@@ -79,9 +84,16 @@ shared_in find = record {
 
 -- the tables that a subset calls for: those of every font, and those of its kind of outlines
 abbrev pub called_for : FontFlavor → (List ℕ → Option (List ℕ)) → FontTables
-called_for TrueType find = record (shared_in find) { cvt = find (codes "cvt "); fpgm = find (codes "fpgm"); glyf = find (codes "glyf"); loca = find (codes "loca"); prep = find (codes "prep") }
+called_for TrueType find =
+    record (shared_in find) {
+      cvt = find (codes "cvt ");
+      fpgm = find (codes "fpgm");
+      glyf = find (codes "glyf");
+      loca = find (codes "loca");
+      prep = find (codes "prep");
+    }
 called_for Cff find = record (shared_in find) { cff = find (codes "CFF ") }
 
--- their tags
+-- the tags of the tables of a new font
 abbrev pub tags_of : FontFlavor → (List ℕ → Option (List ℕ)) → List (List ℕ)
 tags_of flavor find = tags (present (rows (called_for flavor find)))

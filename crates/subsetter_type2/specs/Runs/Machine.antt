@@ -1,13 +1,15 @@
 -- The machine that runs a charstring (Technical Note 5177, sections 3 and 4). It puts no subroutine into another:
 -- it keeps, of each charstring that it has entered, the bytes that are left.
-use Rattle.std.specs.Prelude.{ℕ, zero, suc, ◌+◌, ◌-◌, ◌/◌, List, [], ◌∷◌, ◌++◌, Option, Some, None, nat_lt, nat_le, ◌==◌, if◌then◌else◌, length, take, drop, slice_get}
+use Rattle.std.specs.Prelude.{ℕ, zero, suc, ◌+◌, ◌-◌, ◌/◌, List, [], ◌∷◌, ◌++◌, Option, Some, None, nat_lt, nat_le}
+use Rattle.std.specs.Prelude.{◌==◌, if◌then◌else◌, length, take, drop, slice_get}
 use Rattle.std.specs.Option.{option_and_then}
 use Rattle.subsetter_base.specs.declared.error.Error.{Error}
 use Rattle.subsetter_base.specs.declared.error.Error.TheVariants.{CFFError, Unimplemented}
 use Rattle.subsetter_cffdata.specs.declared.numerals.charstring_number.CharStringNumber.{CharStringNumber}
 use Rattle.subsetter_cffdata.specs.declared.dicts.operator.Operator.{Operator}
 use Rattle.subsetter_type2.specs.declared.token.Effect.{Effect}
-use Rattle.subsetter_type2.specs.declared.token.Effect.TheVariants.{CountsStems, Draws, CallsLocal, CallsGlobal, Returns, Ends, Masks}
+use Rattle.subsetter_type2.specs.declared.token.Effect.TheVariants.{CountsStems, Draws, CallsLocal, CallsGlobal}
+use Rattle.subsetter_type2.specs.declared.token.Effect.TheVariants.{Returns, Ends, Masks}
 use Rattle.subsetter_cffdata.specs.Numerals.CharStringNumber.{number_at, whole_of}
 use Rattle.subsetter_type2.specs.Subroutines.{biased_entry}
 use Rattle.subsetter_type2.specs.Token.{Token, Operand, Operation, token_of, effect_of}
@@ -191,10 +193,11 @@ abbrev pub ended_or : List (List ℕ) → Outcome → (List ℕ → List (List �
 ended_or [] over go = over
 ended_or (bytes ∷ callers) over go = go bytes callers
 
--- a run from a state in which these events have come, with so many tokens at most
+-- a run from a state in which these events have come, with at most n tokens
 unfoldable pub run : Library → ℕ → ℕ → List Event → State → Outcome
 run library depth zero said s =
-    ended_or (unended s.rests) (Finishes (record { events = said; left = s.registers.operands })) (λ bytes callers. Stops CFFError)
+    ended_or (unended s.rests) (Finishes (record { events = said; left = s.registers.operands }))
+    (λ bytes callers. Stops CFFError)
 run library depth (suc tokens) said s =
     ended_or (unended s.rests) (Finishes (record { events = said; left = s.registers.operands }))
     (λ bytes callers. follow (move depth callers (act_at library bytes s.registers)) said (run library depth tokens))
@@ -202,7 +205,7 @@ run library depth (suc tokens) said s =
 abbrev pub start : List ℕ → State
 start charstring = record { rests = charstring ∷ []; registers = record { operands = []; stems = 0; mask_len = 0 } }
 
--- how the run of a glyph's own charstring ends, with so many tokens and callers at most
+-- how the run of a glyph's own charstring ends, with at most `tokens` tokens and `depth` callers
 unfoldable pub outcome : Library → ℕ → ℕ → List ℕ → Outcome
 outcome library tokens depth charstring = run library depth tokens [] (start charstring)
 

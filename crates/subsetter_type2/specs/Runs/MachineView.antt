@@ -26,5 +26,10 @@ continuation_of Ends = Over
 abbrev pub Performs : {S : Type 0} → Act → (S → Written) → Machine S → Machine S → Result Flow Error → Type 0
 Performs a written old new result =
     MatchResult result
-    (λ flow. done a (written old.output).settled ≡ Ok (record { registers = registers_of written new; settled = (written new.output).settled; lead = continuation_of flow }))
+    (λ flow. done a (written old.output).settled
+    ≡ Ok (record {
+      registers = registers_of written new;
+      settled = (written new.output).settled;
+      lead = continuation_of flow;
+    }))
     (λ error. error ≢ OutOfMemory → done a (written old.output).settled ≡ Err error)

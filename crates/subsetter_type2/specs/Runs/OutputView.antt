@@ -1,5 +1,6 @@
 -- How the output holds what is written.
-use Rattle.std.specs.Prelude.{◌≡◌, ℕ, zero, suc, ◌+◌, ◌≤◌, List, [], ◌∷◌, ◌++◌, length, take, drop, Option, Some, None, MatchOption}
+use Rattle.std.specs.Prelude.{◌≡◌, ℕ, zero, suc, ◌+◌, ◌≤◌, List, [], ◌∷◌, ◌++◌, length, take, drop, Option, Some, None}
+use Rattle.std.specs.Prelude.{MatchOption}
 use Rattle.subsetter_cffdata.specs.declared.numerals.charstring_number.CharStringNumber.{CharStringNumber}
 use Rattle.subsetter_cffdata.specs.Numerals.CharStringNumber.{NumberFits, number_at}
 use Rattle.subsetter_type2.specs.declared.runs.last_number.LastNumber.{LastNumber}
@@ -15,16 +16,17 @@ abbrev pub first_and : Option (CharStringNumber × List ℕ) → (List ℕ → L
 first_and None go = []
 first_and (Some r) go = r.0 ∷ go r.1
 
--- so many numbers, as the bytes spell them
+-- n numbers, as the bytes spell them
 unfoldable pub numbers_of : ℕ → List ℕ → List CharStringNumber
 numbers_of zero bytes = []
 numbers_of (suc count) bytes = first_and (number_at bytes) (numbers_of count)
 
--- what is written, where so many operands begin at this place
+-- what is written, where `count` operands begin at this place
 abbrev pub written_at : List ℕ → ℕ → ℕ → Written
-written_at bytes settled count = record { settled = take settled bytes; operands = numbers_of count (drop settled bytes) }
+written_at bytes settled count =
+    record { settled = take settled bytes; operands = numbers_of count (drop settled bytes) }
 
--- the bytes are what is settled, and then so many operands, which begin at this place
+-- the bytes are what is settled, and then `count` operands, which begin at this place
 pub record IsOutput (bytes : List ℕ) (settled count : ℕ) (w : Written) : Type 0 where
   pub bytes_are : bytes ≡ w.settled ++ flat_operands w.operands
   pub offset : settled ≡ length w.settled
@@ -40,7 +42,7 @@ pub record Holds (bytes : List ℕ) (settled count last : ℕ) (w : Written) : T
   pub stands : IsOutput bytes settled count w
   pub known : 1 ≤ count → (last ≡ 0 → ⊥) → last ≡ last_operand_offset w
 
--- where the operands begin: after the last operator of a stretch that is after so many bytes; 0 where it has none
+-- where the operands begin: after the last operator of a stretch that is after `before` bytes; 0 where it has none
 abbrev pub operands_offset : ℕ → ℕ → ℕ → ℕ
 operands_offset zero settled before = settled
 operands_offset (suc end) settled before = before + suc end

@@ -16,7 +16,8 @@ rests_at_end EndChar callers = []
 -- the run with this outcome has come to the recursion's registers, with these rests
 abbrev pub Comes : Outcome → Library → ℕ → Recursion → List (List ℕ) → Type 0
 Comes o library limit d rests =
-    Reached o library limit d.tokens (record { rests = rests; registers = registers_of (λ w. w) d.machine }) d.machine.output.settled
+    Reached o library limit d.tokens
+    (record { rests = rests; registers = registers_of (λ w. w) d.machine }) d.machine.output.settled
 
 -- each run that comes to the start of this charstring, `depth` deep, comes to its end, or to this fault
 abbrev pub RunsThrough : Library → ℕ → ℕ → List ℕ → Recursion → Recursion → Result CharStringEnd Error → Type 0

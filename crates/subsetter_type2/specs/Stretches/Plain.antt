@@ -1,7 +1,8 @@
 -- Tokens of one or two bytes that are their own flat form.
 use Rattle.std.specs.Prelude.{ℕ, Option, Some, None, Bool, true, false, nat_lt, if◌then◌else◌}
 use Rattle.subsetter_type2.specs.declared.token.Effect.{Effect}
-use Rattle.subsetter_type2.specs.declared.token.Effect.TheVariants.{CountsStems, Draws, CallsLocal, CallsGlobal, Returns, Ends, Masks}
+use Rattle.subsetter_type2.specs.declared.token.Effect.TheVariants.{CountsStems, Draws, CallsLocal, CallsGlobal}
+use Rattle.subsetter_type2.specs.declared.token.Effect.TheVariants.{Returns, Ends, Masks}
 use Rattle.subsetter_type2.specs.Token.{one_byte_effect}
 
 abbrev pub draws : Option Effect → Bool

@@ -1,13 +1,15 @@
--- The points of a glyph, moved by its tuples one after the other (OpenType, "gvar"), in a number of steps: 1 for each tuple, and 1 for each point of
--- one that counts. Each is taken before what it is for is read.
-use Rattle.std.specs.Prelude.{◌≡◌, ℕ, zero, suc, ◌-◌, ◌≤◌, ◌<◌, ◌^◌, ◌==◌, ℤ, pos, List, length, Option, Result, Ok, Err, nat_le, if◌then◌else◌, unsigned_abs, All}
+-- The points of a glyph, moved by its tuples one after the other (OpenType, "gvar"), in a number of steps: 1 for each
+-- tuple, and 1 for each point of one that counts. Each is taken before what it is for is read.
+use Rattle.std.specs.Prelude.{◌≡◌, ℕ, zero, suc, ◌-◌, ◌≤◌, ◌<◌, ◌^◌, ◌==◌, ℤ, pos, List, length, Option, Result, Ok}
+use Rattle.std.specs.Prelude.{Err, nat_le, if◌then◌else◌, unsigned_abs, All}
 use Rattle.std.specs.Option.{ok_or}
 use Rattle.std.specs.Ordering.{int_eq}
 use Rattle.subsetter_base.specs.Bytes.{◌>>=◌}
 use Rattle.subsetter_base.specs.declared.error.Error.{Error}
 use Rattle.subsetter_base.specs.declared.error.Error.TheVariants.{MalformedFont, OverflowError}
 use Rattle.subsetter_variation.specs.Region.{scalar}
-use Rattle.subsetter_variation.specs.Glyphs.Tuples.{Gvar, TupleHeaders, TupleHeader, next_header, tuple_of, variations_of, tuple_headers, shared_numbers}
+use Rattle.subsetter_variation.specs.Glyphs.Tuples.{Gvar, TupleHeaders, TupleHeader, next_header, tuple_of}
+use Rattle.subsetter_variation.specs.Glyphs.Tuples.{variations_of, tuple_headers, shared_numbers}
 use Rattle.subsetter_variation.specs.Glyphs.Varied.{AreEnds, added, deltas_by_point, in_units}
 
 -- The default outline of a glyph: the coordinates of its points, phantom points last, and the ends of its contours.
@@ -28,11 +30,15 @@ pub record Walk : Type 0 where
 
 -- as many points as the outline has, each coordinate within b
 abbrev pub IsWithin : ℕ → Outline → Walk → Type 0
-IsWithin b o w = (length w.xs ≡ length o.xs) × (length w.ys ≡ length o.xs) × All (λ z. unsigned_abs z ≤ b) w.xs × All (λ z. unsigned_abs z ≤ b) w.ys
+IsWithin b o w =
+    (length w.xs ≡ length o.xs) × (length w.ys ≡ length o.xs) × All (λ z. unsigned_abs z ≤ b) w.xs
+    × All (λ z. unsigned_abs z ≤ b) w.ys
 
 -- the same of the coordinates alone
 abbrev pub AreWithin : ℕ → Outline → List ℤ → List ℤ → Type 0
-AreWithin b o xs ys = (length xs ≡ length o.xs) × (length ys ≡ length o.xs) × All (λ z. unsigned_abs z ≤ b) xs × All (λ z. unsigned_abs z ≤ b) ys
+AreWithin b o xs ys =
+    (length xs ≡ length o.xs) × (length ys ≡ length o.xs) × All (λ z. unsigned_abs z ≤ b) xs
+    × All (λ z. unsigned_abs z ≤ b) ys
 
 -- n of the steps that are left
 abbrev pub spent : ℕ → ℕ → Result ℕ Error
@@ -81,7 +87,8 @@ moved_in_bytes t o at steps bytes = do
   w ← walk_all t o shared.0 at shared.1.left (start o steps shared.1)
   Ok (w.xs, w.ys, w.steps)
 
--- where the points of a glyph go at a location, in parts of 2^30, and the steps that are left; they are unmoved where it has no variations
+-- where the points of a glyph go at a location, in parts of 2^30, and the steps that are left; they are unmoved where
+-- it has no variations
 unfoldable pub moved_points : Gvar → ℕ → Outline → List ℤ → ℕ → Result (List ℤ × List ℤ × ℕ) Error
 moved_points t g o at steps = do
   bytes ← ok_or (variations_of t g) MalformedFont

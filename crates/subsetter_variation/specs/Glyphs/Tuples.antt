@@ -1,5 +1,6 @@
 -- The variations of a glyph (OpenType, "gvar" and "Tuple Variation Store").
-use Rattle.std.specs.Prelude.{ℕ, zero, suc, ◌+◌, ◌-◌, ◌*◌, ◌%◌, ◌==◌, Bool, true, false, List, [], ◌∷◌, length, take, drop, Option, Some, None, nat_lt, nat_le, int_lt, if◌then◌else◌, ℤ, pos}
+use Rattle.std.specs.Prelude.{ℕ, zero, suc, ◌+◌, ◌-◌, ◌*◌, ◌%◌, ◌==◌, Bool, true, false, List, [], ◌∷◌, length, take}
+use Rattle.std.specs.Prelude.{drop, Option, Some, None, nat_lt, nat_le, int_lt, if◌then◌else◌, ℤ, pos}
 use Rattle.std.specs.Int.{w16, cast_signed}
 use Rattle.std.specs.Option.{option_map}
 use Rattle.subsetter_base.specs.Bytes.{be, range, number, from_offset, between_offsets}
@@ -12,7 +13,8 @@ abbrev pub split : ℕ → List ℕ → Option (List ℕ × List ℕ)
 split n bytes = if nat_le n (length bytes) then Some (take n bytes, drop n bytes) else None
 
 -- ---- the table
--- How many axes and glyphs there are, the bytes of the shared tuples, the offsets of the glyphs' variations, of two or four bytes each, and the bytes that these count in.
+-- How many axes and glyphs there are, the bytes of the shared tuples, the offsets of the glyphs' variations, of two or
+-- four bytes each, and the bytes that these count in.
 pub record Gvar : Type 0 where
   pub axis_count : ℕ
   pub glyph_count : ℕ
@@ -34,7 +36,14 @@ parts gvar axis_count glyph_count long = do
   shared ← range gvar shared_at (shared_count * tuple_size axis_count)
   offsets ← range gvar 20 ((glyph_count + 1) * (if long then 4 else 2))
   variations ← from_offset gvar from
-  Some (record { axis_count = axis_count; glyph_count = glyph_count; long = long; shared = shared; offsets = offsets; variations = variations })
+  Some (record {
+    axis_count = axis_count;
+    glyph_count = glyph_count;
+    long = long;
+    shared = shared;
+    offsets = offsets;
+    variations = variations;
+  })
 
 -- offsets are long where bit 0 of the flags is set
 unfoldable pub gvar_table : List ℕ → Option Gvar
@@ -77,22 +86,28 @@ short bytes = cast_signed w16 (be (take 2 bytes))
 
 -- without ends of its own a peak counts from the default on, and on its side of it alone
 abbrev pub plain_region_axis : ℤ → RegionAxis
-plain_region_axis peak = if int_lt peak (pos 0) then record { start = peak; peak = peak; end = pos 0 } else record { start = pos 0; peak = peak; end = peak }
+plain_region_axis peak =
+    if int_lt peak (pos 0) then record { start = peak; peak = peak; end = pos 0 }
+    else record { start = pos 0; peak = peak; end = peak }
 
 -- on the first axis, with ends of its own or without
 abbrev pub region_axis_of : Bool → List ℕ → List ℕ → List ℕ → RegionAxis
-region_axis_of inner peaks starts ends = if inner then record { start = short starts; peak = short peaks; end = short ends } else plain_region_axis (short peaks)
+region_axis_of inner peaks starts ends =
+    if inner then record { start = short starts; peak = short peaks; end = short ends }
+    else plain_region_axis (short peaks)
 
--- on so many axes
+-- a region on the next n axes
 abbrev pub region_axes : Bool → ℕ → List ℕ → List ℕ → List ℕ → List RegionAxis
 region_axes inner zero peaks starts ends = []
-region_axes inner (suc n) peaks starts ends = region_axis_of inner peaks starts ends ∷ region_axes inner n (drop 2 peaks) (drop 2 starts) (drop 2 ends)
+region_axes inner (suc n) peaks starts ends =
+    region_axis_of inner peaks starts ends ∷ region_axes inner n (drop 2 peaks) (drop 2 starts) (drop 2 ends)
 
 -- the peaks: bit 0x8000, they are in the header, else among the shared tuples, at the index in the low twelve bits
 abbrev pub peaks_in : Gvar → ℕ → List ℕ → Option (List ℕ × List ℕ)
 peaks_in t flags bytes =
     if nat_le 32768 flags then split (tuple_size t.axis_count) bytes
-    else option_map (λ peaks. (peaks, bytes)) (range t.shared (flags % 4096 * tuple_size t.axis_count) (tuple_size t.axis_count))
+    else option_map (λ peaks. (peaks, bytes))
+    (range t.shared (flags % 4096 * tuple_size t.axis_count) (tuple_size t.axis_count))
 
 -- bit 0x4000: starts and ends are after
 abbrev pub ends_in : ℕ → ℕ → List ℕ → List ℕ → Option (List RegionAxis × List ℕ)
@@ -122,7 +137,10 @@ next_header t r = do
   flags ← word_in size.1
   region ← region_in t flags.0 flags.1
   own ← split size.0 r.serialized
-  Some (record { region = region.0; private_numbers = nat_le 8192 (flags.0 % 16384); packed = own.0 }, record { left = r.left - 1; headers = region.1; serialized = own.1 })
+  Some (
+    record { region = region.0; private_numbers = nat_le 8192 (flags.0 % 16384); packed = own.0 },
+    record { left = r.left - 1; headers = region.1; serialized = own.1 },
+  )
 
 -- ---- deltas
 -- those of x, then those of y, one for each point
@@ -161,5 +179,8 @@ shared_numbers limit is_shared r =
 -- a tuple with its point numbers, its own or the shared ones
 unfoldable pub tuple_of : ℕ → Option (List ℕ) → TupleHeader → Option Tuple
 tuple_of limit shared h =
-    if h.private_numbers then option_map (λ d. record { region = h.region; numbers = d.0; dx = d.1; dy = d.2 }) (numbers_and_deltas limit h.packed)
-    else option_map (λ d. record { region = h.region; numbers = shared; dx = d.0; dy = d.1 }) (both_deltas (count_of limit shared) h.packed)
+    if h.private_numbers
+    then option_map (λ d. record { region = h.region; numbers = d.0; dx = d.1; dy = d.2 })
+    (numbers_and_deltas limit h.packed)
+    else option_map (λ d. record { region = h.region; numbers = shared; dx = d.0; dy = d.1 })
+    (both_deltas (count_of limit shared) h.packed)

@@ -1,16 +1,20 @@
 -- Where the points of a glyph go along one axis (OpenType, "gvar": "Glyph variation data").
-use Rattle.std.specs.Prelude.{◌≡◌, ℕ, ◌+◌, ◌-◌, ◌^◌, ◌<◌, ◌≤◌, ◌==◌, ℤ, pos, ◌+ℤ◌, ◌*ℤ◌, nat_le, if◌then◌else◌, List, [], ◌∷◌, length, slice_get, slice_range, slice_index_or, Option, Some, None, option_map, map, zip}
+use Rattle.std.specs.Prelude.{◌≡◌, ℕ, ◌+◌, ◌-◌, ◌^◌, ◌<◌, ◌≤◌, ◌==◌, ℤ, pos, ◌+ℤ◌, ◌*ℤ◌, nat_le, if◌then◌else◌, List}
+use Rattle.std.specs.Prelude.{[], ◌∷◌, length, slice_get, slice_range, slice_index_or, Option, Some, None, option_map}
+use Rattle.std.specs.Prelude.{map, zip}
 use Rattle.std.specs.List.{range_with_len}
 use Rattle.subsetter_variation.specs.declared.glyphs.inference.Point.{Point}
 use Rattle.subsetter_variation.specs.Glyphs.Inferred.{moved}
 use Rattle.subsetter_variation.specs.Packing.Packed.{deltas}
 
--- the ends of the contours of n points, of which the first is the point start: each is the number of a contour's last point
+-- the ends of the contours of n points, of which the first is the point start: each is the number of a contour's last
+-- point
 abbrev pub AreEnds : ℕ → List ℕ → ℕ → Type 0
 AreEnds start [] n = start ≡ n
 AreEnds start (end ∷ ends) n = (start ≤ end) × (end < n) × AreEnds (end + 1) ends n
 
--- what a tuple moves the point k of a glyph by, where it isn't before start: its contour goes to the first end that isn't below k
+-- what a tuple moves the point k of a glyph by, where it isn't before start: its contour goes to the first end that
+-- isn't below k
 abbrev pub moved_in : List Point → ℕ → List ℕ → ℕ → ℤ → ℤ
 moved_in points start [] k scalar = pos 0
 moved_in points start (end ∷ ends) k scalar =
@@ -49,11 +53,15 @@ deltas_of ps = map (λ p. p.delta) ps
 
 -- the sums of the points, and what a tuple moves each by on top: always from the coordinates of the default outline
 abbrev pub added : List ℤ → List ℕ → List (Option ℤ) → ℤ → List ℤ → List ℤ
-added coordinates ends deltas scalar sums = map (λ k. slice_index_or sums k (pos 0) +ℤ moved_in (points coordinates deltas) 0 ends k scalar) (range_with_len 0 (length sums))
+added coordinates ends deltas scalar sums =
+    map (λ k. slice_index_or sums k (pos 0) +ℤ moved_in (points coordinates deltas) 0 ends k scalar)
+    (range_with_len 0 (length sums))
 
 -- the same of a tuple that gives each point a delta, whose bytes these are, and the bytes after these deltas
 abbrev pub added_to_each : List ℤ → List ℕ → List ℕ → ℤ → List ℤ → Option (List ℤ × List ℕ)
-added_to_each coordinates ends bytes scalar sums = option_map (λ d. (added coordinates ends (deltas_by_point (length coordinates) None d.0) scalar sums, d.1)) (deltas (length coordinates) bytes)
+added_to_each coordinates ends bytes scalar sums =
+    option_map (λ d. (added coordinates ends (deltas_by_point (length coordinates) None d.0) scalar sums, d.1))
+    (deltas (length coordinates) bytes)
 
 -- coordinates in parts of 2^30
 abbrev pub in_units : List ℤ → List ℤ

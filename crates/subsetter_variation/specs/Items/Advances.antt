@@ -1,17 +1,21 @@
--- The advances of `HVAR`, the vertical origins of `VVAR`, and the maps that lead from a glyph to its item (OpenType, "HVAR", "VVAR" and
--- "Associating Target Items to Variation Data").
-use Rattle.std.specs.Prelude.{ℕ, ◌+◌, ◌-◌, ◌*◌, ◌/◌, ◌%◌, ◌^◌, ◌==◌, List, length, map, Option, Some, None, nat_lt, if◌then◌else◌, ℤ, Result}
+-- The advances of `HVAR`, the vertical origins of `VVAR`, and the maps that lead from a glyph to its item (OpenType,
+-- "HVAR", "VVAR" and "Associating Target Items to Variation Data").
+use Rattle.std.specs.Prelude.{ℕ, ◌+◌, ◌-◌, ◌*◌, ◌/◌, ◌%◌, ◌^◌, ◌==◌, List, length, map, Option, Some, None, nat_lt}
+use Rattle.std.specs.Prelude.{if◌then◌else◌, ℤ, Result}
 use Rattle.std.specs.Option.{option_map}
 use Rattle.subsetter_base.specs.Bytes.{number, from_offset}
 use Rattle.subsetter_base.specs.declared.error.Error.{Error}
 use Rattle.subsetter_base.specs.Options.{◌>>=◌}
-use Rattle.subsetter_variation.specs.Items.ItemVariations.{Store, item_delta, item_store, nullable_offset, whole_or_fault}
+use Rattle.subsetter_variation.specs.Items.ItemVariations.{Store, item_delta, item_store, nullable_offset}
+use Rattle.subsetter_variation.specs.Items.ItemVariations.{whole_or_fault}
 
--- how many entries a map of indexes has, by its format, and where they stand
+-- how many entries a map of indexes has, by its format, and where they are
 abbrev pub map_head : List ℕ → Option (ℕ × ℕ)
 map_head map = do
   format ← number map 0 1
-  if format == 0 then option_map (λ n. (n, 4)) (number map 2 2) else if format == 1 then option_map (λ n. (n, 6)) (number map 2 4) else None
+  if format == 0 then option_map (λ n. (n, 4)) (number map 2 2)
+      else if format == 1 then option_map (λ n. (n, 6)) (number map 2 4)
+      else None
 
 -- an entry: its low bits are the inner index, the others the outer one
 abbrev pub split_index : ℕ → ℕ → ℕ × ℕ
@@ -21,12 +25,14 @@ split_index bits entry = (entry / 2 ^ bits, entry % 2 ^ bits)
 abbrev pub entry_index : ℕ → ℕ → ℕ
 entry_index count g = if nat_lt g count then g else count - 1
 
--- entryFormat says the size of an entry, less one, in the bits 0x30, and how many bits the inner index has, less one, in 0x0F
+-- entryFormat says the size of an entry, less one, in the bits 0x30, and how many bits the inner index has, less one,
+-- in 0x0F
 unfoldable pub mapped_index : List ℕ → ℕ → Option (ℕ × ℕ)
 mapped_index map g = do
   head ← map_head map
   form ← number map 1 1
-  entry ← if head.0 == 0 then None else number map (head.1 + entry_index head.0 g * (form / 16 % 4 + 1)) (form / 16 % 4 + 1)
+  entry ← if head.0 == 0 then None
+      else number map (head.1 + entry_index head.0 g * (form / 16 % 4 + 1)) (form / 16 % 4 + 1)
   Some (split_index (form % 16 + 1) entry)
 
 -- the outer and the inner index of a glyph's advance: without a map 0 and the glyph

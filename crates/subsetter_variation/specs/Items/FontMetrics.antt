@@ -1,5 +1,6 @@
 -- Metrics of a whole font that vary (OpenType, "MVAR").
-use Rattle.std.specs.Prelude.{ℕ, zero, suc, ◌+◌, ◌*◌, ◌==◌, List, length, take, drop, Option, Some, None, nat_lt, if◌then◌else◌, ℤ, pos}
+use Rattle.std.specs.Prelude.{ℕ, zero, suc, ◌+◌, ◌*◌, ◌==◌, List, length, take, drop, Option, Some, None, nat_lt}
+use Rattle.std.specs.Prelude.{if◌then◌else◌, ℤ, pos}
 use Rattle.std.specs.Str.{bytes_eq}
 use Rattle.subsetter_base.specs.Bytes.{be, range, number, from_offset}
 use Rattle.subsetter_base.specs.Options.{◌>>=◌}
@@ -9,7 +10,8 @@ use Rattle.subsetter_variation.specs.Items.ItemVariations.{Store, item_delta, it
 abbrev pub value_indexes : List ℕ → ℕ × ℕ
 value_indexes bytes = (be (take 2 (drop 4 bytes)), be (take 2 (drop 6 bytes)))
 
--- those of the first of n records, the record k and those after it, that has a tag, if one has; the records have one size
+-- those of the first of n records, the record k and those after it, that has a tag, if one has; the records have one
+-- size
 abbrev pub value_from : ℕ → ℕ → ℕ → List ℕ → List ℕ → Option (Option (ℕ × ℕ))
 value_from zero k size mvar tag = Some None
 value_from (suc n) k size mvar tag = do

@@ -1,5 +1,7 @@
 -- Item variation stores (OpenType, "Item Variation Store").
-use Rattle.std.specs.Prelude.{ℕ, zero, suc, ◌+◌, ◌*◌, ◌/◌, ◌%◌, ◌^◌, ◌==◌, ◌&&◌, Bool, List, length, map, drop, take, Option, Some, None, Result, Ok, Err, nat_lt, nat_le, if◌then◌else◌, ℤ, pos, ◌+ℤ◌, ◌*ℤ◌, unsigned_abs}
+use Rattle.std.specs.Prelude.{ℕ, zero, suc, ◌+◌, ◌*◌, ◌/◌, ◌%◌, ◌^◌, ◌==◌, ◌&&◌, Bool, List, length, map, drop, take}
+use Rattle.std.specs.Prelude.{Option, Some, None, Result, Ok, Err, nat_lt, nat_le, if◌then◌else◌, ℤ, pos, ◌+ℤ◌, ◌*ℤ◌}
+use Rattle.std.specs.Prelude.{unsigned_abs}
 use Rattle.std.specs.Int.{w8, w16, w32, cast_signed}
 use Rattle.std.specs.List.{range_with_len}
 use Rattle.std.specs.Option.{option_map}
@@ -12,14 +14,15 @@ use Rattle.subsetter_variation.specs.Nearest.{nearest}
 use Rattle.subsetter_variation.specs.Region.{scalar}
 use Rattle.subsetter_variation.specs.declared.region.RegionAxis.{RegionAxis}
 
--- an offset of 32 bits, unless it is 0, which stands for no table (OpenType, "Data Types")
+-- an offset of 32 bits, unless it is 0, which means no table (OpenType, "Data Types")
 abbrev pub nullable_offset : List ℕ → ℕ → Option ℕ
 nullable_offset bytes at = do
   offset ← number bytes at 4
   if offset == 0 then None else Some offset
 
 -- ---- the store
--- The axes of a region, the bytes of the regions, how many there are, and the bytes of the store, in which its item variation data lie.
+-- The axes of a region, the bytes of the regions, how many there are, and the bytes of the store, in which its item
+-- variation data lie.
 pub record Store : Type 0 where
   pub axis_count : ℕ
   pub region_count : ℕ
@@ -34,7 +37,9 @@ item_store bytes = do
   axis_count ← number bytes at 2
   region_count ← number bytes (at + 2) 2
   regions ← range bytes (at + 4) (region_count * (axis_count * 6))
-  if format == 1 then Some (record { axis_count = axis_count; region_count = region_count; regions = regions; bytes = bytes }) else None
+  if format == 1
+      then Some (record { axis_count = axis_count; region_count = region_count; regions = regions; bytes = bytes })
+      else None
 
 -- on one axis: startCoord, peakCoord and endCoord
 abbrev pub region_axis_in : List ℕ → RegionAxis
@@ -43,14 +48,17 @@ region_axis_in bytes = record { start = signed_at bytes 0; peak = signed_at byte
 -- a region, if the list has as many
 abbrev pub region_items : Store → ℕ → Option Items
 region_items s index =
-    if nat_lt index s.region_count then option_map (λ bytes. record { bytes = bytes; count = s.axis_count }) (range s.regions (index * (s.axis_count * 6)) (s.axis_count * 6))
+    if nat_lt index s.region_count
+    then option_map (λ bytes. record { bytes = bytes; count = s.axis_count })
+    (range s.regions (index * (s.axis_count * 6)) (s.axis_count * 6))
     else None
 
 abbrev pub region_of : Items → List RegionAxis
 region_of items = values 6 (λ bytes. Some (region_axis_in bytes)) items
 
 -- ---- item variation data
--- A row of deltas: how many regions it is for, how many of its deltas are words, whether words are long, the indexes of its regions, and its deltas.
+-- A row of deltas: how many regions it is for, how many of its deltas are words, whether words are long, the indexes of
+-- its regions, and its deltas.
 pub record Row : Type 0 where
   pub count : ℕ
   pub words : ℕ
@@ -62,7 +70,8 @@ pub record Row : Type 0 where
 abbrev pub row_size : ℕ → ℕ → Bool → ℕ
 row_size count words long = (count + words) * (if long then 2 else 1)
 
--- the row of an item, for the counts of its data's header: the header, the indexes of the regions, and a row for each item
+-- the row of an item, for the counts of its data's header: the header, the indexes of the regions, and a row for each
+-- item
 abbrev pub row_at : List ℕ → ℕ → ℕ → ℕ → ℕ → Bool → Option Row
 row_at bytes at inner count words long = do
   indexes ← range bytes (at + 6) (count * 2)
@@ -75,7 +84,9 @@ row_in bytes at inner = do
   items ← number bytes at 2
   words ← number bytes (at + 2) 2
   count ← number bytes (at + 4) 2
-  if nat_lt inner items && nat_le (words % 32768) count then row_at bytes at inner count (words % 32768) (nat_le 32768 words) else None
+  if nat_lt inner items && nat_le (words % 32768) count
+      then row_at bytes at inner count (words % 32768) (nat_le 32768 words)
+      else None
 
 -- the row of an item: the outer index is that of its data, the inner one that of its row
 unfoldable pub item_row : Store → ℕ → ℕ → Option Row
@@ -105,10 +116,14 @@ region_indexes bytes = map (region_index bytes) (range_with_len 0 (length bytes 
 
 -- the delta for the region numbered k
 abbrev pub word_delta : Row → ℕ → Option ℤ
-word_delta r k = if r.long then option_map (cast_signed w32) (number r.deltas (k * 4) 4) else option_map (cast_signed w16) (number r.deltas (k * 2) 2)
+word_delta r k =
+    if r.long then option_map (cast_signed w32) (number r.deltas (k * 4) 4)
+    else option_map (cast_signed w16) (number r.deltas (k * 2) 2)
 
 abbrev pub byte_delta : Row → ℕ → Option ℤ
-byte_delta r k = if r.long then option_map (cast_signed w16) (number r.deltas ((r.words + k) * 2) 2) else option_map (cast_signed w8) (number r.deltas (r.words + k) 1)
+byte_delta r k =
+    if r.long then option_map (cast_signed w16) (number r.deltas ((r.words + k) * 2) 2)
+    else option_map (cast_signed w8) (number r.deltas (r.words + k) 1)
 
 abbrev pub delta : Row → ℕ → Option ℤ
 delta r k = if nat_lt k r.words then word_delta r k else byte_delta r k
@@ -129,7 +144,7 @@ terms s at r (suc n) k = do
   rest ← terms s at r n (k + 1)
   Some (first +ℤ rest)
 
--- what an item varies by at a location, in parts of 2^30; the indexes 0xFFFF and 0xFFFF stand for no variation
+-- what an item varies by at a location, in parts of 2^30; the indexes 0xFFFF and 0xFFFF mean no variation
 unfoldable pub item_delta : Store → List ℤ → ℕ → ℕ → Option ℤ
 item_delta s at outer inner =
     if outer == 65535 && inner == 65535 then Some (pos 0)

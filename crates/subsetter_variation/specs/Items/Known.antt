@@ -1,4 +1,5 @@
--- What was reckoned at a location, and needs no reckoning again: the scalars of a store's regions, and what its items vary by.
+-- What was computed at a location, and isn't computed again: the scalars of a store's regions, and what its items vary
+-- by.
 use Rattle.std.specs.Prelude.{◌≡◌, ◌≤ℤ◌, ◌^◌, ℕ, List, Option, IfSome, None, Some, All, ℤ, pos, Result, Err}
 use Rattle.subsetter_base.specs.Items.{Items}
 use Rattle.subsetter_base.specs.declared.error.Error.{Error}

@@ -1,5 +1,6 @@
 -- The axes of a variable font (OpenType, "fvar"), and where a coordinate is on one. Coordinates are in 65536ths.
-use Rattle.std.specs.Prelude.{ℕ, zero, suc, ◌+◌, List, [], ◌∷◌, take, find, Option, Some, None, nat_lt, int_lt, int_le, if◌then◌else◌, ℤ, pos, neg_ℤ, ◌-ℤ◌, unsigned_abs}
+use Rattle.std.specs.Prelude.{ℕ, zero, suc, ◌+◌, List, [], ◌∷◌, take, find, Option, Some, None, nat_lt, int_lt, int_le}
+use Rattle.std.specs.Prelude.{if◌then◌else◌, ℤ, pos, neg_ℤ, ◌-ℤ◌, unsigned_abs}
 use Rattle.std.specs.Int.{int_max, int_min}
 use Rattle.std.specs.Str.{bytes_eq}
 use Rattle.subsetter_base.specs.Bytes.{range, number, long_signed_at}
@@ -10,9 +11,15 @@ use Rattle.subsetter_variation.specs.declared.locations.axes.Axis.{Axis}
 
 -- the record of an axis begins with its tag, and its least, its default and its greatest coordinate
 abbrev pub axis_of : List ℕ → Axis
-axis_of bytes = record { tag = record { 0 = take 4 bytes }; minimum = long_signed_at bytes 4; default = long_signed_at bytes 8; maximum = long_signed_at bytes 12 }
+axis_of bytes =
+    record {
+      tag = record { 0 = take 4 bytes };
+      minimum = long_signed_at bytes 4;
+      default = long_signed_at bytes 8;
+      maximum = long_signed_at bytes 12;
+    }
 
--- so many records of one size each, one after the other
+-- n records of `size` bytes each, one after the other
 abbrev pub axes_at : ℕ → ℕ → List ℕ → ℕ → Option (List Axis)
 axes_at zero size fvar at = Some []
 axes_at (suc n) size fvar at = do
@@ -35,7 +42,8 @@ find_axis tag axes = find (λ a. bytes_eq a.tag.0 tag) axes
 -- the last setting of a tag, else what there was
 abbrev pub user_coordinate_from : ℤ → List ℕ → List (Tag × ℤ) → ℤ
 user_coordinate_from value tag [] = value
-user_coordinate_from value tag (s ∷ settings) = user_coordinate_from (if bytes_eq s.0.0 tag then s.1 else value) tag settings
+user_coordinate_from value tag (s ∷ settings) =
+    user_coordinate_from (if bytes_eq s.0.0 tag then s.1 else value) tag settings
 
 -- the coordinate on an axis: the last setting of its tag, else its default
 abbrev pub user_coordinate : Axis → List (Tag × ℤ) → ℤ
@@ -53,13 +61,20 @@ clamped a settings = within (int_max a.maximum a.default) (int_min a.minimum a.d
 unfoldable pub toward : ℤ → ℤ → ℤ → ℤ
 toward end default c = mul_div_nearest (c -ℤ default) (unsigned_abs (end -ℤ default)) (pos 65536)
 
--- a coordinate below the default, and one above it: no further than the end of the axis, which is the default itself where there is nothing on that side
+-- a coordinate below the default, and one above it: no further than the end of the axis, which is the default itself
+-- where there is nothing on that side
 abbrev pub below_default : Axis → ℤ → ℤ
-below_default a c = if int_le a.default a.minimum then pos 0 else if int_le c a.minimum then neg_ℤ (pos 65536) else toward a.minimum a.default c
+below_default a c =
+    if int_le a.default a.minimum then pos 0
+    else if int_le c a.minimum then neg_ℤ (pos 65536)
+    else toward a.minimum a.default c
 
 abbrev pub above_default : Axis → ℤ → ℤ
-above_default a c = if int_le a.maximum a.default then pos 0 else if int_le a.maximum c then pos 65536 else toward a.maximum a.default c
+above_default a c =
+    if int_le a.maximum a.default then pos 0 else if int_le a.maximum c then pos 65536 else toward a.maximum a.default c
 
--- the place of a user coordinate (OpenType, "Coordinate Scales and Normalization"): 0 at the default, -65536 at the least coordinate and 65536 at the greatest one
+-- the place of a user coordinate (OpenType, "Coordinate Scales and Normalization"): 0 at the default, -65536 at the
+-- least coordinate and 65536 at the greatest one
 unfoldable pub default_normalized : Axis → ℤ → ℤ
-default_normalized a c = if int_lt c a.default then below_default a c else if int_lt a.default c then above_default a c else pos 0
+default_normalized a c =
+    if int_lt c a.default then below_default a c else if int_lt a.default c then above_default a c else pos 0

@@ -1,5 +1,7 @@
--- The coordinates of an instance on the axes of its font, each from -1 to 1, in 16384ths (OpenType, "Coordinate Scales and Normalization").
-use Rattle.std.specs.Prelude.{ℕ, ◌+◌, ◌*◌, not, ◌||◌, Bool, false, List, [], ◌∷◌, length, map, Option, Some, None, Result, Err, ◌==◌, if◌then◌else◌, ℤ}
+-- The coordinates of an instance on the axes of its font, each from -1 to 1, in 16384ths (OpenType, "Coordinate Scales
+-- and Normalization").
+use Rattle.std.specs.Prelude.{ℕ, ◌+◌, ◌*◌, not, ◌||◌, Bool, false, List, [], ◌∷◌, length, map, Option, Some, None}
+use Rattle.std.specs.Prelude.{Result, Err, ◌==◌, if◌then◌else◌, ℤ}
 use Rattle.std.specs.Option.{ok_or}
 use Rattle.subsetter_base.specs.Bytes.{number}
 use Rattle.subsetter_base.specs.declared.tag.Tag.{Tag}
@@ -12,7 +14,7 @@ use Rattle.subsetter_variation.specs.Locations.Segments.{segment_map_at, axis_va
 use Rattle.subsetter_variation.specs.declared.locations.axes.Axis.{Axis}
 use Rattle.subsetter_variation.specs.declared.locations.segments.AxisValueMap.{AxisValueMap}
 
--- on one axis
+-- the normalized coordinate on one axis, mapped by its segment map of avar, in 16384ths
 unfoldable pub coordinate : Axis → List AxisValueMap → List (Tag × ℤ) → ℤ
 coordinate a ends settings = nearest (mapped ends (default_normalized a (user_coordinate a settings))) 4
 
@@ -52,4 +54,6 @@ is_other_version (Some table) = is_other (number table 0 2)
 
 -- the coordinates, or the name of what is wrong
 unfoldable pub normalized_or_fault : List ℕ → Option (List ℕ) → List (Tag × ℤ) → Result (List ℤ) Error
-normalized_or_fault fvar avar settings = if is_other_version (Some fvar) || is_other_version avar then Err Unimplemented else ok_or (normalized fvar avar settings) MalformedFont
+normalized_or_fault fvar avar settings =
+    if is_other_version (Some fvar) || is_other_version avar then Err Unimplemented
+    else ok_or (normalized fvar avar settings) MalformedFont

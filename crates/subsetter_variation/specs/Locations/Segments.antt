@@ -1,5 +1,6 @@
 -- The segments that bend an axis (OpenType, "avar").
-use Rattle.std.specs.Prelude.{ℕ, ◌+◌, ◌*◌, Bool, false, ◌&&◌, ◌||◌, List, [], ◌∷◌, take, drop, Option, Some, int_lt, int_le, if◌then◌else◌, ℤ, pos, neg_ℤ, ◌+ℤ◌, ◌-ℤ◌, ◌*ℤ◌, unsigned_abs}
+use Rattle.std.specs.Prelude.{ℕ, ◌+◌, ◌*◌, Bool, false, ◌&&◌, ◌||◌, List, [], ◌∷◌, take, drop, Option, Some, int_lt}
+use Rattle.std.specs.Prelude.{int_le, if◌then◌else◌, ℤ, pos, neg_ℤ, ◌+ℤ◌, ◌-ℤ◌, ◌*ℤ◌, unsigned_abs}
 use Rattle.std.specs.Int.{w16, cast_signed}
 use Rattle.std.specs.Ordering.{int_eq}
 use Rattle.subsetter_base.specs.Bytes.{be, range, number}
@@ -10,7 +11,8 @@ use Rattle.subsetter_variation.specs.declared.locations.segments.AxisValueMap.{A
 
 -- the end of a segment: two numbers in 16384ths
 abbrev pub axis_value_map_of : List ℕ → AxisValueMap
-axis_value_map_of bytes = record { from = cast_signed w16 (be (take 2 bytes)); to = cast_signed w16 (be (take 2 (drop 2 bytes))) }
+axis_value_map_of bytes =
+    record { from = cast_signed w16 (be (take 2 bytes)); to = cast_signed w16 (be (take 2 (drop 2 bytes))) }
 
 -- the ends of the segments of an axis: a count, and four bytes for each
 abbrev pub segment_map_at : List ℕ → ℕ → Option Items
@@ -22,7 +24,7 @@ segment_map_at avar at = do
 abbrev pub axis_value_maps : Items → List AxisValueMap
 axis_value_maps items = values 4 (λ bytes. Some (axis_value_map_of bytes)) items
 
--- 16384ths as 65536ths
+-- an F2DOT14 as a Fixed: 16384ths as 65536ths
 abbrev pub f2dot14_to_fixed : ℤ → ℤ
 f2dot14_to_fixed z = pos 4 *ℤ z
 
@@ -32,7 +34,9 @@ interpolated from to n whole = mul_div_nearest (n -ℤ from) (unsigned_abs (to -
 
 -- a number that is between two ends, at the same part of the way between their new numbers
 unfoldable pub on_segment : AxisValueMap → AxisValueMap → ℤ → ℤ
-on_segment p q n = f2dot14_to_fixed p.to +ℤ interpolated (f2dot14_to_fixed p.from) (f2dot14_to_fixed q.from) n (f2dot14_to_fixed q.to -ℤ f2dot14_to_fixed p.to)
+on_segment p q n =
+    f2dot14_to_fixed p.to +ℤ interpolated (f2dot14_to_fixed p.from)
+    (f2dot14_to_fixed q.from) n (f2dot14_to_fixed q.to -ℤ f2dot14_to_fixed p.to)
 
 -- the number is between two ends, and not on the second
 abbrev pub is_on : AxisValueMap → AxisValueMap → ℤ → Bool
@@ -49,7 +53,8 @@ by_segments (p ∷ ends) n = mapped_from p ends n
 
 -- ---- which ends count
 
--- after others an end counts whose number is above those of all before it, and whose new number isn't less than that of the last one that counts
+-- after others an end counts whose number is above those of all before it, and whose new number isn't less than that of
+-- the last one that counts
 abbrev pub counts : ℤ → AxisValueMap → AxisValueMap → Bool
 counts top last q = int_lt top q.from && int_le last.to q.to
 
@@ -60,7 +65,8 @@ topmost top q = if int_lt top q.from then q.from else top
 -- the ends that count after the last one that did
 abbrev pub counting_from : ℤ → AxisValueMap → List AxisValueMap → List AxisValueMap
 counting_from top last [] = []
-counting_from top last (q ∷ ends) = if counts top last q then q ∷ counting_from (topmost top q) q ends else counting_from (topmost top q) last ends
+counting_from top last (q ∷ ends) =
+    if counts top last q then q ∷ counting_from (topmost top q) q ends else counting_from (topmost top q) last ends
 
 -- the others are ignored
 abbrev pub counting : List AxisValueMap → List AxisValueMap

@@ -1,5 +1,6 @@
 -- Horizontal metrics of glyphs (OpenType, "hhea" and "hmtx").
-use Rattle.std.specs.Prelude.{◌≡◌, ℕ, ◌+◌, ◌-◌, ◌*◌, ◌<◌, ◌≤◌, List, length, take, drop, slice_index, codes, Option, Some, None, IsSome}
+use Rattle.std.specs.Prelude.{◌≡◌, ℕ, ◌+◌, ◌-◌, ◌*◌, ◌<◌, ◌≤◌, List, length, take, drop, slice_index, codes, Option}
+use Rattle.std.specs.Prelude.{Some, None, IsSome}
 use Rattle.subsetter_base.specs.Bytes.{number}
 use Rattle.subsetter_base.specs.declared.error.Error.{Error}
 use Rattle.subsetter_base.specs.declared.error.Error.TheVariants.{MalformedFont, OverflowError}
@@ -27,7 +28,8 @@ pub record SameMetric (find out : List ℕ → Option (List ℕ)) (g h : ℕ) : 
   pub copy : metric_of out h ≡ Some metric
 
 -- the tables of a subset have the metrics of its glyphs, with the least number of pairs
-pub record KeepsMetrics (find : List ℕ → Option (List ℕ)) (order : List ℕ) (out : List ℕ → Option (List ℕ)) : Type 0 where
+pub record KeepsMetrics (find : List ℕ → Option (List ℕ)) (order : List ℕ) (out : List ℕ → Option (List ℕ))
+    : Type 0 where
   pub metrics : (i : ℕ) → i < length order → SameMetric find out (slice_index order i) i
   pub header : List ℕ
   pub header_is : find (codes "hhea") ≡ Some header
@@ -40,7 +42,9 @@ pub record KeepsMetrics (find : List ℕ → Option (List ℕ)) (order : List �
   pub at_least : 1 ≤ count
   pub at_most : count ≤ length order
   -- no bytes give these metrics by a lesser count
-  pub least : (bytes : List ℕ) (c : ℕ) → ((i : ℕ) → i < length order → metric_in bytes c i ≡ metric_of find (slice_index order i)) → count ≤ c
+  pub least : (bytes : List ℕ) (c : ℕ)
+      → ((i : ℕ) → i < length order → metric_in bytes c i ≡ metric_of find (slice_index order i))
+      → count ≤ c
   -- each pair has four bytes, and each bearing two
   pub size : length hmtx ≡ 4 * count + 2 * (length order - count)
   -- `hhea` is the source's but for the count
@@ -48,11 +52,20 @@ pub record KeepsMetrics (find : List ℕ → Option (List ℕ)) (order : List �
   pub before : take 34 hhea ≡ take 34 header
   pub after : drop 36 hhea ≡ drop 36 header
 
--- what can stand against metrics, under the name of its error
+-- the faults of metrics, each with its error
 pub data HasMetricsFault (find : List ℕ → Option (List ℕ)) (reached : ℕ → Type 0) : Error → Type 0 where
   no_hhea : IsSome (find (codes "hmtx")) → find (codes "hhea") ≡ None → HasMetricsFault find reached MalformedFont
   -- numberOfHMetrics ends at byte 36
-  short_hhea : (hhea : List ℕ) → IsSome (find (codes "hmtx")) → find (codes "hhea") ≡ Some hhea → length hhea < 36 → HasMetricsFault find reached MalformedFont
-  no_pairs : (hhea : List ℕ) → IsSome (find (codes "hmtx")) → find (codes "hhea") ≡ Some hhea → number_of_h_metrics hhea ≡ Some 0 → HasMetricsFault find reached OverflowError
-  last_advance_outside : (hhea hmtx : List ℕ) (count : ℕ) → find (codes "hmtx") ≡ Some hmtx → find (codes "hhea") ≡ Some hhea → number_of_h_metrics hhea ≡ Some count → 0 < count → number hmtx (4 * (count - 1)) 2 ≡ None → HasMetricsFault find reached MalformedFont
-  metric_outside : (g : ℕ) (hhea hmtx : List ℕ) (count : ℕ) → reached g → find (codes "hmtx") ≡ Some hmtx → find (codes "hhea") ≡ Some hhea → number_of_h_metrics hhea ≡ Some count → 0 < count → metric_in hmtx count g ≡ None → HasMetricsFault find reached MalformedFont
+  short_hhea : (hhea : List ℕ) → IsSome (find (codes "hmtx")) → find (codes "hhea") ≡ Some hhea → length hhea < 36
+      → HasMetricsFault find reached MalformedFont
+  no_pairs : (hhea : List ℕ) → IsSome (find (codes "hmtx")) → find (codes "hhea") ≡ Some hhea
+      → number_of_h_metrics hhea ≡ Some 0
+      → HasMetricsFault find reached OverflowError
+  last_advance_outside : (hhea hmtx : List ℕ) (count : ℕ) → find (codes "hmtx") ≡ Some hmtx
+      → find (codes "hhea") ≡ Some hhea → number_of_h_metrics hhea ≡ Some count → 0 < count
+      → number hmtx (4 * (count - 1)) 2 ≡ None
+      → HasMetricsFault find reached MalformedFont
+  metric_outside : (g : ℕ) (hhea hmtx : List ℕ) (count : ℕ) → reached g → find (codes "hmtx") ≡ Some hmtx
+      → find (codes "hhea") ≡ Some hhea → number_of_h_metrics hhea ≡ Some count → 0 < count
+      → metric_in hmtx count g ≡ None
+      → HasMetricsFault find reached MalformedFont

@@ -1,5 +1,7 @@
--- `hhea` and `hmtx` of a subset, from the metrics of its glyphs (OpenType, "hhea" and "hmtx"), and the plain way to them.
-use Rattle.std.specs.Prelude.{ℕ, ◌+◌, ◌-◌, ◌*◌, Bool, true, ◌&&◌, List, [], ◌∷◌, slice_range, codes, Option, Some, None, Result, Ok, Err, ◌==◌, if◌then◌else◌}
+-- `hhea` and `hmtx` of a subset, from the metrics of its glyphs (OpenType, "hhea" and "hmtx"), and the plain way to
+-- them.
+use Rattle.std.specs.Prelude.{ℕ, ◌+◌, ◌-◌, ◌*◌, Bool, true, ◌&&◌, List, [], ◌∷◌, slice_range, codes, Option, Some, None}
+use Rattle.std.specs.Prelude.{Result, Ok, Err, ◌==◌, if◌then◌else◌}
 use Rattle.std.specs.Option.{ok_or}
 use Rattle.subsetter_base.specs.Bytes.{number, ◌>>=◌}
 use Rattle.subsetter_base.specs.declared.error.Error.{Error}

@@ -17,9 +17,10 @@ abbrev pub further_fields : FontFlavor → List ℕ → List ℕ
 further_fields TrueType maxp = drop 6 maxp
 further_fields Cff maxp = []
 
--- the table of a subset says how many glyphs it has, and keeps the source's further fields where its version has them. The source is looked up
--- as it is asked for: without hinting it bounds no instructions
-pub record IsMaxProfile (find : List ℕ → Option (List ℕ)) (flavor : FontFlavor) (n : ℕ) (out : List ℕ → Option (List ℕ)) : Type 0 where
+-- the table of a subset says how many glyphs it has, and keeps the source's further fields where its version has them.
+-- The source is looked up as it is asked for: without hinting it bounds no instructions
+pub record IsMaxProfile (find : List ℕ → Option (List ℕ)) (flavor : FontFlavor) (n : ℕ) (out : List ℕ → Option (List ℕ))
+    : Type 0 where
   pub source : List ℕ
   pub source_is : find (codes "maxp") ≡ Some source
   pub maxp : List ℕ
@@ -28,7 +29,8 @@ pub record IsMaxProfile (find : List ℕ → Option (List ℕ)) (flavor : FontFl
   pub count : num_glyphs maxp ≡ Some n
   pub further : drop 6 maxp ≡ further_fields flavor source
 
--- what can stand against `maxp`, under the name of its error
+-- the faults of `maxp`, each with its error
 pub data HasMaxProfileFault (find : List ℕ → Option (List ℕ)) : Error → Type 0 where
   -- numGlyphs ends at byte 6
-  short_maxp : (maxp : List ℕ) → find (codes "maxp") ≡ Some maxp → length maxp < 6 → HasMaxProfileFault find MalformedFont
+  short_maxp : (maxp : List ℕ) → find (codes "maxp") ≡ Some maxp → length maxp < 6
+      → HasMaxProfileFault find MalformedFont

@@ -1,5 +1,6 @@
 -- `maxp` of a subset (OpenType, "maxp"), and the plain way to it.
-use Rattle.std.specs.Prelude.{ℕ, Bool, true, false, List, ◌++◌, length, codes, Option, Some, None, Result, Ok, Err, nat_lt, if◌then◌else◌}
+use Rattle.std.specs.Prelude.{ℕ, Bool, true, false, List, ◌++◌, length, codes, Option, Some, None, Result, Ok, Err}
+use Rattle.std.specs.Prelude.{nat_lt, if◌then◌else◌}
 use Rattle.std.specs.Int.{w16, w32, to_be_bytes}
 use Rattle.subsetter_base.specs.declared.error.Error.{Error}
 use Rattle.subsetter_base.specs.declared.error.Error.TheVariants.{MalformedFont}
@@ -23,7 +24,8 @@ maxp_bytes flavor n maxp = to_be_bytes w32 (version_of flavor) ++ to_be_bytes w1
 -- nothing without `maxp`
 abbrev pub maxp_in : Option (List ℕ) → FontFlavor → ℕ → Result (Option (List ℕ)) Error
 maxp_in None flavor n = Ok None
-maxp_in (Some maxp) flavor n = if nat_lt (length maxp) 6 then Err MalformedFont else Ok (Some (maxp_bytes flavor n maxp))
+maxp_in (Some maxp) flavor n =
+    if nat_lt (length maxp) 6 then Err MalformedFont else Ok (Some (maxp_bytes flavor n maxp))
 
 -- `maxp` of a subset of that many glyphs, from the tables that a look-up finds
 abbrev pub maxp_of : (List ℕ → Option (List ℕ)) → FontFlavor → ℕ → Result (Option (List ℕ)) Error

@@ -1,5 +1,6 @@
 -- The names of a font (OpenType, "name").
-use Rattle.std.specs.Prelude.{◌≡◌, ◌≢◌, ℕ, zero, suc, ◌+◌, ◌*◌, Bool, false, ◌&&◌, ◌||◌, not, List, [], ◌∷◌, ◌++◌, length, drop, map, filter, flat_map, Option, Some, None, nat_lt, ◌==◌, if◌then◌else◌}
+use Rattle.std.specs.Prelude.{◌≡◌, ◌≢◌, ℕ, zero, suc, ◌+◌, ◌*◌, Bool, false, ◌&&◌, ◌||◌, not, List, [], ◌∷◌, ◌++◌}
+use Rattle.std.specs.Prelude.{length, drop, map, filter, flat_map, Option, Some, None, nat_lt, ◌==◌, if◌then◌else◌}
 use Rattle.std.specs.Option.{option_and_then, option_map}
 use Rattle.std.specs.Str.{bytes_eq}
 use Rattle.std.specs.Int.{w16, to_be_bytes}
@@ -10,7 +11,7 @@ use Rattle.subsetter_sfnt.specs.declared.fields.name.NameRecord.{NameRecord}
 
 -- ---- read
 
--- that many records
+-- the next n name records, of 12 bytes each
 abbrev pub name_records_in : ℕ → List ℕ → List NameRecord
 name_records_in zero bytes = []
 name_records_in (suc n) bytes = name_record_of bytes ∷ name_records_in n (drop 12 bytes)
@@ -42,7 +43,14 @@ pub record Name : Type 0 where
   pub string : Option (List ℕ)
 
 abbrev pub name_of_record : List ℕ → NameRecord → Name
-name_of_record storage r = record { platform = r.platform_id; encoding = r.encoding_id; language = r.language_id; id = r.name_id; string = string_of storage r }
+name_of_record storage r =
+    record {
+      platform = r.platform_id;
+      encoding = r.encoding_id;
+      language = r.language_id;
+      id = r.name_id;
+      string = string_of storage r;
+    }
 
 -- the names of a table of version 0
 abbrev pub name_records : List ℕ → Option (List Name)
@@ -84,7 +92,7 @@ with_strings ts (s ∷ ss) = with_strings (with_string ts s) ss
 abbrev pub distinct : List (List ℕ) → List (List ℕ)
 distinct ss = with_strings [] ss
 
--- where a string begins among strings that stand one after another; after them all where it isn't one of them
+-- where a string begins among strings that follow one another; after them all where it isn't one of them
 abbrev pub string_offset : List (List ℕ) → List ℕ → ℕ
 string_offset [] s = 0
 string_offset (t ∷ ts) s = if bytes_eq s t then 0 else length t + string_offset ts s
@@ -97,11 +105,14 @@ joined ts = flat_map (λ (t : List ℕ). t) ts
 
 -- a table of version 0, its storage right after its records
 unfoldable pub name_bytes : List NameRecord → List ℕ → List ℕ
-name_bytes records storage = to_be_bytes w16 0 ++ to_be_bytes w16 (length records) ++ to_be_bytes w16 (6 + 12 * length records) ++ flat_map name_record_bytes records ++ storage
+name_bytes records storage =
+    to_be_bytes w16 0 ++ to_be_bytes w16 (length records) ++ to_be_bytes w16 (6 + 12 * length records)
+    ++ flat_map name_record_bytes records ++ storage
 
 -- ---- what a subset promises
 
--- the kept names of a table of version 0, in order, and their distinct strings in the order of first use, right after the records
+-- the kept names of a table of version 0, in order, and their distinct strings in the order of first use, right after
+-- the records
 pub record HasKeptNames (source new : List ℕ) : Type 0 where
   pub names : List Name
   pub strings : List (List ℕ)

@@ -1,4 +1,4 @@
--- What the code's values of `name` stand for.
+-- What the code's values of `name` mean.
 use Rattle.std.specs.Prelude.{ℕ, List, map, Some}
 use Rattle.std.specs.Borrow.{Bor}
 use Rattle.subsetter_base.specs.Items.{values}

@@ -1,5 +1,6 @@
--- Where some of the names of `post` stand.
-use Rattle.std.specs.Prelude.{◌≡◌, ◌≤◌, ◌<◌, ◌+◌, ℕ, zero, suc, List, [], ◌∷◌, ◌++◌, length, drop, get_or, slice_index, Bool, if◌then◌else◌}
+-- Where some of the names of `post` are.
+use Rattle.std.specs.Prelude.{◌≡◌, ◌≤◌, ◌<◌, ◌+◌, ℕ, zero, suc, List, [], ◌∷◌, ◌++◌, length, drop, get_or, slice_index}
+use Rattle.std.specs.Prelude.{Bool, if◌then◌else◌}
 use Rattle.subsetter.specs.Common.Post.Read.{names_in, pascal_bytes}
 
 -- how many names there are from one mark to the next
@@ -9,9 +10,10 @@ step_of is_dense = if is_dense then 1 else 8
 -- the places of every name, or of every so manieth, in some bytes
 abbrev pub AreMarks : ℕ → List ℕ → List (List ℕ) → List ℕ → Type 0
 AreMarks step all names [] = Unit {0}
-AreMarks step all names (m ∷ marks) = (names_in (drop m all) ≡ names) × ((m ≤ length all) × AreMarks step all (drop step names) marks)
+AreMarks step all names (m ∷ marks) =
+    (names_in (drop m all) ≡ names) × ((m ≤ length all) × AreMarks step all (drop step names) marks)
 
--- so many names from a number on, each after its length byte, an empty one where none is there
+-- n names from a number on, each after its length byte, an empty one where none is there
 abbrev pub run_bytes : List (List ℕ) → ℕ → ℕ → List ℕ
 run_bytes names from zero = []
 run_bytes names from (suc n) = run_bytes names from n ++ pascal_bytes (get_or names (from + n) [])
@@ -24,7 +26,7 @@ place_of names k = length (run_bytes names 0 k)
 abbrev pub ArePlaces : List (List ℕ) → List ℕ → Type 0
 ArePlaces names marks = (k : ℕ) → k < length marks → k ≤ length names → slice_index marks k ≡ place_of names k
 
--- a name stands at a place, and ends at another
+-- a name begins at a place, and ends at another
 pub record IsName (bytes : List ℕ) (at end : ℕ) : Type 0 where
   pub some : 1 ≤ length (names_in (drop at bytes))
   pub place : end ≡ at + length (pascal_bytes (get_or (names_in (drop at bytes)) 0 []))

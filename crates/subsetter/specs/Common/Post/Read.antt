@@ -1,5 +1,6 @@
 -- The names of glyphs (OpenType, "post").
-use Rattle.std.specs.Prelude.{◌≡◌, ◌≢◌, ℕ, zero, suc, ◌+◌, ◌-◌, ◌*◌, ◌%◌, ◌<◌, List, [], ◌∷◌, ◌++◌, length, take, drop, flat_map, get_or, slice_index, Option, Some, None, nat_lt, nat_le, ◌==◌, if◌then◌else◌}
+use Rattle.std.specs.Prelude.{◌≡◌, ◌≢◌, ℕ, zero, suc, ◌+◌, ◌-◌, ◌*◌, ◌%◌, ◌<◌, List, [], ◌∷◌, ◌++◌, length, take, drop}
+use Rattle.std.specs.Prelude.{flat_map, get_or, slice_index, Option, Some, None, nat_lt, nat_le, ◌==◌, if◌then◌else◌}
 use Rattle.std.specs.Option.{option_and_then}
 use Rattle.std.specs.Int.{w16, to_be_bytes}
 use Rattle.subsetter_base.specs.Bytes.{be, range, number, from_offset}
@@ -17,12 +18,13 @@ pub data GlyphName : Type 0 where
 abbrev pub pascal_strings : ℕ → List ℕ → List (List ℕ)
 pascal_strings zero bytes = []
 pascal_strings (suc n) [] = []
-pascal_strings (suc n) (len ∷ bytes) = if nat_le len (length bytes) then take len bytes ∷ pascal_strings n (drop len bytes) else []
+pascal_strings (suc n) (len ∷ bytes) =
+    if nat_le len (length bytes) then take len bytes ∷ pascal_strings n (drop len bytes) else []
 
 abbrev pub names_in : List ℕ → List (List ℕ)
 names_in bytes = pascal_strings (length bytes) bytes
 
--- the header, an index of two bytes for each glyph, and the names that stand after
+-- the header, an index of two bytes for each glyph, and the names after it
 pub record PostTable : Type 0 where
   pub header : List ℕ
   pub indexes : Items
@@ -39,9 +41,10 @@ post_parts bytes = do
 
 -- a table of version 2.0
 unfoldable pub post_table : List ℕ → Option PostTable
-post_table bytes = option_and_then (λ version. if version == 0x00020000 then post_parts bytes else None) (number bytes 0 4)
+post_table bytes =
+    option_and_then (λ version. if version == 0x00020000 then post_parts bytes else None) (number bytes 0 4)
 
--- the index of a glyph
+-- glyphNameIndex of a glyph
 abbrev pub glyph_index : PostTable → ℕ → Option ℕ
 glyph_index t g = do
   bytes ← item 2 t.indexes g
@@ -93,4 +96,5 @@ pub record HasGlyphNames (source new order : List ℕ) : Type 0 where
 -- a table of version 2.0 has the names of its glyphs; one of another version is copied
 pub data KeepsGlyphNames (source new order : List ℕ) : Type 0 where
   rewritten : number source 0 4 ≡ Some 0x00020000 → HasGlyphNames source new order → KeepsGlyphNames source new order
-  copied : (version : ℕ) → number source 0 4 ≡ Some version → version ≢ 0x00020000 → new ≡ source → KeepsGlyphNames source new order
+  copied : (version : ℕ) → number source 0 4 ≡ Some version → version ≢ 0x00020000 → new ≡ source
+      → KeepsGlyphNames source new order

@@ -7,14 +7,15 @@ use Rattle.subsetter_sfnt.specs.Read.{Font}
 use Rattle.subsetter.specs.Glyf.Read.{outline}
 use Rattle.subsetter.specs.Glyf.Parts.{Component, Chain, Parts, Empty, Simple, Composite, outline_parts}
 
--- the bytes before a place, the length 0, and what stands after the instructions whose length stands at that place
+-- the bytes before a place, the length 0, and what is after the instructions whose length is at that place
 abbrev pub bare_at : List ℕ → ℕ → Option (List ℕ)
 bare_at bytes at = do
   size ← number bytes at 2
   following ← from_offset bytes (at + 2 + size)
   Some (take at bytes ++ 0 ∷ 0 ∷ following)
 
--- a simple outline: its number of contours stands at its start, and the length of its instructions after ten bytes of head and two for each contour
+-- a simple outline: its number of contours is at its start, and the length of its instructions after ten bytes of head
+-- and two for each contour
 abbrev pub bare_found : List ℕ → Option (List ℕ)
 bare_found bytes = do
   contours ← number bytes 0 2
@@ -43,7 +44,8 @@ requested_tail true tail = tail
 requested_tail false tail = []
 
 abbrev pub requested_chain : Bool → Chain → Chain
-requested_chain hinting chain = record { components = map (requested_component hinting) chain.components; tail = requested_tail hinting chain.tail }
+requested_chain hinting chain =
+    record { components = map (requested_component hinting) chain.components; tail = requested_tail hinting chain.tail }
 
 -- parts without instructions
 abbrev pub bare : Parts → Parts

@@ -4,12 +4,18 @@ use Rattle.std.specs.List.{AllByRecursion, flat_map}
 use Rattle.subsetter_base.specs.Bytes.{number}
 use Rattle.subsetter_sfnt.specs.Read.{Font, table}
 use Rattle.subsetter.specs.Glyf.Read.{outline}
-use Rattle.subsetter.specs.Glyf.Parts.{Component, Chain, Parts, Empty, Simple, Composite, has_instructions, outline_parts, spelled}
+use Rattle.subsetter.specs.Glyf.Parts.{Component, Chain, Parts, Empty, Simple, Composite, has_instructions}
+use Rattle.subsetter.specs.Glyf.Parts.{outline_parts, spelled}
 
--- a simple outline: the length of its instructions, which stands after ten bytes of head and two for each contour, is 0 where a byte of the outline stands after them, as the flags of its points do
--- instructions that reach the end of an outline or past it aren't covered: these belong to an outline without points or to one that is cut, and that one stays as it is
+-- a simple outline: the length of its instructions, which is after ten bytes of header and two for each contour, is 0
+-- where a byte of the outline follows the instructions, as the flags of its points do. Instructions that reach the end
+-- of an outline or past it aren't covered: these belong to an outline without points or to one that is cut, and that
+-- one stays as it is
 abbrev pub IsBareSimple : List ℕ → Type 0
-IsBareSimple bytes = (contours size : ℕ) → number bytes 0 2 ≡ Some contours → number bytes (10 + 2 * contours) 2 ≡ Some size → 10 + 2 * contours + 2 + size < length bytes → size ≡ 0
+IsBareSimple bytes =
+    (contours size : ℕ) → number bytes 0 2 ≡ Some contours → number bytes (10 + 2 * contours) 2 ≡ Some size
+    → 10 + 2 * contours + 2 + size < length bytes
+    → size ≡ 0
 
 -- a composite: its head and its components, of which none says that instructions follow, are all of its bytes
 pub record IsBareComposite (bytes head : List ℕ) (chain : Chain) : Type 0 where
@@ -27,7 +33,8 @@ pub record IsBare (bytes : List ℕ) : Type 0 where
   pub parts_are : outline_parts bytes ≡ Some parts
   pub bare : AreBare bytes parts
 
--- a font has no program, and none of its outlines in `glyf` has instructions; what is said of hints in charstrings is nothing
+-- a font has no program, and none of its outlines in `glyf` has instructions; what is said of hints in charstrings is
+-- nothing
 pub record HasNoInstructions (out : Font) : Type 0 where
   pub control_values : table out (codes "cvt ") ≡ None
   pub font_program : table out (codes "fpgm") ≡ None

@@ -5,10 +5,13 @@ use Rattle.subsetter_sfnt.specs.Read.{Font}
 use Rattle.subsetter.specs.Glyf.Read.{outline}
 use Rattle.subsetter.specs.Glyf.Parts.{component_numbers}
 
--- the glyphs at the end of a finite path that starts in the list and goes each time to a component, by the outlines that a look-up finds
+-- the glyphs at the end of a finite path that starts in the list and goes each time to a component, by the outlines
+-- that a look-up finds
 pub data IsReachableBy (outline_of : ℕ → Option (List ℕ)) (glyphs : List ℕ) : ℕ → Type 0 where
   given : (g : ℕ) → Contains glyphs g → IsReachableBy outline_of glyphs g
-  step : (g h : ℕ) (bytes : List ℕ) → IsReachableBy outline_of glyphs g → outline_of g ≡ Some bytes → Contains (component_numbers bytes) h → IsReachableBy outline_of glyphs h
+  step : (g h : ℕ) (bytes : List ℕ) → IsReachableBy outline_of glyphs g → outline_of g ≡ Some bytes
+      → Contains (component_numbers bytes) h
+      → IsReachableBy outline_of glyphs h
 
 -- the same, by the outlines of a font
 abbrev pub IsReachable : Font → List ℕ → ℕ → Type 0

@@ -13,7 +13,8 @@ padded long bytes = if long then bytes else aligned 2 bytes
 -- components with equal flags, arguments and transforms, whose glyphs are alike in pairs
 abbrev pub SameComponents : (ℕ → ℕ → Type 0) → List Component → List Component → Type 0
 SameComponents alike [] [] = Unit {0}
-SameComponents alike (c ∷ cs) (d ∷ ds) = (d.flags ≡ c.flags) × (d.rest ≡ c.rest) × alike c.glyph d.glyph × SameComponents alike cs ds
+SameComponents alike (c ∷ cs) (d ∷ ds) =
+    (d.flags ≡ c.flags) × (d.rest ≡ c.rest) × alike c.glyph d.glyph × SameComponents alike cs ds
 SameComponents alike [] (d ∷ ds) = ⊥
 SameComponents alike (c ∷ cs) [] = ⊥
 
@@ -21,7 +22,8 @@ SameComponents alike (c ∷ cs) [] = ⊥
 abbrev pub SameParts : Bool → (ℕ → ℕ → Type 0) → Parts → Parts → Type 0
 SameParts long alike Empty Empty = Unit {0}
 SameParts long alike (Simple b) (Simple c) = c ≡ padded long b
-SameParts long alike (Composite head chain) (Composite top copy) = (top ≡ head) × (copy.tail ≡ padded long chain.tail) × SameComponents alike chain.components copy.components
+SameParts long alike (Composite head chain) (Composite top copy) =
+    (top ≡ head) × (copy.tail ≡ padded long chain.tail) × SameComponents alike chain.components copy.components
 SameParts long alike Empty (Simple c) = ⊥
 SameParts long alike Empty (Composite top copy) = ⊥
 SameParts long alike (Simple b) Empty = ⊥

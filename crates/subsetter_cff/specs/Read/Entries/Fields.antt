@@ -7,8 +7,12 @@ use Rattle.subsetter_cff.specs.declared.read.entries.fields.Field.{Field}
 use Rattle.subsetter_cff.specs.declared.read.entries.fields.Field.TheVariants as fields
 use Rattle.subsetter_cff.specs.declared.read.entries.fields.Demands.{Demands}
 use Rattle.subsetter_cff.specs.declared.read.entries.fields.Demands.TheVariants as kinds
-use Rattle.subsetter_cff.specs.Read.Entries.OperandDemands.{Demand, one_string, one_offset, one_range, so_many, top_demands, font_dict_demands}
-use Rattle.subsetter_cff.specs.Read.Entries.Operators.{notice_operator, font_box_operator, charset_operator, char_strings_operator, private_operator, copyright_operator, font_matrix_operator, registry_operator, font_dicts_operator, font_dict_select_operator, font_name_operator}
+use Rattle.subsetter_cff.specs.Read.Entries.OperandDemands.{Demand, one_string, one_offset, one_range, so_many}
+use Rattle.subsetter_cff.specs.Read.Entries.OperandDemands.{top_demands, font_dict_demands}
+use Rattle.subsetter_cff.specs.Read.Entries.Operators.{notice_operator, font_box_operator, charset_operator}
+use Rattle.subsetter_cff.specs.Read.Entries.Operators.{char_strings_operator, private_operator, copyright_operator}
+use Rattle.subsetter_cff.specs.Read.Entries.Operators.{font_matrix_operator, registry_operator, font_dicts_operator}
+use Rattle.subsetter_cff.specs.Read.Entries.Operators.{font_dict_select_operator, font_name_operator}
 use Rattle.subsetter_cff.specs.Read.Entries.Values.{DictValues}
 
 -- what an operator says
@@ -27,7 +31,7 @@ field_by o =
     else if bytes_eq o registry_operator then fields.Ros
     else fields.Other
 
--- one entry more
+-- the values after one more entry
 abbrev pub taken_as : DictValues → Field → List Number → DictValues
 taken_as s fields.Notice xs = record s { notice = string_operand xs }
 taken_as s fields.Copyright xs = record s { copyright = string_operand xs }

@@ -1,5 +1,6 @@
 -- The first entry of a DICT that says what is looked for (Technical Note 5176, section 4 "DICT Data").
-use Rattle.std.specs.Prelude.{◌≡◌, ℕ, suc, ◌+◌, ◌-◌, ◌<◌, ◌≤◌, Bool, true, false, nat_le, if◌then◌else◌, List, [], ◌∷◌, length, take, drop, slice_get, Option, Some, None, MatchOption}
+use Rattle.std.specs.Prelude.{◌≡◌, ℕ, suc, ◌+◌, ◌-◌, ◌<◌, ◌≤◌, Bool, true, false, nat_le, if◌then◌else◌, List, [], ◌∷◌}
+use Rattle.std.specs.Prelude.{length, take, drop, slice_get, Option, Some, None, MatchOption}
 use Rattle.std.specs.Option.{option_or}
 use Rattle.subsetter_cffdata.specs.Numerals.Numbers.{Number}
 use Rattle.subsetter_cffdata.specs.Dicts.Dict.{Entry, entry_at, entries}
@@ -33,7 +34,8 @@ is_bare (x ∷ more) = false
 -- the entry that begins there: its operator, whether it has no operands, and how many bytes are left after it
 pub record IsEntryHere (bytes : List ℕ) (at : ℕ) (h : EntryHere) : Type 0 where
   pub operands : List Number
-  pub is : entry_at (last bytes at) ≡ Some (record { operator = operator_of h.operator; operands = operands }, last bytes h.left)
+  pub is : entry_at (last bytes at)
+      ≡ Some (record { operator = operator_of h.operator; operands = operands }, last bytes h.left)
   pub bare : h.bare ≡ is_bare operands
   pub shorter : h.left < at
 

@@ -7,7 +7,8 @@ use Rattle.subsetter_cffdata.specs.Dicts.Dict.{Entry}
 -- the operands of the last entry of an operator, or what was found before
 abbrev pub last_after : Option (List Number) → List ℕ → List Entry → Option (List Number)
 last_after found operator [] = found
-last_after found operator (e ∷ es) = last_after (if bytes_eq e.operator operator then Some e.operands else found) operator es
+last_after found operator (e ∷ es) =
+    last_after (if bytes_eq e.operator operator then Some e.operands else found) operator es
 
 -- the last entry of an operator counts
 abbrev pub last_of : List ℕ → List Entry → Option (List Number)

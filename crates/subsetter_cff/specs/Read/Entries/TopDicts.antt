@@ -9,7 +9,10 @@ use Rattle.subsetter_cffdata.specs.Views.{number_of}
 use Rattle.subsetter_cff.specs.declared.read.entries.top_dict.TopDictData.{TopDictData}
 use Rattle.subsetter_cff.specs.declared.read.fd_array.font_dict_entries.FontDictData.{FontDictData}
 use Rattle.subsetter_cff.specs.Read.Entries.Lookup.{last_of, first_of}
-use Rattle.subsetter_cff.specs.Read.Entries.Operators.{notice_operator, font_box_operator, charset_operator, char_strings_operator, private_operator, copyright_operator, font_matrix_operator, registry_operator, font_dicts_operator, font_dict_select_operator, font_name_operator}
+use Rattle.subsetter_cff.specs.Read.Entries.Operators.{notice_operator, font_box_operator, charset_operator}
+use Rattle.subsetter_cff.specs.Read.Entries.Operators.{char_strings_operator, private_operator, copyright_operator}
+use Rattle.subsetter_cff.specs.Read.Entries.Operators.{font_matrix_operator, registry_operator, font_dicts_operator}
+use Rattle.subsetter_cff.specs.Read.Entries.Operators.{font_dict_select_operator, font_name_operator}
 
 -- ---- what the last entry of an operator says
 abbrev pub last_string : List ℕ → List Entry → Option ℕ
@@ -38,7 +41,7 @@ pub record IsTopDict (es : List Entry) (t : TopDictData) : Type 0 where
   pub fd_select : t.fd_select ≡ last_offset font_dict_select_operator es
   pub private : option_map (λ r. (r.start, r.end)) t.private ≡ last_range private_operator es
 
--- of a font dict
+-- what the entries of a font dict say: the last FontMatrix, FontName and Private
 pub record IsFontDict (es : List Entry) (f : FontDictData) : Type 0 where
   pub font_matrix : option_map (map number_of) f.font_matrix ≡ last_numbers 6 font_matrix_operator es
   pub font_name : option_map (λ s. s.0) f.font_name ≡ last_string font_name_operator es

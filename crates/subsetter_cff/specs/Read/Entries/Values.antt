@@ -7,7 +7,10 @@ use Rattle.subsetter_cffdata.specs.Numerals.Numbers.{Number}
 use Rattle.subsetter_cffdata.specs.Dicts.Operands.{string_operand, offset_operand, range_operands, just}
 use Rattle.subsetter_cffdata.specs.Views.{number_of}
 use Rattle.subsetter_cff.specs.declared.read.entries.top_dict.TopDictData.{TopDictData}
-use Rattle.subsetter_cff.specs.Read.Entries.Operators.{notice_operator, font_box_operator, charset_operator, char_strings_operator, private_operator, copyright_operator, font_matrix_operator, registry_operator, font_dicts_operator, font_dict_select_operator, font_name_operator}
+use Rattle.subsetter_cff.specs.Read.Entries.Operators.{notice_operator, font_box_operator, charset_operator}
+use Rattle.subsetter_cff.specs.Read.Entries.Operators.{char_strings_operator, private_operator, copyright_operator}
+use Rattle.subsetter_cff.specs.Read.Entries.Operators.{font_matrix_operator, registry_operator, font_dicts_operator}
+use Rattle.subsetter_cff.specs.Read.Entries.Operators.{font_dict_select_operator, font_name_operator}
 
 pub record DictValues : Type 0 where
   pub copyright : Option ℕ
@@ -37,7 +40,7 @@ values_of t = record {
   private = option_map (λ r. (r.start, r.end)) t.private;
 }
 
--- one entry more
+-- the values after one more entry
 abbrev pub taken : DictValues → List ℕ → List Number → DictValues
 taken s operator xs = record {
   copyright = if bytes_eq operator copyright_operator then string_operand xs else s.copyright;
@@ -53,10 +56,23 @@ taken s operator xs = record {
   private = if bytes_eq operator private_operator then range_operands xs else s.private;
 }
 
--- all entries
+-- the values after all entries
 abbrev pub values_after : DictValues → List Entry → DictValues
 values_after s [] = s
 values_after s (e ∷ es) = values_after (taken s e.operator e.operands) es
 
 abbrev pub no_values : DictValues
-no_values = record { copyright = None; notice = None; font_name = None; has_ros = false; font_matrix = None; font_bbox = None; charset = None; char_strings = None; fd_array = None; fd_select = None; private = None }
+no_values =
+    record {
+      copyright = None;
+      notice = None;
+      font_name = None;
+      has_ros = false;
+      font_matrix = None;
+      font_bbox = None;
+      charset = None;
+      char_strings = None;
+      fd_array = None;
+      fd_select = None;
+      private = None;
+    }

@@ -1,5 +1,6 @@
 -- Which font dict a glyph has (Technical Note 5176, section 18 "CID-keyed Fonts" and section 19 "FDSelect").
-use Rattle.std.specs.Prelude.{ℕ, zero, suc, ◌==◌, ◌||◌, ◌&&◌, nat_lt, nat_le, if◌then◌else◌, List, length, map, slice_get, Option, Some, None}
+use Rattle.std.specs.Prelude.{ℕ, zero, suc, ◌==◌, ◌||◌, ◌&&◌, nat_lt, nat_le, if◌then◌else◌, List, length, map}
+use Rattle.std.specs.Prelude.{slice_get, Option, Some, None}
 use Rattle.std.specs.Option.{option_map}
 use Rattle.subsetter_cffdata.specs.Bytes.{card, part}
 use Rattle.subsetter_base.specs.Options.{◌>>=◌}
@@ -11,7 +12,8 @@ use Rattle.subsetter_cff.specs.Read.Entries.Operators.{font_dicts_operator, font
 
 -- the font dicts: the entries of FDArray before the first that is unreadable
 unfoldable pub font_dicts : Cff → Option (List (List Entry))
-font_dicts cff = at_offset cff font_dicts_operator >>= λ bytes. option_map (λ index. map entries (readable index.0)) (index_at bytes)
+font_dicts cff =
+    at_offset cff font_dicts_operator >>= λ bytes. option_map (λ index. map entries (readable index.0)) (index_at bytes)
 
 -- FDSelect: a number for each glyph, or ranges of glyphs
 pub data FontDictSelect : Type 0 where
@@ -45,6 +47,6 @@ selected (Ranges bytes) glyph = card 2 bytes >>= λ count.
 unfoldable pub font_dict_number : Cff → ℕ → Option ℕ
 font_dict_number cff glyph = font_dict_select cff >>= λ select. selected select glyph
 
--- a glyph's font dict
+-- a glyph's font dict, by FDSelect and FDArray
 unfoldable pub font_dict_of : Cff → ℕ → Option (List Entry)
 font_dict_of cff glyph = font_dict_number cff glyph >>= λ number. font_dicts cff >>= λ dicts. slice_get dicts number

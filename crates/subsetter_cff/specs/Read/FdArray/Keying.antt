@@ -1,4 +1,5 @@
--- How a CID-keyed font's glyphs are named (Technical Note 5176, section 9 "Top DICT Data" and section 18 "CID-keyed Fonts").
+-- How a CID-keyed font's glyphs are named (Technical Note 5176, section 9 "Top DICT Data" and section 18 "CID-keyed
+-- Fonts").
 use Rattle.std.specs.Prelude.{ℕ, ℤ, List, [], ◌∷◌, Option, Some, None}
 use Rattle.subsetter_base.specs.Options.{◌>>=◌}
 use Rattle.subsetter_cffdata.specs.Numerals.Numbers.{Number, as_i32}

@@ -1,4 +1,5 @@
--- Private dicts and local subroutines (Technical Note 5176, section 15 "Private DICT Data" and section 16 "Local/Global Subrs INDEXes").
+-- Private dicts and local subroutines (Technical Note 5176, section 15 "Private DICT Data" and section 16 "Local/Global
+-- Subrs INDEXes").
 use Rattle.std.specs.Prelude.{ℕ, ◌-◌, if◌then◌else◌, List, [], drop, unwrap_or, Option, Some, None}
 use Rattle.std.specs.Option.{option_map}
 use Rattle.subsetter_base.specs.Bytes.{range}
@@ -28,7 +29,8 @@ subroutines_by bytes (Some offset) = option_map (λ index. index.0) (index_at (d
 unfoldable pub local_subroutines : List ℕ → List Entry → Option (List (Option (List ℕ)))
 local_subroutines bytes es = subroutines_by bytes (first_of subroutines_operator es >>= offset_operand)
 
--- the private dict of a range of the table; none where the range leaves the table, or the subroutines are outside or unreadable
+-- the private dict of a range of the table; none where the range leaves the table, or the subroutines are outside or
+-- unreadable
 unfoldable pub private_in : List ℕ → ℕ × ℕ → Option Private
 private_in bytes place = do
   dict ← range bytes place.0 (place.1 - place.0)
@@ -44,7 +46,8 @@ private_by bytes (Some xs) = range_operands xs >>= private_in bytes
 unfoldable pub private_at : List ℕ → List Entry → Option Private
 private_at bytes dict = private_by bytes (last_of private_operator dict)
 
--- A glyph has the private dict of its font dict, in a font without font dicts that of the top dict; there an unreadable one is empty.
+-- A glyph has the private dict of its font dict, in a font without font dicts that of the top dict; there an unreadable
+-- one is empty.
 unfoldable pub private_of : Cff → ℕ → Option Private
 private_of cff glyph =
     if is_cid_keyed cff then (font_dict_of cff glyph >>= private_at cff.bytes)

@@ -8,7 +8,8 @@ use Rattle.subsetter_cff.specs.Read.Entries.Operators.{subroutines_operator}
 
 -- with wrong operands none
 abbrev pub subr_saying : Saying
-subr_saying operator operand = if bytes_eq operator subroutines_operator then Some (option_and_then as_u32 operand) else None
+subr_saying operator operand =
+    if bytes_eq operator subroutines_operator then Some (option_and_then as_u32 operand) else None
 
 -- the offset that is said, if one is
 abbrev pub joined : Option (Option ℕ) → Option ℕ

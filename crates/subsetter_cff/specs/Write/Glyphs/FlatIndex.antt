@@ -1,4 +1,4 @@
--- An INDEX of items that stand one after the other.
+-- An INDEX of items that follow one another.
 use Rattle.std.specs.Prelude.{◌≡◌, ℕ, ◌+◌, ◌==◌, if◌then◌else◌, List, [], ◌∷◌, ◌++◌, length}
 use Rattle.std.specs.Int.{bytes_high_first}
 use Rattle.std.specs.List.{concat}
@@ -16,7 +16,7 @@ single_header size =
     let width = offset_size (size + 1) in
     (0 ∷ 1 ∷ width ∷ []) ++ (bytes_high_first width 1 ++ bytes_high_first width (size + 1))
 
--- with the data
+-- an INDEX with its data, where items end at these places
 abbrev pub flat_index : List ℕ → List ℕ → List ℕ
 flat_index text ends = flat_header (length text) ends ++ text
 

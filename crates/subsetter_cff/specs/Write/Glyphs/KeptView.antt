@@ -28,13 +28,13 @@ texts_of kept = map (λ (k : KeptGlyph). k.bytes) kept
 abbrev pub texts_size : List KeptGlyph → ℕ
 texts_size kept = length (concat (texts_of kept))
 
--- the glyphs that stand in memory; each end is the offset that an INDEX gives
+-- the glyphs that are held in memory; each end is the offset that an INDEX gives
 pub record AreKept (kept : List KeptGlyph) (k : KeptGlyphs) : Type 0 where
   pub numbers : k.numbers.items ≡ numbers_of kept
   pub char_strings : k.char_strings.items ≡ concat (texts_of kept)
   pub ends : k.ends.items ≡ offsets 1 (texts_of kept)
 
--- one glyph more
+-- the kept glyphs with one more
 pub record IsPut (old new : KeptGlyphs) (g : KeptGlyph) : Type 0 where
   pub numbers : new.numbers.items ≡ old.numbers.items ++ g.number ∷ []
   pub char_strings : new.char_strings.items ≡ old.char_strings.items ++ g.bytes
@@ -46,7 +46,7 @@ pub record AreAllKept (cff : Cff) (tokens depth : ℕ) (glyphs : List ℕ) (k : 
   pub are : kept_glyphs cff tokens depth glyphs ≡ Ok kept
   pub shown : AreKept kept k
 
--- a glyph whose charstring stands after others
+-- a glyph whose charstring comes after others
 unfoldable pub kept_past : List ℕ → Cff → ℕ → ℕ → ℕ → Result KeptGlyph Error
 kept_past front cff tokens depth glyph = do
   number ← ok_or (source_number cff glyph) MalformedFont
@@ -61,6 +61,6 @@ pub record KeepsNext (cff : Cff) (tokens depth glyph : ℕ) (old new : KeptGlyph
   pub is : kept_glyph cff tokens depth glyph ≡ Ok one
   pub put : IsPut old new one
 
--- glyphs before what is answered
+-- glyphs before those of a result
 abbrev pub with_kept : List KeptGlyph → Result (List KeptGlyph) Error → Result (List KeptGlyph) Error
 with_kept front read = read >>= λ more. Ok (front ++ more)

@@ -1,4 +1,5 @@
--- What can be laid out as a CFF table (Technical Note 5176): all but the sizes is so by itself for parts that were read.
+-- What can be laid out as a CFF table (Technical Note 5176): all but the sizes is so by itself for parts that were
+-- read.
 use Rattle.std.specs.Prelude.{◌≡◌, ℕ, ◌+◌, ◌<◌, ◌≤◌, ◌^◌, List, length, Option, Some, None}
 use Rattle.std.specs.List.{concat, AllByRecursion}
 use Rattle.subsetter_cffdata.specs.Bytes.{ReadAgain}
@@ -8,7 +9,8 @@ use Rattle.subsetter_cffdata.specs.Numerals.Numbers.{Number, FitsDict}
 use Rattle.subsetter_cff.specs.Read.Entries.Lookup.{first_of}
 use Rattle.subsetter_cff.specs.Read.Entries.Operators.{subroutines_operator}
 use Rattle.subsetter_cff.specs.Read.Strings.{FontString, Standard, Custom, standard_strings}
-use Rattle.subsetter_cff.specs.Write.Laying.Layout.{FontDict, Select, First, Numbers, Parts, rewritten_entries, strings, char_strings_offset}
+use Rattle.subsetter_cff.specs.Write.Laying.Layout.{FontDict, Select, First, Numbers, Parts, rewritten_entries, strings}
+use Rattle.subsetter_cff.specs.Write.Laying.Layout.{char_strings_offset}
 
 -- a standard string is one of 391
 abbrev pub FitsString : Option FontString → Type 0

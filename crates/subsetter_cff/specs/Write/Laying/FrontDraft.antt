@@ -4,17 +4,20 @@ use Rattle.subsetter_cffdata.specs.Dicts.Dict.{NewEntry, dict}
 use Rattle.subsetter_cffdata.specs.Indexes.Index.{index}
 use Rattle.subsetter_cff.specs.declared.write.laying.front.FrontDraft.{FrontDraft}
 use Rattle.subsetter_cff.specs.declared.write.laying.table.TableParts.{TableParts}
-use Rattle.subsetter_cff.specs.Write.Laying.Layout.{Offsets, TopDict, header, registry_entry, number_entries, placed_entries}
+use Rattle.subsetter_cff.specs.Write.Laying.Layout.{Offsets, TopDict, header, registry_entry, number_entries}
+use Rattle.subsetter_cff.specs.Write.Laying.Layout.{placed_entries}
 use Rattle.subsetter_cffdata.specs.Dicts.Plain.{plain_entry}
 use Rattle.subsetter_cff.specs.Write.Laying.PartsView.{top_by}
-use Rattle.subsetter_cff.specs.Read.Entries.Operators.{copyright_operator, notice_operator, font_name_operator, font_matrix_operator, font_box_operator}
+use Rattle.subsetter_cff.specs.Read.Entries.Operators.{copyright_operator, notice_operator, font_name_operator}
+use Rattle.subsetter_cff.specs.Read.Entries.Operators.{font_matrix_operator, font_box_operator}
 use Rattle.subsetter_cff.specs.Write.Laying.TableBy.{front_size}
 
--- the entries of a top dict that name no place; those that do stand after them
+-- the entries of a top dict that name no place; those that do come after them
 abbrev pub named_entries : TopDict → List NewEntry
 named_entries t =
     registry_entry ∷ (number_entries copyright_operator t.copyright ++ (number_entries notice_operator t.notice
-    ++ (number_entries font_name_operator t.font_name ++ (plain_entry font_matrix_operator t.matrix ∷ plain_entry font_box_operator t.box ∷ []))))
+    ++ (number_entries font_name_operator t.font_name
+    ++ (plain_entry font_matrix_operator t.matrix ∷ plain_entry font_box_operator t.box ∷ []))))
 
 unfoldable pub named_bytes : TopDict → List ℕ
 named_bytes t = dict (named_entries t)

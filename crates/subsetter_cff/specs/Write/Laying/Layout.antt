@@ -1,7 +1,8 @@
--- How the CFF table of a subset is laid out (Technical Note 5176): always CID-keyed, without subroutines. It has a header, Name
--- INDEX, Top DICT INDEX, String INDEX and Global Subr INDEX (section 2 "Data Layout"); then charset, private dicts, FDSelect,
--- FDArray and CharStrings, which the top dict leads to by offsets.
-use Rattle.std.specs.Prelude.{ℕ, pos, ◌+◌, ◌-◌, nat_lt, if◌then◌else◌, List, [], ◌∷◌, ◌++◌, length, map, codes, unwrap_or, Option, Some, None}
+-- How the CFF table of a subset is laid out (Technical Note 5176): always CID-keyed, without subroutines. It has a
+-- header, Name INDEX, Top DICT INDEX, String INDEX and Global Subr INDEX (section 2 "Data Layout"); then charset,
+-- private dicts, FDSelect, FDArray and CharStrings, which the top dict leads to by offsets.
+use Rattle.std.specs.Prelude.{ℕ, pos, ◌+◌, ◌-◌, nat_lt, if◌then◌else◌, List, [], ◌∷◌, ◌++◌, length, map, codes}
+use Rattle.std.specs.Prelude.{unwrap_or, Option, Some, None}
 use Rattle.std.specs.Int.{w16, to_be_bytes}
 use Rattle.std.specs.List.{flat_map}
 use Rattle.std.specs.Option.{option_map}
@@ -11,7 +12,11 @@ use Rattle.subsetter_cffdata.specs.Indexes.Index.{index}
 use Rattle.subsetter_cffdata.specs.Dicts.Dict.{Long, NewEntry, dict, Entry}
 use Rattle.subsetter_cffdata.specs.Dicts.Plain.{plain_entry}
 use Rattle.subsetter_cffdata.specs.Numerals.Numbers.{Number, Integer}
-use Rattle.subsetter_cff.specs.Read.Entries.Operators.{notice_operator, font_box_operator, charset_operator, char_strings_operator, private_operator, copyright_operator, font_matrix_operator, registry_operator, cid_count_operator, font_dicts_operator, font_dict_select_operator, font_name_operator}
+use Rattle.subsetter_cff.specs.Read.Entries.Operators.{notice_operator, font_box_operator, charset_operator}
+use Rattle.subsetter_cff.specs.Read.Entries.Operators.{char_strings_operator, private_operator, copyright_operator}
+use Rattle.subsetter_cff.specs.Read.Entries.Operators.{font_matrix_operator, registry_operator, cid_count_operator}
+use Rattle.subsetter_cff.specs.Read.Entries.Operators.{font_dicts_operator, font_dict_select_operator}
+use Rattle.subsetter_cff.specs.Read.Entries.Operators.{font_name_operator}
 use Rattle.subsetter_cff.specs.Read.Strings.{FontString, Standard, Custom, standard_strings}
 
 -- ---- what a table is laid out for
@@ -27,7 +32,7 @@ pub data Select : Type 0 where
   Numbers : List ℕ → Select
 
 pub record Parts : Type 0 where
-  -- the Name INDEX as it stands
+  -- the Name INDEX as it is
   pub names : List ℕ
   pub copyright : Option FontString
   pub notice : Option FontString
@@ -47,9 +52,11 @@ custom_string None = []
 -- the strings of the source that are no standard strings, in the order in which they are numbered
 abbrev pub given_strings : Parts → List (List ℕ)
 given_strings p =
-    custom_string p.copyright ++ (custom_string p.font_name ++ (custom_string p.notice ++ flat_map (λ (f : FontDict). custom_string f.name) p.font_dicts))
+    custom_string p.copyright
+    ++ (custom_string p.font_name
+    ++ (custom_string p.notice ++ flat_map (λ (f : FontDict). custom_string f.name) p.font_dicts))
 
--- Adobe and Identity of ROS stand in front
+-- Adobe and Identity of ROS come first
 abbrev pub named_strings : Parts → List (List ℕ)
 named_strings p = codes "Adobe" ∷ codes "Identity" ∷ given_strings p
 
@@ -57,7 +64,7 @@ abbrev pub with_strings : List (List ℕ) → List (List ℕ) → List (List ℕ
 with_strings found [] = found
 with_strings found (s ∷ more) = with_strings (with_value bytes_eq found s) more
 
--- each once
+-- the String INDEX: each string once
 unfoldable pub strings : Parts → List (List ℕ)
 strings p = with_strings [] (named_strings p)
 
@@ -86,7 +93,8 @@ abbrev pub registry_entry : NewEntry
 registry_entry = plain_entry registry_operator (integer 391 ∷ integer 392 ∷ integer 0 ∷ [])
 
 -- ---- the parts after the top dict, as bytes
--- Glyph 0 isn't in the charset. The others have their own number as CID, in one range of format 2 (section 13 "Charsets").
+-- Glyph 0 isn't in the charset. The others have their own number as CID, in one range of format 2 (section 13
+-- "Charsets").
 unfoldable pub charset_bytes : ℕ → List ℕ
 charset_bytes glyphs = if nat_lt glyphs 2 then 0 ∷ [] else 2 ∷ (to_be_bytes w16 1 ++ to_be_bytes w16 (glyphs - 2))
 
@@ -108,20 +116,24 @@ privates fs = flat_map private_bytes fs
 abbrev pub private_entry : ℕ → ℕ → NewEntry
 private_entry size place = record { operator = private_operator; operands = Long size ∷ Long place ∷ [] }
 
--- a font dict with the number of its name, whose private dict of a size stands at a place (section 18 "CID-keyed Fonts")
+-- a font dict with the number of its name, whose private dict, with its size, is at a place (section 18 "CID-keyed
+-- Fonts")
 unfoldable pub entries_of_font_dict_by : List Number → ℕ → ℕ → Option ℕ → List NewEntry
-entries_of_font_dict_by matrix size place name = plain_entry font_matrix_operator matrix ∷ private_entry size place ∷ number_entries font_name_operator name
+entries_of_font_dict_by matrix size place name =
+    plain_entry font_matrix_operator matrix ∷ private_entry size place ∷ number_entries font_name_operator name
 
 abbrev pub entries_of_font_dict : List (List ℕ) → ℕ → FontDict → List NewEntry
-entries_of_font_dict strings place f = entries_of_font_dict_by f.matrix (length (private_bytes f)) place (option_map (number_of strings) f.name)
+entries_of_font_dict strings place f =
+    entries_of_font_dict_by f.matrix (length (private_bytes f)) place (option_map (number_of strings) f.name)
 
--- font dicts whose private dicts stand one after the other from a place on
+-- font dicts whose private dicts follow one another from a place on
 abbrev pub font_dicts_from : List (List ℕ) → ℕ → List FontDict → List (List ℕ)
 font_dicts_from strings place [] = []
-font_dicts_from strings place (f ∷ fs) = dict (entries_of_font_dict strings place f) ∷ font_dicts_from strings (place + length (private_bytes f)) fs
+font_dicts_from strings place (f ∷ fs) =
+    dict (entries_of_font_dict strings place f) ∷ font_dicts_from strings (place + length (private_bytes f)) fs
 
 -- ---- the whole
--- where the parts stand that the top dict names
+-- where the parts are that the top dict names
 pub record Offsets : Type 0 where
   pub charset : ℕ
   pub char_strings : ℕ
@@ -130,7 +142,8 @@ pub record Offsets : Type 0 where
 
 abbrev pub placed_entries : Offsets → List NewEntry
 placed_entries o =
-    offset_entry charset_operator o.charset ∷ offset_entry char_strings_operator o.char_strings ∷ plain_entry cid_count_operator (integer 65535 ∷ [])
+    offset_entry charset_operator o.charset ∷ offset_entry char_strings_operator o.char_strings
+    ∷ plain_entry cid_count_operator (integer 65535 ∷ [])
     ∷ offset_entry font_dicts_operator o.font_dicts ∷ offset_entry font_dict_select_operator o.select ∷ []
 
 -- what the top dict says: numbers of strings, matrix and box (section 9 "Top DICT Data")
@@ -144,7 +157,8 @@ pub record TopDict : Type 0 where
 unfoldable pub top_entries_by : TopDict → Offsets → List NewEntry
 top_entries_by t o =
     registry_entry ∷ (number_entries copyright_operator t.copyright ++ (number_entries notice_operator t.notice
-    ++ (number_entries font_name_operator t.font_name ++ (plain_entry font_matrix_operator t.matrix ∷ plain_entry font_box_operator t.box ∷ placed_entries o))))
+    ++ (number_entries font_name_operator t.font_name
+    ++ (plain_entry font_matrix_operator t.matrix ∷ plain_entry font_box_operator t.box ∷ placed_entries o))))
 
 abbrev pub top_of : Parts → TopDict
 top_of p = record {
@@ -195,7 +209,13 @@ abbrev pub char_strings_offset : Parts → ℕ
 char_strings_offset p = fd_array_offset p + length (font_dicts_of p)
 
 abbrev pub table_offsets : Parts → Offsets
-table_offsets p = record { charset = charset_offset p; char_strings = char_strings_offset p; font_dicts = fd_array_offset p; select = fd_select_offset p }
+table_offsets p =
+    record {
+      charset = charset_offset p;
+      char_strings = char_strings_offset p;
+      font_dicts = fd_array_offset p;
+      select = fd_select_offset p;
+    }
 
 abbrev pub past_front : Parts → List ℕ
 past_front p = charset_of p ++ (privates p.font_dicts ++ (select_of p ++ (font_dicts_of p ++ index p.char_strings)))

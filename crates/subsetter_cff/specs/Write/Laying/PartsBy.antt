@@ -22,7 +22,12 @@ use Rattle.subsetter_base.specs.Indexes.{new_index}
 
 -- what a font dict in memory says
 abbrev pub stored_dict : List (Option (List ℕ)) → StoredDict → SourceDict
-stored_dict strings f = record { own = shown f.entries.font_matrix; private = private_view f.private; name = named strings (option_map (λ s. s.0) f.entries.font_name) }
+stored_dict strings f =
+    record {
+      own = shown f.entries.font_matrix;
+      private = private_view f.private;
+      name = named strings (option_map (λ s. s.0) f.entries.font_name);
+    }
 
 -- the font dict that is written for one of the source
 unfoldable pub made_dict : Option (List Number) → SourceDict → Result FontDict Error

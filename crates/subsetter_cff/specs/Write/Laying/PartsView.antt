@@ -9,7 +9,8 @@ use Rattle.subsetter_cffdata.specs.Views.{number_of}
 use Rattle.subsetter_cff.specs.declared.write.laying.table.FontDictParts.{FontDictParts}
 use Rattle.subsetter_cff.specs.declared.write.laying.table.TableParts.{TableParts}
 use Rattle.subsetter_cff.specs.declared.read.string_names.StringName.{StringName}
-use Rattle.subsetter_cff.specs.Write.Laying.Layout.{FontDict, Select, First, Numbers, Parts, Offsets, TopDict, custom_string, header, top_entries_by, number_of as number_in}
+use Rattle.subsetter_cff.specs.Write.Laying.Layout.{FontDict, Select, First, Numbers, Parts, Offsets, TopDict}
+use Rattle.subsetter_cff.specs.Write.Laying.Layout.{custom_string, header, top_entries_by, number_of as number_in}
 use Rattle.subsetter_cff.specs.Read.Entries.Lookup.{without}
 use Rattle.subsetter_cff.specs.Read.Entries.Operators.{subroutines_operator}
 use Rattle.subsetter_cff.specs.Write.Strings.SidRemapping.{name_of}
@@ -19,7 +20,12 @@ abbrev pub string_view : Option StringName → Option FontString
 string_view name = option_map name_of name
 
 abbrev pub font_dict_view : FontDictParts → FontDict
-font_dict_view f = record { matrix = map number_of f.matrix; private = without subroutines_operator (entries f.private.now); name = string_view f.name }
+font_dict_view f =
+    record {
+      matrix = map number_of f.matrix;
+      private = without subroutines_operator (entries f.private.now);
+      name = string_view f.name;
+    }
 
 -- the strings of font dicts that want a number
 abbrev pub dict_texts : List FontDictParts → List (List ℕ)
@@ -60,4 +66,5 @@ top_by texts t = record {
 
 -- the front, by the strings as they are numbered
 unfoldable pub front_by : List (List ℕ) → TableParts → Offsets → List ℕ
-front_by texts t o = header ++ (t.names.now ++ (index (dict (top_entries_by (top_by texts t) o) ∷ []) ++ (index texts ++ (0 ∷ 0 ∷ []))))
+front_by texts t o =
+    header ++ (t.names.now ++ (index (dict (top_entries_by (top_by texts t) o) ∷ []) ++ (index texts ++ (0 ∷ 0 ∷ []))))

@@ -1,5 +1,6 @@
 -- What a table that was laid out for parts says, read afresh (Technical Note 5176).
-use Rattle.std.specs.Prelude.{◌≡◌, ℕ, pos, ◌<◌, ◌≤◌, List, [], ◌++◌, length, map, codes, slice_get, slice_index, Option, Some, None}
+use Rattle.std.specs.Prelude.{◌≡◌, ℕ, pos, ◌<◌, ◌≤◌, List, [], ◌++◌, length, map, codes, slice_get, slice_index, Option}
+use Rattle.std.specs.Prelude.{Some, None}
 use Rattle.subsetter_base.specs.Options.{◌>>=◌}
 use Rattle.subsetter_cffdata.specs.Numerals.Values.{value}
 use Rattle.subsetter_cff.specs.Read.Entries.Lookup.{last_of, first_of}
@@ -10,8 +11,10 @@ use Rattle.subsetter_cff.specs.Read.FdArray.Keying.{Keying, keying}
 use Rattle.subsetter_cff.specs.Read.FdArray.FontDicts.{font_dict_number, select_at, selected}
 use Rattle.subsetter_cff.specs.Read.FdArray.Private.{private_of}
 use Rattle.subsetter_cff.specs.Read.Entries.Matrices.{stated_matrices, font_dict_name}
-use Rattle.subsetter_cff.specs.Read.Entries.Operators.{copyright_operator, notice_operator, font_name_operator, font_box_operator, subroutines_operator}
-use Rattle.subsetter_cff.specs.Write.Laying.Layout.{Parts, FontDict, Select, First, Numbers, charset_bytes, select_bytes, cff_table}
+use Rattle.subsetter_cff.specs.Read.Entries.Operators.{copyright_operator, notice_operator, font_name_operator}
+use Rattle.subsetter_cff.specs.Read.Entries.Operators.{font_box_operator, subroutines_operator}
+use Rattle.subsetter_cff.specs.Write.Laying.Layout.{Parts, FontDict, Select, First, Numbers, charset_bytes}
+use Rattle.subsetter_cff.specs.Write.Laying.Layout.{select_bytes, cff_table}
 use Rattle.subsetter_cff.specs.Write.Laying.Fits.{Fits}
 
 -- the number of a glyph's font dict, and that font dict
@@ -26,7 +29,7 @@ font_dict_in p glyph = slice_get p.font_dicts (number_in p.select glyph)
 abbrev pub adobe_identity : Keying
 adobe_identity = record { registry = Custom (codes "Adobe"); ordering = Custom (codes "Identity"); supplement = pos 0 }
 
--- of a glyph
+-- what is read of a glyph of the new table
 pub record GlyphReadsAs (p : Parts) (cff : Cff) (glyph : ℕ) : Type 0 where
   -- its CID is its number
   pub cid : cid_of cff glyph ≡ Some glyph
@@ -65,7 +68,9 @@ LaidOutIsRead = (p : Parts) → Fits p → IsReadAs (cff_table p) p
 -- ---- charset and FDSelect by themselves, whatever bytes follow
 -- each glyph has its number as CID (section 13 "Charsets")
 abbrev pub CharsetIsRead : Type 0
-CharsetIsRead = (glyphs glyph : ℕ) (rest : List ℕ) → glyphs ≤ 65535 → glyph < glyphs → in_charset (charset_bytes glyphs ++ rest) glyph ≡ Some glyph
+CharsetIsRead =
+    (glyphs glyph : ℕ) (rest : List ℕ) → glyphs ≤ 65535 → glyph < glyphs
+    → in_charset (charset_bytes glyphs ++ rest) glyph ≡ Some glyph
 
 -- the first font dict, or a number for each of the glyphs
 abbrev pub IsForEach : ℕ → Select → Type 0
@@ -74,5 +79,7 @@ IsForEach glyphs (Numbers numbers) = length numbers ≡ glyphs
 
 -- each glyph has the font dict of the number that it was written with (section 19 "FDSelect")
 abbrev pub SelectIsRead : Type 0
-SelectIsRead = (select : Select) (glyphs glyph : ℕ) (rest : List ℕ) → IsForEach glyphs select → glyphs ≤ 65535 → glyph < glyphs
-    → (select_at glyphs (select_bytes glyphs select ++ rest) >>= λ read. selected read glyph) ≡ Some (number_in select glyph)
+SelectIsRead =
+    (select : Select) (glyphs glyph : ℕ) (rest : List ℕ) → IsForEach glyphs select → glyphs ≤ 65535 → glyph < glyphs
+    → (select_at glyphs (select_bytes glyphs select ++ rest) >>= λ read. selected read glyph)
+    ≡ Some (number_in select glyph)

@@ -1,5 +1,6 @@
 -- What is checked while a new table is written: no real is too long, an offset has 31 bits, an INDEX has 32.
-use Rattle.std.specs.Prelude.{ℕ, ◌+◌, ◌^◌, ◌&&◌, nat_lt, if◌then◌else◌, Bool, true, false, List, [], ◌∷◌, length, Result, Ok}
+use Rattle.std.specs.Prelude.{ℕ, ◌+◌, ◌^◌, ◌&&◌, nat_lt, if◌then◌else◌, Bool, true, false, List, [], ◌∷◌, length}
+use Rattle.std.specs.Prelude.{Result, Ok}
 use Rattle.std.specs.List.{concat}
 use Rattle.subsetter_base.specs.Bytes.{◌>>=◌}
 use Rattle.subsetter_base.specs.declared.error.Error.{Error}
@@ -8,7 +9,8 @@ use Rattle.subsetter_cffdata.specs.Indexes.Index.{index}
 use Rattle.subsetter_cffdata.specs.Numerals.Numbers.{Number}
 use Rattle.subsetter_cff.specs.declared.write.laying.table.TableParts.{TableParts}
 use Rattle.subsetter_cff.specs.Write.Laying.FrontDraft.{named_bytes}
-use Rattle.subsetter_cff.specs.Write.Laying.Layout.{FontDict, charset_bytes, select_bytes, privates, private_bytes, font_dicts_from}
+use Rattle.subsetter_cff.specs.Write.Laying.Layout.{FontDict, charset_bytes, select_bytes, privates, private_bytes}
+use Rattle.subsetter_cff.specs.Write.Laying.Layout.{font_dicts_from}
 use Rattle.subsetter_cff.specs.Write.Laying.PartsView.{select_of_table, top_by}
 use Rattle.subsetter_cff.specs.Read.Opened.{check}
 use Rattle.subsetter_cff.specs.Write.NewDicts.WrittenNumbers.{any_long, entry_numbers}
@@ -22,7 +24,7 @@ limit b = check b OverflowError (Ok tt)
 abbrev pub short : List Number → Bool
 short xs = if any_long xs then false else true
 
--- at most 2147483647
+-- an offset of a DICT is at most 2147483647
 abbrev pub is_offset : ℕ → Bool
 is_offset n = nat_lt n (2 ^ 31)
 
@@ -41,19 +43,19 @@ front_limits texts t = do
   indexed ← limit (has_index texts)
   limit (is_offset (front_size texts t))
 
--- of a font dict whose private dict stands at a place
+-- of a font dict whose private dict is at a place
 unfoldable pub dict_limits : ℕ → FontDict → Result (Unit {0}) Error
 dict_limits place f = do
   private ← limit (short (entry_numbers f.private))
   end ← limit (is_offset (place + length (private_bytes f)))
   limit (short f.matrix)
 
--- of font dicts whose private dicts stand one after the other from a place on
+-- of font dicts whose private dicts follow one another from a place on
 abbrev pub dicts_limits : ℕ → List FontDict → Result (Unit {0}) Error
 dicts_limits place [] = Ok tt
 dicts_limits place (f ∷ fs) = dict_limits place f >>= λ first. dicts_limits (place + length (private_bytes f)) fs
 
--- of what stands after a front of a size
+-- of what is after a front of a size
 unfoldable pub pieces_limits : List (List ℕ) → TableParts → ℕ → ℕ → Result (Unit {0}) Error
 pieces_limits texts t glyphs size = do
   place ← limit (is_offset (size + length (charset_bytes glyphs)))
@@ -68,7 +70,7 @@ offset_limits size charset private select dicts = do
   after_select ← limit (is_offset (size + charset + private + select))
   limit (is_offset (size + charset + private + select + dicts))
 
--- of what stands after the front
+-- of what is after the front
 unfoldable pub laid_limits : List (List ℕ) → TableParts → ℕ → ℕ → Result (Unit {0}) Error
 laid_limits texts t glyphs size =
     let charset = length (charset_bytes glyphs) in

@@ -1,5 +1,6 @@
 -- DICT entries of the source as they are written again.
-use Rattle.std.specs.Prelude.{◌≡◌, ℕ, ◌<◌, Bool, if◌then◌else◌, List, [], ◌++◌, length, Option, Some, None, Result, Ok, Err}
+use Rattle.std.specs.Prelude.{◌≡◌, ℕ, ◌<◌, Bool, if◌then◌else◌, List, [], ◌++◌, length, Option, Some, None, Result, Ok}
+use Rattle.std.specs.Prelude.{Err}
 use Rattle.std.specs.List.{list_any}
 use Rattle.subsetter_base.specs.Gives.{following}
 use Rattle.subsetter_base.specs.declared.error.Error.{Error}
@@ -21,7 +22,8 @@ written_entries es = if list_any is_refused es then Err OverflowError else Ok (d
 
 -- of an operator and its operands
 unfoldable pub written_entry : List ℕ → List Number → Result (List ℕ) Error
-written_entry operator xs = if list_any is_too_long xs then Err OverflowError else Ok (entry_bytes (plain_entry operator xs))
+written_entry operator xs =
+    if list_any is_too_long xs then Err OverflowError else Ok (entry_bytes (plain_entry operator xs))
 
 -- of an entry that is there
 abbrev pub written_if_there : List ℕ → Option (List Number) → Result (List ℕ) Error
@@ -32,13 +34,16 @@ written_if_there operator (Some xs) = written_entry operator xs
 unfoldable pub rewritten_private : List ℕ → Result (List ℕ) Error
 rewritten_private bytes = written_entries (without subroutines_operator (entries bytes))
 
--- entries before a rest are written as they stand
+-- entries before a rest are written as they are
 pub record IsCopied (bytes rest : List ℕ) : Type 0 where
   pub text : List ℕ
   pub is : bytes ≡ text ++ rest
-  pub copies : (front : List ℕ) → following (front ++ text) (rewritten_private rest) ≡ following front (rewritten_private bytes)
+  pub copies : (front : List ℕ)
+      → following (front ++ text) (rewritten_private rest) ≡ following front (rewritten_private bytes)
 
--- what is written now, after a front, is a private dict's first entry where another rest follows it, else the whole dict
+-- what is written now, after a front, is a private dict's first entry where another rest follows it, else the whole
+-- dict
 abbrev pub Rewrites : List ℕ → List ℕ → List ℕ → Option (List ℕ) → Type 0
 Rewrites front bytes now None = following front (rewritten_private bytes) ≡ Ok now
-Rewrites front bytes now (Some rest) = (following now (rewritten_private rest) ≡ following front (rewritten_private bytes)) × (length rest < length bytes)
+Rewrites front bytes now (Some rest) =
+    (following now (rewritten_private rest) ≡ following front (rewritten_private bytes)) × (length rest < length bytes)

@@ -16,7 +16,8 @@ top_dict_of t = record {
 }
 
 abbrev pub offsets_of : Offsets → Written_places
-offsets_of o = record { charset = o.charset; char_strings = o.char_strings; font_dicts = o.font_dicts; select = o.select }
+offsets_of o =
+    record { charset = o.charset; char_strings = o.char_strings; font_dicts = o.font_dicts; select = o.select }
 
 -- offsets are at most 2147483647
 pub record AreOffsets (o : Offsets) : Type 0 where

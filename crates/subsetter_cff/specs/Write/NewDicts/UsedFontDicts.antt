@@ -10,6 +10,7 @@ use Rattle.subsetter_cff.specs.Read.Opened.{check}
 unfoldable pub used_font_dicts : List ℕ → List ℕ
 used_font_dicts numbers = filter (is_listed numbers) (range_with_len 0 256)
 
--- at most 255 of them
+-- the font dicts that are used, at most 255
 unfoldable pub counted_font_dicts : List ℕ → Result (List ℕ) Error
-counted_font_dicts numbers = check (nat_lt (length (used_font_dicts numbers)) 256) OverflowError (Ok (used_font_dicts numbers))
+counted_font_dicts numbers =
+    check (nat_lt (length (used_font_dicts numbers)) 256) OverflowError (Ok (used_font_dicts numbers))

@@ -1,5 +1,6 @@
 -- New numbers of strings: from 391 on, in the order of first use.
-use Rattle.std.specs.Prelude.{ℕ, ◌+◌, nat_lt, ◌==◌, if◌then◌else◌, List, [], ◌∷◌, ◌++◌, Option, Some, None, is_some, unwrap_or}
+use Rattle.std.specs.Prelude.{ℕ, ◌+◌, nat_lt, ◌==◌, if◌then◌else◌, List, [], ◌∷◌, ◌++◌, Option, Some, None, is_some}
+use Rattle.std.specs.Prelude.{unwrap_or}
 use Rattle.std.specs.Option.{option_map}
 use Rattle.std.specs.List.{flat_map}
 use Rattle.std.specs.Str.{bytes_eq}
@@ -30,7 +31,10 @@ new_number pairs old = if nat_lt old standard_strings then Some old else known_n
 abbrev pub with_old : Remapped → ℕ → List ℕ → Remapped
 with_old r old s =
     if is_some (new_number r.known old) then r
-    else record { texts = with_value bytes_eq r.texts s; known = r.known ++ (old, unwrap_or (number_in (with_value bytes_eq r.texts s) s) 0) ∷ [] }
+    else record {
+      texts = with_value bytes_eq r.texts s;
+      known = r.known ++ (old, unwrap_or (number_in (with_value bytes_eq r.texts s) s) 0) ∷ [];
+    }
 
 -- the string of a number, where there is a number; None where it can't be read
 abbrev pub named : List (Option (List ℕ)) → Option ℕ → Option (Option FontString)
