@@ -11,7 +11,7 @@ use crate::proved::subsetter_cff::write::laying::writing::write_table;
 use crate::proved::subsetter_cff::CffPieces;
 use crate::rattle::alloc::Global;
 
-/// Whether a table may have so many glyphs.
+/// Whether a table may have `count` glyphs.
 fn is_count(count: usize) -> bool {
     0 < count && count < 65536
 }

@@ -35,7 +35,7 @@ fn cids(alloc: Global, mapper: &GlyphRemapper, glyphs: &[u16]) -> Result<Vec<u16
 /// # Errors
 ///
 /// - `OverflowError`: all glyphs above 0 are given, which leaves no number for glyph 0.
-/// - `OutOfMemory`: a request for memory was refused. For a font that can't be opened it is what `check_opening` answers.
+/// - `OutOfMemory`: a request for memory was refused. A font that can't be opened gives the error of `check_opening`.
 pub fn mapper_for(
     alloc: Global,
     data: &[u8],

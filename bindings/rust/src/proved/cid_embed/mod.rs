@@ -2,7 +2,7 @@
 //! What a PDF writer needs of a font: its subset, the CIDs of the requested glyphs, and the width of each CID.
 //!
 //! `embed` makes all three; `write_widths` writes the widths as a PDF has them; `shrink` makes a subset of what
-//! `embed` answered.
+//! `embed` returned.
 //!
 //! ```text
 //! let embedded = embed(alloc, data, 0, &[36, 68])?;   // embedded.font, .cids, .widths

@@ -15,7 +15,7 @@ fn thousandths(length: u16, units_per_em: u16) -> u32 {
     (2 * (u32::from(length) * 1000) + units) / (2 * units)
 }
 
-/// The widths of so many glyphs, from glyph 0 on. An advance that isn't there is `MalformedFont`.
+/// The widths of the first `count` glyphs. An advance that isn't there is `MalformedFont`.
 pub fn all_widths(alloc: Global, metrics: &Metrics<'_>, count: u16) -> Result<Vec<u32>, Error> {
     let mut widths = Vec::with_capacity(alloc, usize::from(count))?;
     for glyph in 0..count {
@@ -25,7 +25,7 @@ pub fn all_widths(alloc: Global, metrics: &Metrics<'_>, count: u16) -> Result<Ve
     Ok(widths)
 }
 
-/// The widths of so many glyphs of a file that holds one font, from glyph 0 on. What is missing is `MalformedFont`.
+/// The widths of the first `count` glyphs of a file that holds one font. What is missing is `MalformedFont`.
 pub fn read_widths(alloc: Global, file: &[u8], count: u16) -> Result<Vec<u32>, Error> {
     let metrics = read_metrics(file)?;
     all_widths(alloc, &metrics, count)

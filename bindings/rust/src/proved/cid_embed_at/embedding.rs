@@ -11,7 +11,7 @@ use crate::rattle::alloc::Global;
 /// # Errors
 ///
 /// - `OverflowError`: all glyphs above 0 are given, which leaves no number for glyph 0.
-/// - `OutOfMemory`: a request for memory was refused. For a font that can't be opened it is what `check_opening` answers, unless its
+/// - `OutOfMemory`: a request for memory was refused. A font that can't be opened gives the error of `check_opening`, unless its
 ///   outlines are those of `CFF2`.
 pub fn mapper_at(
     alloc: Global,

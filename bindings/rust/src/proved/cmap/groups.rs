@@ -46,7 +46,7 @@ pub fn glyph_by_groups(table: &[u8], character: u32) -> Option<u16> {
     find_glyph(table, count, character)
 }
 
-/// The glyph of a character, by at most so many groups.
+/// The glyph of a character, by the first `count` groups.
 fn find_glyph(table: &[u8], count: u32, character: u32) -> Option<u16> {
     for place in 0..count {
         let bytes = Reader::new_at(table, GROUPS + SEQUENTIAL_MAP_GROUP_SIZE * (place as usize))

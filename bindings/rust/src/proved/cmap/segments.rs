@@ -16,7 +16,7 @@ fn shifted(glyph: u16, delta: u16) -> u16 {
     glyph.wrapping_add(delta)
 }
 
-/// The glyph of a number in the list of glyphs, where 0 stands for none.
+/// The glyph of a number in the list of glyphs, where 0 means none.
 fn listed(glyph: u16, delta: u16) -> Option<u16> {
     if glyph == 0 {
         return None;
@@ -24,7 +24,7 @@ fn listed(glyph: u16, delta: u16) -> Option<u16> {
     Some(shifted(glyph, delta))
 }
 
-/// Where the number stands that a segment's offset leads to, from the offset's own place on.
+/// Where the number is that a segment's offset leads to, counted from the offset's own place.
 fn glyph_id_offset(place: usize, offset: u16, distance: u16) -> usize {
     place + usize::from(offset) + 2 * usize::from(distance)
 }

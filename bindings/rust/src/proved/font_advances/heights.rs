@@ -57,7 +57,7 @@ fn varied_height(advance: u16, delta: Result<i64, Error>) -> u16 {
     if_height(i128::from(advance) + i128::from(by), advance)
 }
 
-/// The height of a glyph of a font of so many units per em, of which the delta may be known.
+/// The height of a glyph in a font with `units` units per em; `known` is its delta, where that is known.
 fn height(
     tables: VerticalTables<'_>,
     variation: Option<HeightVariation<'_>>,
@@ -112,7 +112,7 @@ fn each_height(
     Ok(heights)
 }
 
-/// The heights of glyphs at a location of a font of so many units per em.
+/// The heights of glyphs at a location, in a font with `units` units per em.
 fn heights_at(
     alloc: Global,
     face: &Face<'_>,
@@ -132,7 +132,7 @@ fn heights_at(
     )
 }
 
-/// The heights of glyphs of a font of so many units per em.
+/// The heights of glyphs in a font with `units` units per em.
 pub fn heights_in(
     alloc: Global,
     face: &Face<'_>,

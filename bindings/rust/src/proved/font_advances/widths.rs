@@ -124,7 +124,7 @@ fn distance(left: i64, right: i64) -> i64 {
     right - left
 }
 
-/// The distance between the phantom points of a glyph, which may take so many steps, and the glyphs that are kept.
+/// The distance between a glyph's phantom points, found within `steps` steps, and the glyphs that are kept.
 fn phantom_width(
     alloc: Global,
     spare: &mut Spare,

@@ -31,7 +31,7 @@ fn lost_at(name: &[u8], storage: &[u8], at: usize) -> Option<Reason> {
     lost_string(storage, record)
 }
 
-/// The first of so many names of which this is so.
+/// The first kept name, in `count` records, whose string isn't inside the storage.
 fn first_lost(name: &[u8], storage: &[u8], count: u16) -> Option<Reason> {
     for record in 0..count {
         if let Some(reason) = lost_at(

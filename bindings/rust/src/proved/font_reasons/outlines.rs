@@ -137,7 +137,7 @@ struct Reach {
     seen: GlyphRemapper,
 }
 
-/// At most so many components.
+/// Reads at most `most` components.
 fn walk(alloc: Global, components: &[u8], most: usize) -> Result<Walked, AllocError> {
     let mut glyphs = Vec::new(alloc);
     let mut rest = components;
@@ -389,7 +389,7 @@ pub fn seen_from(alloc: Global, seen: &GlyphRemapper, from: usize) -> Result<Vec
     seen.remapped_gids().skip(from).collect_with(alloc)
 }
 
-/// These glyphs, and their components, so many levels below.
+/// These glyphs, and their components down to `levels` levels below.
 fn reached_below(
     alloc: Global,
     tables: Tables<'_>,
@@ -422,7 +422,7 @@ pub fn outline_tables(font: &[u8], index: u32) -> Option<Tables<'_>> {
     Some(Tables { glyf, loca, format })
 }
 
-/// These glyphs, and their components down to a depth, within so many steps.
+/// These glyphs, and their components down to a depth, within `steps` steps.
 pub fn tree(
     alloc: Global,
     tables: Tables<'_>,
@@ -466,7 +466,7 @@ pub fn no_loca(font: &[u8], index: u32) -> Option<Reason> {
     }
 }
 
-/// The components of so many levels below these glyphs, glyph 0 apart, within so many steps.
+/// The components that are `levels` levels below these glyphs, without glyph 0, within the steps of `known`.
 fn levels_below(
     alloc: Global,
     tables: Tables<'_>,
@@ -495,7 +495,7 @@ fn first_deep(glyphs: &[u16]) -> Option<Reason> {
     }
 }
 
-/// Whether a component of these glyphs is more than 64 levels deep, within so many steps. Glyph 0 isn't followed.
+/// Whether a component more than 64 levels below these glyphs is found within `steps` steps. Glyph 0 isn't followed.
 pub fn deep_reason(
     alloc: Global,
     tables: Tables<'_>,

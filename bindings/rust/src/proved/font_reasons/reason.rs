@@ -244,7 +244,7 @@ impl fmt::Display for ComponentText {
     }
 }
 
-/// That a table has so many bytes, and needs more.
+/// That a table is too short: how many bytes it has, and how many it needs.
 #[derive(Clone, Copy)]
 struct ShortText(Tag, u64, u64);
 
@@ -256,7 +256,7 @@ impl fmt::Display for ShortText {
     }
 }
 
-/// That a table has so many axes, and `fvar` others.
+/// That a table and `fvar` have different axis counts.
 #[derive(Clone, Copy)]
 struct AxesText(Tag, u16, u16);
 

@@ -51,7 +51,7 @@ fn is_malformed(delta: Result<i64, Error>) -> bool {
     }
 }
 
-/// The store of `HVAR`, if its regions have so many axes.
+/// The store of `HVAR`, if its regions have `axes` axes.
 fn store_of(hvar: &[u8], axes: usize) -> Option<Store<'_>> {
     let at = Reader::new_at(hvar, ITEM_VARIATION_STORE_OFFSET).read::<u32>()?;
     if at == 0 {
@@ -175,7 +175,7 @@ fn point_count(alloc: Global, bytes: &[u8]) -> Result<Option<usize>, Error> {
     count_points(alloc, bytes)
 }
 
-/// Whether the variation data of a glyph of so many points can't be read, within so many steps.
+/// Whether the variation data of a glyph with `count` points is found unreadable within `steps` steps.
 fn is_unvaried(
     alloc: Global,
     gvar: &Gvar<'_>,
@@ -201,7 +201,7 @@ fn is_unvaried(
     }
 }
 
-/// Whether the variation data of a glyph of so many points can't be read, where there is `gvar`.
+/// Whether the variation data of a glyph with `count` points can't be read, where there is `gvar`.
 fn unvaried_points(
     alloc: Global,
     gvar: &Option<Gvar<'_>>,
@@ -272,7 +272,7 @@ fn first_unvaried(
     Ok(None)
 }
 
-/// A table `gvar`, if it has so many axes.
+/// A `gvar` table, if it has `axes` axes.
 fn gvar_of(gvar: Gvar<'_>, axes: usize) -> Option<Gvar<'_>> {
     if usize::from(gvar.axis_count()) == axes {
         Some(gvar)
@@ -281,7 +281,7 @@ fn gvar_of(gvar: Gvar<'_>, axes: usize) -> Option<Gvar<'_>> {
     }
 }
 
-/// The `gvar` of a face, if it has so many axes.
+/// The `gvar` of a face, if it has `axes` axes.
 fn face_gvar(font: &[u8], index: u32, axes: usize) -> Option<Gvar<'_>> {
     let gvar = gvar_table(table(font, index, gvar_tag())?)?;
     gvar_of(gvar, axes)

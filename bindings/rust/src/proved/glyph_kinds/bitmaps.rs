@@ -98,7 +98,7 @@ fn image_in(subtable: &[u8], place: u16, glyph: u16) -> Option<u16> {
     Some(image)
 }
 
-/// The format of a glyph's image by a list of so many index subtables.
+/// The format of a glyph's image by a list of `count` index subtables.
 fn image_by(list: &[u8], count: u32, glyph: u16) -> Option<u16> {
     let index = last_up_to(list, INDEX_SUBTABLES, count, u32::from(glyph))?;
     let at = INDEX_SUBTABLES.size * index;

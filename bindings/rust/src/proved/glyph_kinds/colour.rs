@@ -34,7 +34,7 @@ fn part(table: &[u8], at: usize) -> Option<&[u8]> {
     from_offset(table, offset as usize)
 }
 
-/// Of so many records of base glyphs from a place on, the index of a glyph's.
+/// The index of a glyph's record in the `count` records of base glyphs that begin at `at`.
 fn glyph_record(table: &[u8], at: usize, count: u32, glyph: u16) -> Option<usize> {
     let records = Records {
         at,

@@ -25,7 +25,7 @@ pub(crate) const MASK: u32 = 0x6D61736B;
 /// `dupe`: the picture of another glyph, whose number follows.
 pub(crate) const DUPE: u32 = 0x64757065;
 
-/// The type of a glyph's graphic in a strike, of so many glyphs.
+/// The type of a glyph's graphic in a strike of `glyphs` glyphs.
 fn graphic_type(sbix: &[u8], glyphs: u16, strike: u32, glyph: u16) -> Option<u32> {
     let offset = number_in(sbix, STRIKE_OFFSETS + 4 * (strike as usize), 4)?;
     let strike = from_offset(sbix, offset as usize)?;
@@ -62,7 +62,7 @@ fn has_type(wanted: Option<u32>, graphic: Option<u32>) -> bool {
     }
 }
 
-/// Whether a glyph, of so many, has a graphic of such a type in one of the first strikes.
+/// Whether a glyph, of `glyphs` glyphs, has a graphic of such a type in one of the first `count` strikes.
 fn graphic_in_strikes(
     sbix: &[u8],
     count: u32,
@@ -78,7 +78,7 @@ fn graphic_in_strikes(
     false
 }
 
-/// Whether a glyph, of so many, has a graphic of a type; where none is wanted, of one without a kind of its own.
+/// Whether a glyph, of `glyphs` glyphs, has a graphic of a type; where none is wanted, of one without a kind of its own.
 pub(crate) fn has_graphic(
     table: Option<&[u8]>,
     glyphs: u16,

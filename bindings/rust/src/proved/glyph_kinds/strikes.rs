@@ -6,7 +6,7 @@ const MOST_STRIKES: u32 = 1024;
 /// How many strikes there are, four bytes, in `CBLC`, `EBLC` and `sbix`.
 pub(crate) const NUM_STRIKES: usize = 4;
 
-/// Of so many strikes those that are looked at.
+/// How many of `count` strikes are looked at.
 pub(crate) fn most(count: u32) -> u32 {
     if count < MOST_STRIKES {
         count

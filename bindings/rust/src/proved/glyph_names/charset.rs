@@ -82,7 +82,7 @@ fn next_sid(format: u8, run: Run<'_>) -> Option<(u32, Run<'_>)> {
     Some(take_one(next))
 }
 
-/// So many SIDs, as far as they are there.
+/// The next `count` SIDs, or all that there are.
 fn sids(alloc: Global, format: u8, count: u32, start: Run<'_>) -> Result<Vec<u32>, AllocError> {
     let mut found = Vec::new(alloc);
     let mut run = start;
@@ -99,7 +99,7 @@ fn sids(alloc: Global, format: u8, count: u32, start: Run<'_>) -> Result<Vec<u32
     Ok(found)
 }
 
-/// The SIDs of so many glyphs by a charset.
+/// The SIDs of `count` glyphs by a charset.
 fn sids_in(alloc: Global, count: u32, charset: &[u8]) -> Result<Vec<u32>, AllocError> {
     let (format, rest) = match charset.split_first() {
         Some((format, rest)) => (format, rest),
@@ -119,7 +119,7 @@ fn sids_in(alloc: Global, count: u32, charset: &[u8]) -> Result<Vec<u32>, AllocE
     sids(alloc, *format, count, start)
 }
 
-/// The SIDs of so many glyphs, by the offset of the charset.
+/// The SIDs of `count` glyphs, by the offset of the charset.
 pub fn sids_at(
     alloc: Global,
     cff: &[u8],

@@ -20,7 +20,7 @@ fn first_string(bytes: &[u8]) -> Option<(&[u8], &[u8])> {
     Some((&rest[..len], &rest[len..]))
 }
 
-/// So many of these strings, as far as they are there.
+/// The first `most` of these strings, or all that there are.
 fn strings_in(alloc: Global, most: usize, bytes: &[u8]) -> Result<Vec<&[u8]>, AllocError> {
     let mut strings = Vec::new(alloc);
     let mut rest = bytes;
@@ -69,7 +69,7 @@ fn name_of_index<'a>(macintosh: &[&'a str], own: &[&'a [u8]], index: u16) -> &'a
     }
 }
 
-/// The name of a glyph in a table of version 2.0 with so many indexes.
+/// The name of a glyph in a table of version 2.0 with `count` indexes.
 fn name_by_index<'a>(
     macintosh: &[&'a str],
     own: &[&'a [u8]],

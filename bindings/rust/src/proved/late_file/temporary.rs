@@ -179,7 +179,7 @@ pub fn make_beside<R: Files>(
     Ok(None)
 }
 
-/// Gives the file of a name its second name, and answers that. None where it can't have it.
+/// Gives the file with a name its second name, and returns that; none where it can't have it.
 fn link_second<R: Files>(rt: &R, alloc: Global, name: &str) -> Option<String> {
     let second = second_name(alloc, name)?;
     fs::symlink_metadata(rt, name).ok()?;

@@ -16,7 +16,7 @@ use crate::proved::subsetter_type2::limits::Limits;
 use crate::proved::text_metrics::text_metrics;
 use crate::rattle::alloc::Global;
 
-/// The numbers of so many glyphs.
+/// The numbers of the first `count` glyphs.
 fn numbers(alloc: Global, count: u16) -> Result<Vec<u16>, Error> {
     let mut glyphs = Vec::with_capacity(alloc, usize::from(count))?;
     for glyph in 0..count {

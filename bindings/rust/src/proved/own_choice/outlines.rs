@@ -73,7 +73,7 @@ fn has_small_outline(reach: u16, tables: Outlines<'_>, glyph: u16) -> bool {
     }
 }
 
-/// Whether the first glyphs have such outlines, so many.
+/// Whether each of the first `count` glyphs has such an outline.
 fn small_outlines(
     alloc: Global,
     reach: u16,
@@ -119,12 +119,12 @@ fn reach_of(moves: bool) -> u16 {
     }
 }
 
-/// So many times yes.
+/// `true`, `count` times.
 fn each_one(alloc: Global, count: u16) -> Result<Vec<bool>, Error> {
     Ok(vec![in alloc; true; usize::from(count)]?)
 }
 
-/// Whether the first glyphs of a font can be parts, so many; the list is empty where there may be other pictures, and
+/// Whether each of the first `count` glyphs of a font can be a part; the list is empty where there may be other pictures, and
 /// without outlines in `glyf` or `CFF `.
 pub fn parts_in(
     alloc: Global,

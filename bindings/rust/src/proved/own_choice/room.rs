@@ -40,7 +40,7 @@ fn most_in(maxp: &[u8]) -> u16 {
     0
 }
 
-/// How many parts own glyphs of a font with so many glyphs can have: of `CFF ` one, and none without outlines in `glyf`.
+/// How many parts own glyphs can have in a font with `count` glyphs: one for `CFF `, none without outlines in that or `glyf`.
 pub fn most_parts_in(face: &Face<'_>, count: u16) -> u16 {
     if count == u16::MAX {
         return 0;

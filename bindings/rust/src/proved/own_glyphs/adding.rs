@@ -20,7 +20,7 @@ use crate::proved::subsetter_sfnt::laying::tables::{in_order, FontTables};
 use crate::proved::subsetter_sfnt::parse::parse;
 use crate::rattle::alloc::Global;
 
-/// How many glyphs there are with so many more. `OverflowError` where these are more than 65,535. No memory is taken.
+/// How many glyphs there are with `more` added to `count`. `OverflowError` where that is more than 65,535. No memory is taken.
 fn count_with(count: u16, more: usize) -> Result<u16, Error> {
     if more > usize::from(u16::MAX - count) {
         return Err(Error::OverflowError);
@@ -85,7 +85,7 @@ struct NewTables {
     maxp: Vec<u8>,
 }
 
-/// Makes the tables of so many glyphs.
+/// Makes the tables of a font with `count` glyphs.
 fn new_tables(
     alloc: Global,
     source: &Source<'_>,
@@ -130,7 +130,7 @@ fn font_tables<'a>(
     }
 }
 
-/// The file of so many glyphs. `OverflowError` where a table's offset or length is 2^32 or more.
+/// The file of a font with `count` glyphs. `OverflowError` where a table's offset or length is 2^32 or more.
 fn laid(
     alloc: Global,
     face: &Face<'_>,
@@ -172,8 +172,8 @@ fn made(
 /// A font with own glyphs after those that it has, whose numbers, outlines and metrics stay: the i-th own one, from 0 on, has the
 /// number n + i, where n is numGlyphs.
 ///
-/// `font` is a TrueType subset, as `subset` answers one for a font with `glyf`, with `hmtx` and `maxp`. Of a table that a subset
-/// doesn't have nothing is kept.
+/// `font` is a TrueType subset, as `subset` returns it for a font with `glyf`, and has `hmtx` and `maxp`. Tables that a subset
+/// doesn't have aren't kept.
 ///
 /// # Errors
 ///

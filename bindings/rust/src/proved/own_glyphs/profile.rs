@@ -64,7 +64,7 @@ fn times(a: u16, b: u16) -> usize {
     usize::from(a) * usize::from(b)
 }
 
-/// The limits with glyphs of so many parts.
+/// The limits with glyphs of `parts` parts.
 fn limits_of(parts: usize, maxp: &[u8]) -> Result<Limits, Error> {
     let few = limit(parts)?;
     let most_points = u16_at(maxp, MAX_POINTS).max(u16_at(maxp, MAX_COMPOSITE_POINTS));
@@ -109,8 +109,8 @@ fn limited(alloc: Global, maxp: &[u8], count: u16, limits: Limits) -> Result<Vec
     Ok(new)
 }
 
-/// `maxp` of so many glyphs, of which some have at most so many parts. `MalformedFont` where some have parts and it has fewer than 32 bytes,
-/// `OverflowError` where a limit hasn't 16 bits.
+/// `maxp` for `count` glyphs, own ones of at most `parts` parts among them. `MalformedFont` where some have parts and it has fewer
+/// than 32 bytes, `OverflowError` where a limit doesn't fit 16 bits.
 pub fn maxp(alloc: Global, maxp: &[u8], count: u16, parts: usize) -> Result<Vec<u8>, Error> {
     if parts == 0 {
         return counted(alloc, maxp, count);

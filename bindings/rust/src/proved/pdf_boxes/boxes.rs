@@ -30,7 +30,7 @@ fn glyph_box(char_strings: &Index<'_>, glyph: u16) -> Result<Option<GlyphBox>, E
     }
 }
 
-/// The least box around those of the first glyphs, so many from glyph 0 on.
+/// The least box around those of the first `count` glyphs.
 fn box_around(char_strings: &Index<'_>, count: u16) -> Result<Option<GlyphBox>, Error> {
     let mut kept = None;
     let mut left = count;
@@ -41,7 +41,7 @@ fn box_around(char_strings: &Index<'_>, count: u16) -> Result<Option<GlyphBox>, 
     Ok(kept)
 }
 
-/// The least box around the first glyphs of a `CFF ` table, so many from glyph 0 on; none of a table that can't be opened.
+/// The least box around the first `count` glyphs of a `CFF ` table; none for a table that can't be opened.
 ///
 /// Each charstring has a width in front and endchar at its end, and calls no subroutines: one that was made of `CFF2` is so.
 ///

@@ -18,7 +18,7 @@ fn in_thousandths(width: &Number) -> Option<u32> {
     width.times_thousand()?.as_u32()
 }
 
-/// So many thousandths of a unit in thousandths of the em, to the nearest, halves up.
+/// `n` thousandths of a unit in thousandths of the em, to the nearest, halves up.
 fn of_em(units: u16, n: u32) -> u32 {
     let em = u64::from(units);
     ((2 * u64::from(n) + em) / (2 * em)) as u32

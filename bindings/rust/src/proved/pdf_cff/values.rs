@@ -49,7 +49,7 @@ pub fn unless_memory(error: Error) -> Result<(), Error> {
     }
 }
 
-/// What a PDF takes of a table, of a font with so many units to the em; nothing of one that can't be opened.
+/// What a PDF takes of a table, in a font with `units` units per em; nothing of one that can't be opened.
 ///
 /// # Errors
 ///

@@ -28,7 +28,7 @@ struct Parted<'a> {
     rest: Uncut<'a>,
 }
 
-/// The place in reading order of what is at a place of so many, as they are seen.
+/// The place in reading order of what is seen at a place, of `count`.
 pub fn in_reading(direction: Direction, count: usize, place: usize) -> usize {
     match direction {
         Direction::RightToLeft => count - 1 - place,
@@ -67,7 +67,7 @@ fn blank<'a>(alloc: Global, text: Option<&'a [char]>) -> Figure<'a> {
     }
 }
 
-/// How far the pen goes on at a part with so many after it: at the last one all the way.
+/// How far the pen goes on at a part with `more` parts after it: at the last one all the way.
 fn going(more: usize, way: i32, part: u16) -> i32 {
     if more == 0 {
         way
@@ -76,7 +76,7 @@ fn going(more: usize, way: i32, part: u16) -> i32 {
     }
 }
 
-/// An equal part of what is left of an advance, with so many parts after it.
+/// An equal part of what is left of an advance, with `more` parts after it.
 fn equal_part(width: u16, more: usize) -> u16 {
     (u64::from(width) / (more as u64 + 1)) as u16
 }

@@ -3,7 +3,7 @@
 //! each at a place, with an advance.
 //!
 //! Readers copy a text best where each code says one character, and where the pen never goes back or up. So an own glyph draws
-//! a cluster whose glyphs are moved or are more than its characters; it stands for a glyph far off its advance; and of a
+//! a cluster whose glyphs are moved or are more than its characters; it replaces a glyph far off its advance; and of a
 //! glyph with several characters, each that is no mark gets an equal part of the advance: the leftmost has the ink, the others
 //! are blanks. Own glyphs have the numbers after those of the font, so that the run they are in is one of a font with more glyphs.
 

@@ -88,7 +88,7 @@ fn put(alloc: Global, glyphs: &mut OwnGlyphs, own: &OwnInk, hash: u64) -> Result
     Ok(place)
 }
 
-/// The number of an own glyph in a font with so many glyphs of its own.
+/// The number of an own glyph, after the font's `count` glyphs.
 fn number_of(
     alloc: Global,
     glyphs: &mut OwnGlyphs,
@@ -152,7 +152,7 @@ fn items_of<'a>(
     Ok(items)
 }
 
-/// A run of a font with so many glyphs, with own glyphs after these: its figures as items. Own glyphs that are known keep their
+/// A run of a font with `count` glyphs, and own glyphs after these: its figures as items. Own glyphs that are known keep their
 /// numbers, also after an error.
 ///
 /// # Errors

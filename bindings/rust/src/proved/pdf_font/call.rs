@@ -78,7 +78,7 @@ fn made(
 /// - `Subset`: the font can't be opened.
 /// - `NotPermitted`: `fsType` forbids it, and the caller holds no rights.
 /// - `TextTooLong`: a text has more than 256 UTF-16 units.
-/// - `Subset`: what `embed_with_variations` answers; a TrueType font without `maxp` (`MalformedFont`); more than 65,535
+/// - `Subset`: an error of `embed_with_variations`; a TrueType font without `maxp` (`MalformedFont`); more than 65,535
 ///   pairs of a glyph and a text (`OverflowError`); a request for memory was refused (`OutOfMemory`).
 pub fn pdf_font(
     alloc: Global,

@@ -109,7 +109,7 @@ fn name_room(kind: ProgramKind, cmap: &[u8]) -> usize {
     }
 }
 
-/// The first so many bytes, or all where there are fewer.
+/// The first `size` bytes, or all where there are fewer.
 fn front_of(bytes: &[u8], size: usize) -> &[u8] {
     if bytes.len() <= size {
         return bytes;
@@ -117,7 +117,7 @@ fn front_of(bytes: &[u8], size: usize) -> &[u8] {
     &bytes[..size]
 }
 
-/// The front of a name, and six letters that it determines, in so many bytes.
+/// The front of a name, and six letters that it determines, in `room` bytes.
 fn cut_name(alloc: Global, room: usize, name: &[u8]) -> Result<Vec<u8>, Error> {
     let mut cut = Vec::new(alloc);
     cut.extend_from_slice(front_of(name, room.saturating_sub(10)))?;

@@ -100,7 +100,7 @@ pub fn joined(first: Option<GlyphBox>, second: Option<GlyphBox>) -> Option<Glyph
     Some(around(a, b))
 }
 
-/// The least box around those of the first glyphs, so many from glyph 0 on; none where no glyph has one.
+/// The least box around those of the first `count` glyphs; none where no glyph has one.
 pub fn box_around(tables: OutlineTables<'_>, count: u16) -> Option<GlyphBox> {
     let mut kept = None;
     let mut left = count;

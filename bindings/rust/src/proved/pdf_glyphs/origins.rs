@@ -46,7 +46,7 @@ fn origin_at(vorg: Option<&[u8]>, index: u16) -> Option<GlyphOrigin> {
     Some(GlyphOrigin { glyph, y })
 }
 
-/// No origin for so many glyphs.
+/// No origin for any of `count` glyphs.
 fn no_origins(alloc: Global, count: u16) -> Result<Vec<Option<i16>>, Error> {
     let mut origins = Vec::with_capacity(alloc, usize::from(count))?;
     for _ in 0..count {

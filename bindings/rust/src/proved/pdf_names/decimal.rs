@@ -27,19 +27,19 @@ fn nearest_even(quotient: u64, remainder: u64, half: u64) -> u64 {
     quotient + 1
 }
 
-/// 65536ths with so many decimals, in units of the last one.
+/// `n` 65536ths rounded to `k` decimals, in units of the last one.
 fn rounded(k: u32, n: u32) -> u64 {
     let scaled = u64::from(n) * power(k);
     nearest_even(scaled / 65_536, scaled % 65_536, 32_768)
 }
 
-/// The 65536ths nearest to so many such units.
+/// The 65536ths nearest to `m` such units.
 fn back(k: u32, m: u64) -> u64 {
     let scale = power(k);
     (m * 131_072 + scale) / (2 * scale)
 }
 
-/// Whether so many decimals determine a number of 65536ths.
+/// Whether `k` decimals determine a number of 65536ths.
 fn rounds_back(k: u32, n: u32) -> bool {
     back(k, rounded(k, n)) == u64::from(n)
 }
@@ -64,7 +64,7 @@ fn decimals(n: u32) -> u32 {
     5
 }
 
-/// Writes the last so many digits of a number.
+/// Writes the last `k` digits of a number.
 fn write_digits(text: &mut Vec<u8>, k: u32, m: u64) -> Result<(), Error> {
     let mut left = k;
     while left > 0 {

@@ -47,7 +47,7 @@ fn is_there(axes: &[Axis], settings: &[(Tag, i32)], bytes: &[u8]) -> bool {
     past_flags(axes, settings, bytes).is_some()
 }
 
-/// The first of so many records that has the font's coordinates.
+/// The first of `count` records that has the font's coordinates.
 fn record_from<'a>(
     axes: &[Axis],
     settings: &[(Tag, i32)],

@@ -63,7 +63,7 @@ fn or_font(text: Vec<u8>) -> Result<Vec<u8>, Error> {
     Ok(text)
 }
 
-/// The name of a font's family, or what stands for it.
+/// The name of a font's family, else its PostScript name, else `Font`.
 pub fn prefix(alloc: Global, name: Option<&[u8]>, cff: Option<&[u8]>) -> Result<Vec<u8>, Error> {
     let text = family(alloc, name)?;
     if text.is_empty() {

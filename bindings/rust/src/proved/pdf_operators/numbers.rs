@@ -41,7 +41,7 @@ fn write_thousandths(text: &mut Vec<u8>, n: u32) -> Result<(), Error> {
     write_three_digits(text, n)
 }
 
-/// Writes what is after the whole of so many millionths.
+/// Writes the point and the decimals of `n` millionths, if there are any.
 fn write_fraction(text: &mut Vec<u8>, n: u32) -> Result<(), Error> {
     if n == 0 {
         Ok(())
@@ -52,7 +52,7 @@ fn write_fraction(text: &mut Vec<u8>, n: u32) -> Result<(), Error> {
     }
 }
 
-/// Writes so many millionths, with the sign of a number.
+/// Writes `n` millionths, with the sign of `z`.
 fn write_millionths(text: &mut Vec<u8>, z: i32, n: u64) -> Result<(), Error> {
     write_sign(text, z)?;
     write_whole(text, n / 1_000_000)?;
@@ -64,7 +64,7 @@ fn product(a: u32, b: u32) -> u64 {
     u64::from(a) * u64::from(b)
 }
 
-/// Writes a text rise of so many thousandths of the em, at a size of so many thousandths.
+/// Writes a text rise of `z` thousandths of the em, at a size of `size` thousandths.
 pub fn write_rise(text: &mut Vec<u8>, size: u32, z: i32) -> Result<(), Error> {
     write_millionths(text, z, product(z.unsigned_abs(), size))
 }

@@ -20,9 +20,9 @@ pub enum Operation<'a> {
     End,
     /// The text rise, in thousandths of the em.
     Rise(i32),
-    /// The pen goes back by so many thousandths of the em, and the code of a pair is shown.
+    /// The pen goes back by this many thousandths of the em, and the code of a pair is shown.
     Show(i32, Pair),
-    /// The pen goes back by so many thousandths of the em.
+    /// The pen goes back by this many thousandths of the em.
     Back(i32),
 }
 
@@ -208,7 +208,7 @@ fn open_after(array: OpenArray, operation: Operation<'_>) -> OpenArray {
     }
 }
 
-/// The operators for a content stream, at a size of so many thousandths of a unit of text space. A pair without a code has
+/// The operators for a content stream, at a size of `size` thousandths of a unit of text space. A pair without a code has
 /// code 0.
 ///
 /// # Errors

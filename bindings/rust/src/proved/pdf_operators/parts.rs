@@ -17,7 +17,7 @@ fn unit_count(character: char) -> usize {
     }
 }
 
-/// So many units and those of a text, if an ActualText has room for them.
+/// `count` units and those of a text, if an ActualText has room for them.
 fn units_with(count: usize, text: &[char]) -> Option<usize> {
     let mut total = count;
     for character in text {

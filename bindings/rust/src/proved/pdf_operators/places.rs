@@ -100,7 +100,7 @@ fn thousandfold(length: i64) -> i64 {
     1000 * length
 }
 
-/// A length of so many units to the em, to the nearest thousandth, halves up.
+/// A length in thousandths of the em, at `units` units per em, to the nearest, halves up.
 fn thousandths(length: i64, units: u16) -> i64 {
     // (most glyphs are on the line)
     if length == 0 {

@@ -149,7 +149,7 @@ fn push_end(
     }
 }
 
-/// What shows parts with so many clusters from a stop on, up to the end of the line.
+/// What shows parts with `count` clusters from a stop on, up to the end of the line.
 fn operations_of_parts<'a>(
     alloc: Global,
     font: Font<'_>,

@@ -38,7 +38,7 @@ fn has_parts(own: &OwnInk) -> bool {
     !own.parts.is_empty()
 }
 
-/// Of the first glyphs, so many, whether they have ink, as far as that is known.
+/// Whether each of the first `count` glyphs has ink, as far as that is known.
 fn first_inked(alloc: Global, count: u16, inked: &[bool]) -> Result<Vec<bool>, RunError> {
     let known = usize::from(count).min(inked.len());
     let mut all = Vec::from_slice(alloc, &inked[..known])?;

@@ -7,12 +7,12 @@ use crate::proved::pdf_runs::items::{begins, Item};
 use crate::proved::subsetter_base::Error;
 use crate::rattle::alloc::Global;
 
-/// The first glyphs, so many.
+/// The first `count` glyphs.
 fn front<'a, 'b>(items: &'b [Item<'a>], count: usize) -> &'b [Item<'a>] {
     &items[..count]
 }
 
-/// The glyphs after so many.
+/// The glyphs after the first `count`.
 fn following<'a, 'b>(items: &'b [Item<'a>], count: usize) -> &'b [Item<'a>] {
     &items[count..]
 }

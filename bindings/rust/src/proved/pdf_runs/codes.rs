@@ -76,7 +76,7 @@ fn add_new(
     Ok(())
 }
 
-/// Whether there is room for so many pairs more.
+/// Whether there is room for `count` more pairs.
 fn has_room(pairs: &Remapper<u16, Pair>, count: usize) -> bool {
     count <= usize::from(u16::MAX - pairs.len())
 }

@@ -63,8 +63,8 @@ fn is_begun(items: &[Item<'_>]) -> bool {
     }
 }
 
-/// Whether glyphs are a run of a font that has so many: the first begins a cluster, each is one of the font's, and the
-/// pen goes on along the line alone.
+/// Whether glyphs are a run of a font with `glyph_count` glyphs: the first begins a cluster, each is one of the font's,
+/// and the pen moves along the line alone.
 pub fn is_run(direction: Direction, glyph_count: usize, items: &[Item<'_>]) -> bool {
     is_begun(items) && are_known(glyph_count, items) && are_along(direction, items)
 }

@@ -94,7 +94,7 @@ fn beside(starts: &[u64], place: usize, number: u32) -> usize {
     }
 }
 
-/// How many characters begin before a number of units, mostly so many as before another one, or one more or less.
+/// How many characters begin before a number of units: mostly `other`, or one more or less.
 fn place_near(starts: &[u64], other: usize, number: u32) -> usize {
     let place = beside(starts, other, number);
     if is_place(starts, place, number) {

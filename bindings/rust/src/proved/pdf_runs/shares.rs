@@ -3,7 +3,7 @@
 
 use crate::proved::pdf_runs::items::Direction;
 
-/// The place in reading order of what is at a place of so many from left to right, or from top to bottom.
+/// The place in reading order of what is at a place from left to right or from top to bottom, of `count`.
 pub fn in_reading(direction: Direction, count: usize, place: usize) -> usize {
     match direction {
         Direction::RightToLeft => count - 1 - place,
@@ -11,12 +11,12 @@ pub fn in_reading(direction: Direction, count: usize, place: usize) -> usize {
     }
 }
 
-/// How many characters the first of so many glyphs has, of those that there are.
+/// How many of the characters the first of `count` glyphs has.
 fn first_count(text: &[char], count: usize) -> usize {
     (1 + text.len().saturating_sub(count)).min(text.len())
 }
 
-/// The characters after so many.
+/// The characters after the first `count`.
 fn following(text: &[char], count: usize) -> &[char] {
     &text[count..]
 }
@@ -30,7 +30,7 @@ fn one_at(text: &[char], place: usize) -> &[char] {
     }
 }
 
-/// The characters of the glyph at a place in reading order, of so many.
+/// The characters of the glyph at a place in reading order, of `count` glyphs.
 fn share(text: &[char], count: usize, place: usize) -> &[char] {
     let first = first_count(text, count);
     if place == 0 {
@@ -39,7 +39,7 @@ fn share(text: &[char], count: usize, place: usize) -> &[char] {
     one_at(following(text, first), place - 1)
 }
 
-/// The characters of the glyph at a place from left to right or from top to bottom, of so many.
+/// The characters of the glyph at a place from left to right or from top to bottom, of `count` glyphs.
 pub fn share_at(direction: Direction, text: &[char], count: usize, place: usize) -> &[char] {
     share(text, count, in_reading(direction, count, place))
 }

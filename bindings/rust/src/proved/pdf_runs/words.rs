@@ -18,12 +18,12 @@ fn is_blank(cluster: &[Item<'_>]) -> bool {
     true
 }
 
-/// The first clusters, so many.
+/// The first `count` clusters.
 fn front<'a, 'b>(clusters: &'b [&'a [Item<'a>]], count: usize) -> &'b [&'a [Item<'a>]] {
     &clusters[..count]
 }
 
-/// The clusters after so many.
+/// The clusters after the first `count`.
 fn following<'a, 'b>(clusters: &'b [&'a [Item<'a>]], count: usize) -> &'b [&'a [Item<'a>]] {
     &clusters[count..]
 }

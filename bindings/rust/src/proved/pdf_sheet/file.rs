@@ -38,7 +38,7 @@ pub fn body_of(alloc: Global, values: &[Vec<u8>]) -> Result<Body, Error> {
     Ok(Body { text, offsets })
 }
 
-/// Puts offsets after others, which so many bytes stand before.
+/// Puts offsets after others, each increased by `start`, the number of bytes before them.
 fn push_offsets(offsets: &mut Vec<usize>, start: usize, more: &[usize]) -> Result<(), Error> {
     for offset in more {
         offsets.push(start + *offset)?;
@@ -97,7 +97,7 @@ fn write_rows(text: &mut Vec<u8>, offsets: &[usize]) -> Result<(), Error> {
     Ok(())
 }
 
-/// Writes what stands before the entries of objects in use.
+/// Writes what comes before the entries of objects in use.
 fn write_table_front(text: &mut Vec<u8>, size: usize) -> Result<(), Error> {
     text.extend_from_slice(b"xref\n0 ")?;
     write_count(text, size)?;
@@ -125,7 +125,7 @@ pub fn write_table(text: &mut Vec<u8>, offsets: &[usize]) -> Result<(), Error> {
     Ok(())
 }
 
-/// Whether ten digits are enough for the offsets in so many bytes.
+/// Whether ten digits are enough for the offsets in `size` bytes.
 pub fn checked(size: u64) -> Result<(), Error> {
     if size >= 10_000_000_000 {
         return Err(Error::OverflowError);

@@ -107,7 +107,7 @@ pub fn write_line_position(text: &mut Vec<u8>, vertical: bool, height: usize) ->
     write_position(text, 36, 54)
 }
 
-/// Writes where a cell's glyph stands: its origin, or that of vertical writing.
+/// Writes where a cell's glyph is: its origin, or that of vertical writing.
 fn write_cell_position(text: &mut Vec<u8>, vertical: bool, place: usize) -> Result<(), Error> {
     if vertical {
         return write_position(text, cell_x(place) + 18, cell_y(place) + 32);
@@ -115,7 +115,7 @@ fn write_cell_position(text: &mut Vec<u8>, vertical: bool, place: usize) -> Resu
     write_position(text, cell_x(place), cell_y(place))
 }
 
-/// Writes the position of a glyph that has so many before it, if it doesn't follow the one before.
+/// Writes the position of a glyph with `place` glyphs before it, unless it follows the one before.
 pub fn write_glyph_position(text: &mut Vec<u8>, frame: Frame, place: usize) -> Result<(), Error> {
     match frame.layout {
         Layout::Grid => write_cell_position(text, frame.vertical, place),

@@ -19,7 +19,7 @@ pub struct SheetLine<'a> {
     pub advance: u32,
 }
 
-/// The root of so many pages, which each have their size.
+/// The root of `count` pages, which each have their size.
 fn lines_root(alloc: Global, count: usize) -> Result<Vec<u8>, Error> {
     let mut text = Vec::new(alloc);
     write_page_tree(&mut text, count)?;

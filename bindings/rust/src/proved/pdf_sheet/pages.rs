@@ -113,12 +113,12 @@ fn push_page(
     Ok(())
 }
 
-/// How many of so many glyphs the next page of a grid has.
+/// How many of `count` glyphs the next page of a grid has.
 fn page_size(count: usize) -> usize {
     count.min(192)
 }
 
-/// Puts so many pages and their contents after other values.
+/// Puts `count` pages and their contents after other values.
 fn push_pages(
     alloc: Global,
     values: &mut Vec<Vec<u8>>,
@@ -158,7 +158,7 @@ fn push_all(
     }
 }
 
-/// How many pages so many glyphs need.
+/// How many pages `size` glyphs need.
 pub fn page_count(layout: Layout, size: usize) -> usize {
     match layout {
         Layout::Line => 1,

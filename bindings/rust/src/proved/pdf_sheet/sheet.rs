@@ -12,7 +12,7 @@ use crate::proved::pdf_text::{most_objects, write_objects, FontValues};
 use crate::proved::subsetter_base::Error;
 use crate::rattle::alloc::Global;
 
-/// The number of the font's first object after so many pages, which has so many at most.
+/// The number of the font's first object after `count` pages, where the font has at most `most` objects.
 fn font_number(count: usize, most: u32) -> Result<u32, Error> {
     if count >= 2_147_483_648 {
         return Err(Error::OverflowError);

@@ -19,7 +19,7 @@ pub fn cff_values_by<'a>(alloc: Global, face: &Face<'a>) -> Result<CffValues<'a>
     }
 }
 
-/// The least box around the first glyphs of a `CFF `, so many from glyph 0 on.
+/// The least box around the first `count` glyphs of a `CFF `.
 pub fn cff_box(alloc: Global, cff: Option<&[u8]>, count: u16) -> Result<Option<GlyphBox>, Error> {
     match cff {
         None => Ok(None),

@@ -62,7 +62,7 @@ fn bounds_by(moving: bool, choice: Bounds) -> Bounds {
     }
 }
 
-/// The least box around so many glyphs of the new font, by the `glyf` of the source, and whether its outlines move.
+/// The least box around the first `count` glyphs of the new font, by the `glyf` of the source, and whether its outlines move.
 fn kept_by(
     alloc: Global,
     glyf: Option<&[u8]>,
@@ -81,7 +81,7 @@ fn kept_by(
     }
 }
 
-/// The least box around so many glyphs of the new font, where it is known.
+/// The least box around the first `count` glyphs of the new font, where it is known.
 pub fn kept_in(
     alloc: Global,
     face: &Face<'_>,

@@ -17,7 +17,7 @@ pub struct ExactWidths {
     pub widths: Vec<u16>,
 }
 
-/// The advances of so many glyphs, from glyph 0 on. An advance that isn't there is `MalformedFont`.
+/// The advances of the first `count` glyphs. An advance that isn't there is `MalformedFont`.
 fn all_advances(alloc: Global, metrics: &Metrics<'_>, count: u16) -> Result<Vec<u16>, Error> {
     let mut advances = Vec::with_capacity(alloc, usize::from(count))?;
     for glyph in 0..count {
@@ -27,7 +27,7 @@ fn all_advances(alloc: Global, metrics: &Metrics<'_>, count: u16) -> Result<Vec<
     Ok(advances)
 }
 
-/// The exact widths of so many glyphs of a font, from glyph 0 on. What is missing is `MalformedFont`.
+/// The exact widths of the first `count` glyphs of a font. What is missing is `MalformedFont`.
 pub fn exact_of(alloc: Global, face: &Face<'_>, count: u16) -> Result<ExactWidths, Error> {
     let metrics = metrics_of(face)?;
     let widths = all_advances(alloc, &metrics, count)?;

@@ -132,7 +132,7 @@ fn program_in(
     }
 }
 
-/// A new font, of a file for so many requested glyphs with glyph 0. What is missing or cut is `MalformedFont`.
+/// A new font, from a file for `requested` requested glyphs, with glyph 0. What is missing or cut is `MalformedFont`.
 pub fn new_font(
     alloc: Global,
     face: &Face<'_>,

@@ -28,7 +28,7 @@ pub(crate) fn metrics_of<'a>(face: &Face<'a>) -> Result<Metrics<'a>, Error> {
     })
 }
 
-/// The widths of so many glyphs of a font, from glyph 0 on. What is missing is `MalformedFont`.
+/// The widths of the first `count` glyphs of a font. What is missing is `MalformedFont`.
 pub fn widths_of(alloc: Global, face: &Face<'_>, count: u16) -> Result<Vec<u32>, Error> {
     let metrics = metrics_of(face)?;
     all_widths(alloc, &metrics, count)

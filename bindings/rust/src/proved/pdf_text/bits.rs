@@ -6,12 +6,12 @@ use crate::rattle::prelude::Vec;
 use crate::proved::subsetter_base::Error;
 use crate::rattle::alloc::Global;
 
-/// The byte whose highest bits are so many ones.
+/// The byte whose highest `ones` bits are ones.
 fn last_byte(ones: u16) -> u8 {
     255 - (255 >> ones)
 }
 
-/// So many bytes of ones.
+/// `count` bytes of ones.
 fn whole_bytes(alloc: Global, count: u16) -> Result<Vec<u8>, Error> {
     let mut bytes = Vec::new(alloc);
     for _ in 0..count {

@@ -61,7 +61,7 @@ pub fn write_sign(text: &mut Vec<u8>, z: i32) -> Result<(), Error> {
     Ok(())
 }
 
-/// Writes so many thousandths in decimal.
+/// Writes `z` thousandths in decimal.
 pub fn write_thousandths(text: &mut Vec<u8>, z: i32) -> Result<(), Error> {
     let size = z.unsigned_abs();
     write_sign(text, z)?;

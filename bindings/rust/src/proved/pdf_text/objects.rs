@@ -214,7 +214,7 @@ fn write_all(
     Ok(FontObjects { text, offsets })
 }
 
-/// Whether the numbers of so many objects fit 32 bits.
+/// Whether the numbers of `most` objects from `first` on fit 32 bits.
 fn checked(first: u32, most: u32) -> Result<(), Error> {
     if first > u32::MAX - most {
         return Err(Error::OverflowError);

@@ -47,7 +47,7 @@ fn are_distinct(numbers: &[u32]) -> bool {
     true
 }
 
-/// Whether numbers are right for so many objects.
+/// Whether numbers are right for `count` objects.
 fn are_numbers(count: usize, numbers: &[u32]) -> bool {
     numbers.len() == count && are_distinct(numbers)
 }

@@ -24,7 +24,7 @@ pub enum Place {
     Angle,
     /// In a hexadecimal string.
     Hexadecimal,
-    /// In a literal string, within so many parentheses of its own.
+    /// In a literal string, within this many parentheses of its own.
     Literal(usize),
     /// After a backslash there.
     Escaped(usize),

@@ -81,12 +81,12 @@ pub fn tag_of(program: &[u8]) -> [u8; 6] {
     ]
 }
 
-/// Whether a byte stands in a name as it is: printable, no delimiter, no number sign.
+/// Whether a byte can be in a name as it is: printable, no delimiter, no number sign.
 fn is_regular(b: u8) -> bool {
     b >= 33 && b <= 126 && !b"[](){}<>/%#".contains(&b)
 }
 
-/// The bytes of a font's name that stand in a name of PDF as they are.
+/// The bytes of a font's name that can be in a PDF name as they are.
 fn regular_bytes(alloc: Global, name: &[u8]) -> Result<Vec<u8>, Error> {
     let mut bytes = Vec::new(alloc);
     for b in name {

@@ -104,18 +104,18 @@ fn with_own(
 /// What a PDF has of the font of a text: of the subset of glyph 0 and the glyphs that its codes draw, by these codes, which are
 /// its CIDs.
 ///
-/// `data`, `index` and `coordinates` are as for `pdf_font`; the pairs are those of the runs. Their figures are the glyphs of the
-/// source, of which there are so many (`count`), and after these own glyphs, whose parts are glyphs of the source: the subset has
-/// them too, and after its glyphs the own ones. An own glyph that there isn't is a blank. In vertical writing an own glyph has no
-/// column. With outlines of CFF an own glyph is its part's charstring again, with its advance as the width, where that can be said.
-/// Of the options `codes` has no effect, nor has `program`: outlines of CFF are the bare table.
+/// `data`, `index` and `coordinates` are as for `pdf_font`; the pairs are those of the runs. Their figures are the `count`
+/// glyphs of the source, and after these own glyphs, whose parts are glyphs of the source: the subset has them too, and after its
+/// glyphs the own ones. An own glyph that doesn't exist is a blank. In vertical writing an own glyph has no column. With outlines
+/// of CFF an own glyph is its part's charstring again, with its advance as the width, where that can be encoded. The options
+/// `codes` and `program` have no effect: outlines of CFF are the bare table.
 ///
 /// # Errors
 ///
 /// - those of `pdf_font`, but for `TextTooLong`
-/// - `Subset`: there would be more than 65,535 glyphs, with own ones and a blank (`OverflowError`), or what else `with_own_glyphs`
-///   answers; or with outlines of CFF an own glyph has several parts or one that isn't at the origin (`OverflowError`), or what
-///   `with_repeats` answers
+/// - `Subset`: there would be more than 65,535 glyphs, with own ones and a blank (`OverflowError`), or another error of
+///   `with_own_glyphs`; or with outlines of CFF an own glyph has several parts or one that isn't at the origin (`OverflowError`),
+///   or an error of `with_repeats`
 /// - `Subset`: a request for memory was refused (`OutOfMemory`)
 pub fn text_font(
     alloc: Global,

@@ -37,7 +37,7 @@ fn counted(file: &[u8]) -> Result<u16, Error> {
     }
 }
 
-/// How many own glyphs there are, if they and so many glyphs before them are at most 65,535.
+/// How many own glyphs there are, if they and the `count` glyphs before them are at most 65,535.
 fn few(count: u16, owns: usize) -> Result<u16, Error> {
     if owns > usize::from(u16::MAX - count) {
         return Err(Error::OverflowError);
@@ -45,7 +45,7 @@ fn few(count: u16, owns: usize) -> Result<u16, Error> {
     Ok(owns as u16)
 }
 
-/// The glyphs of a file, others after them, of which so many are own ones, and a map to them.
+/// The glyphs of a file and others after them, the first `owns` of these own ones, and a map to them.
 fn with_more(
     alloc: Global,
     file: &[u8],
@@ -63,7 +63,7 @@ fn with_more(
     })
 }
 
-/// The glyphs of a file, others after them, if there are any, of which so many are own ones, and a map to them.
+/// The glyphs of a file and others after them, if there are any, the first `owns` of these own ones, and a map to them.
 fn mapped(
     alloc: Global,
     file: Vec<u8>,
@@ -159,13 +159,13 @@ fn repeated(
     Ok(Drawn { program, map: None })
 }
 
-/// What draws the codes, of glyphs of a subset and others after these, of which so many are own ones; these are the advances of the
-/// codes, in the font's units.
+/// What draws the codes: glyphs of a subset, and others after them, of which the first `owns` are own ones. `advances` are those
+/// of the codes, in the font's units.
 ///
 /// # Errors
 ///
-/// - `OverflowError`: there would be more than 65,535 glyphs, or what else `with_own_glyphs` answers; with outlines in `CFF ` an own
-///   glyph has several parts or one that isn't at the origin, or what `with_repeats` answers.
+/// - `OverflowError`: there would be more than 65,535 glyphs, or `with_own_glyphs` returns it; with outlines in `CFF ` an own
+///   glyph has several parts or one that isn't at the origin, or `with_repeats` returns it.
 /// - `MalformedFont`: the program isn't that of a subset.
 /// - `OutOfMemory`: a request for memory was refused.
 pub fn draw_codes(

@@ -149,7 +149,7 @@ fn after_codes(numbers: &[u16], codes: usize) -> &[u16] {
     &numbers[codes..]
 }
 
-/// The font of a text, of the subset of the glyphs that the codes want and of the parts of own glyphs, of a source with so many
+/// The font of a text, from the subset with the glyphs that the codes want and the parts of own glyphs. The source has `count`
 /// glyphs.
 ///
 /// # Errors

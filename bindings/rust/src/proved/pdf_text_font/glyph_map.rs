@@ -7,7 +7,7 @@ use crate::proved::pdf_text_font::pairs::Drawing;
 use crate::proved::subsetter_base::Error;
 use crate::rattle::alloc::Global;
 
-/// The number of the glyph that draws a code: so many own glyphs are after the others, from this number on, and after them the
+/// The number of the glyph that draws a code: `owns` own glyphs come after the others, from `first` on, and after them the
 /// blank.
 fn glyph_number(first: u16, owns: u16, drawing: Drawing) -> u16 {
     match drawing {

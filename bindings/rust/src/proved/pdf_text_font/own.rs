@@ -35,7 +35,7 @@ pub fn parts_by(alloc: Global, parts: &[Placed], numbers: &[u16]) -> Result<Vec<
     Ok(numbered)
 }
 
-/// The first parts, so many.
+/// The first `count` parts.
 fn first(parts: &[Part], count: usize) -> &[Part] {
     if count < parts.len() {
         &parts[..count]
@@ -44,7 +44,7 @@ fn first(parts: &[Part], count: usize) -> &[Part] {
     }
 }
 
-/// The parts after so many.
+/// The parts after the first `count`.
 fn after(parts: &[Part], count: usize) -> &[Part] {
     if count < parts.len() {
         &parts[count..]

@@ -42,7 +42,7 @@ pub fn by_code(alloc: Global, pairs: &Remapper<u16, Pair>) -> Result<Vec<Pair>, 
     Ok(coded)
 }
 
-/// The glyph that a figure wants in the subset, of a source with so many glyphs.
+/// The glyph that a figure wants in the subset of a source with `count` glyphs.
 fn glyph_of(count: usize, figure: Figure) -> u16 {
     match figure {
         Figure::Source(glyph) => {
@@ -56,7 +56,7 @@ fn glyph_of(count: usize, figure: Figure) -> u16 {
     }
 }
 
-/// The glyphs in use, which have no texts: one of each code, of a source with so many glyphs, and after them these parts.
+/// The glyphs in use, without texts: one for each code, and after them these parts. The source has `count` glyphs.
 pub fn shown_of(
     alloc: Global,
     count: usize,
@@ -79,7 +79,7 @@ pub fn shown_of(
     Ok(shown)
 }
 
-/// The own glyph with this place, of so many, or nothing.
+/// The own glyph at a place, of `owns`, or nothing.
 fn own_or_nothing(owns: usize, place: u16) -> Drawing {
     if usize::from(place) < owns {
         Drawing::Own(place)
@@ -88,8 +88,8 @@ fn own_or_nothing(owns: usize, place: u16) -> Drawing {
     }
 }
 
-/// What draws a figure, where the glyph that it wants has this number in the subset: glyphs after those of the source, so many,
-/// are own ones.
+/// What draws a figure, where the glyph that it wants has this number in the subset: `owns` own glyphs come after the `count` of
+/// the source.
 fn drawing_of(count: usize, owns: usize, figure: Figure, number: u16) -> Drawing {
     match figure {
         Figure::Source(glyph) => {
@@ -104,8 +104,8 @@ fn drawing_of(count: usize, owns: usize, figure: Figure, number: u16) -> Drawing
     }
 }
 
-/// What draws each code, where the glyphs that the codes want have these numbers in the subset, of a source with so many glyphs
-/// and with so many own ones.
+/// What draws each code, where the glyphs that the codes want have these numbers in the subset. The source has `count` glyphs,
+/// and there are `owns` own ones.
 pub fn drawings_of(
     alloc: Global,
     count: usize,

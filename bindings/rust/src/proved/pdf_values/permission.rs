@@ -23,7 +23,7 @@ pub enum Usage {
 #[derive(Clone, Copy, PartialEq, Eq, Debug)]
 pub struct Permission {
     pub usage: Usage,
-    /// Whether a part of the font may stand for it.
+    /// Whether a subset of the font may be embedded.
     pub subsetting: bool,
     /// Whether outlines may be embedded, and not bitmaps alone.
     pub outlines: bool,

@@ -8,17 +8,17 @@ fn thousandfold(v: i32) -> i64 {
     1000 * i64::from(v)
 }
 
-/// A length of so many units to the em, to the nearest thousandth, halves up.
+/// A length in thousandths of the em, at `units` units per em, to the nearest, halves up.
 pub fn thousandths(v: i32, units: u32) -> i32 {
     nearest(thousandfold(v), u64::from(units)) as i32
 }
 
-/// A length of so many units to the em, in thousandths, rounded down.
+/// A length in thousandths of the em, at `units` units per em, rounded down.
 pub fn lowered(v: i32, units: u32) -> i32 {
     thousandfold(v).div_euclid(i64::from(units)) as i32
 }
 
-/// A length of so many units to the em, in thousandths, rounded up.
+/// A length in thousandths of the em, at `units` units per em, rounded up.
 pub fn raised(v: i32, units: u32) -> i32 {
     -lowered(-v, units)
 }

@@ -58,7 +58,7 @@ fn wanted(defaults: Defaults, advance: u16) -> Option<Option<CharStringNumber>> 
     Some(Some(number))
 }
 
-/// Whether the stack has room for a width beside so many operands.
+/// Whether the stack has room for a width besides `operands` operands.
 fn has_room(width: Option<CharStringNumber>, operands: usize) -> bool {
     match width {
         None => true,

@@ -11,7 +11,7 @@ use crate::proved::subsetter_base::Tag;
 use crate::proved::subsetter_variation::rounding::nearest;
 use crate::rattle::alloc::{AllocError, Global};
 
-/// A number without a sign: so many halves of a 65536th, and whether there is more.
+/// A number without a sign: how many halves of a 65536th it has, and whether there is more.
 #[derive(Clone, Copy)]
 pub struct Halves {
     pub count: u64,
@@ -86,7 +86,7 @@ fn fixed(quarters: i64) -> Option<i32> {
     i32::try_from(nearest(quarters, 4)).ok()
 }
 
-/// A number that is as near to each whole 65536th as so many halves, in quarters.
+/// A number in quarters that is rounded to the same 65536th as these halves.
 fn quarters_of(halves: Halves) -> u64 {
     let count = 2 * halves.count;
     if halves.more {
@@ -96,12 +96,12 @@ fn quarters_of(halves: Halves) -> u64 {
     }
 }
 
-/// So many below 0.
+/// The negative of a count.
 fn negative(count: u64) -> i64 {
     -(count as i64)
 }
 
-/// So many above 0.
+/// A count as a signed number.
 fn positive(count: u64) -> i64 {
     count as i64
 }

@@ -11,7 +11,7 @@ use crate::rattle::prelude::{IteratorExt, Vec};
 use crate::proved::subsetter_base::Tag;
 use crate::rattle::alloc::{AllocError, Global};
 
-/// Whether a plus stands first, which `parse` lets pass.
+/// Whether the first character is a plus, which `parse` accepts.
 fn begins_with_plus(word: &str) -> bool {
     matches!(word.as_bytes(), [b'+', ..])
 }

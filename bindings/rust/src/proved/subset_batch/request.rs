@@ -151,7 +151,7 @@ fn request_in(alloc: Global, line: &[u8]) -> Result<Vec<String>, Unread> {
 /// What a line requests, as the words of a command line: options with their values, and after `--` IN.
 ///
 /// A line is one object in JSON (RFC 8259), with white space around it. Its members have the names `in`, `out`, `index` and
-/// those of the program's long options, each once. A value is a string, a number, which stands for its text, or `true` for an
+/// those of the program's long options, each once. A value is a string, a number, which is taken as its text, or `true` for an
 /// option without a value; `false` and `null` are as if the member weren't there. `gids`, `unicodes`, `at` and `limits` may
 /// have an array of strings and numbers, which commas join.
 ///

@@ -6,7 +6,7 @@ use crate::proved::subsetter_base::GlyphRemapper;
 /// The glyphs whose new numbers are printed.
 #[derive(Clone, Copy)]
 pub struct Numbering<'a> {
-    /// The characters that the glyphs stand for, if they stand for one.
+    /// The character of each glyph, if it has one.
     pub characters: &'a [Option<char>],
     /// The names of the glyphs, as far as there are any; an empty one is none.
     pub names: &'a [&'a [u8]],

@@ -168,14 +168,14 @@ fn sheet_of(
     }
 }
 
-/// A PDF that shows glyphs of a font in 36 points, each with its text, so many of the characters that are left: in a line, or in
-/// a grid of 12 by 16 a page. A line is that of a text, unless it is chosen how glyphs get codes.
+/// A PDF that shows glyphs of a font in 36 points, in a line, or in a grid of 12 by 16 a page. Each has its text: as many of the
+/// next characters as its length says. A line is that of a text, unless it is chosen how glyphs get codes.
 ///
 /// # Errors
 ///
 /// - `NotPermitted`: `fsType` forbids it, and the user holds no rights.
 /// - `TextTooLong`: the text of a glyph is too long.
-/// - `Font`: what `pdf_font` answers, and of a text `text_metrics`; a glyph of a text isn't the font's (`MalformedFont`), or the
+/// - `Font`: what `pdf_font` returns, and for a text `text_metrics`; a glyph of a text isn't the font's (`MalformedFont`), or the
 ///   text is too long (`OverflowError`); the PDF would have 10,000,000,000 bytes or more (`OverflowError`); a request for memory was
 ///   refused (`OutOfMemory`).
 pub fn make_sheet(

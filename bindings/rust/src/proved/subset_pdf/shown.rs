@@ -7,7 +7,7 @@ use crate::proved::pdf_font::Shown;
 use crate::proved::subsetter_base::Error;
 use crate::rattle::alloc::Global;
 
-/// So many characters of a text, or all where there are fewer, and the others.
+/// The first `count` characters of a text, or all where there are fewer, and the others.
 fn cut(text: &[char], count: usize) -> (&[char], &[char]) {
     if count < text.len() {
         (&text[..count], &text[count..])
@@ -24,7 +24,7 @@ fn take_number(numbers: &[usize]) -> (usize, &[usize]) {
     }
 }
 
-/// Glyphs in use, in order, each with its text: so many of the characters that are left.
+/// Glyphs in use, in order, each with its text: the next of the characters, as many as its length says.
 ///
 /// # Errors
 ///

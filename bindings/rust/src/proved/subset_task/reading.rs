@@ -7,7 +7,7 @@ use crate::proved::subset_task::refusals::failure::Failure;
 use crate::rattle::alloc::Global;
 use crate::rattle::io::Read;
 
-/// The bytes that a reader has left, with room for so many taken at once.
+/// The bytes that a reader has left; memory for `room` of them is reserved at once.
 pub fn read_whole<R: Read>(alloc: Global, reader: &mut R, room: usize) -> Result<Vec<u8>, Failure> {
     let mut font = match Vec::with_capacity(alloc, room) {
         Ok(font) => font,

@@ -40,7 +40,7 @@ impl<F: Read, S: Read> Read for Source<F, S> {
     }
 }
 
-/// Opens what is read, so many bytes at most. A byte more than these is read, to see the end.
+/// Opens what is read, of at most `most` bytes. One byte more is read, to see the end.
 pub fn open_source<R: Files + Input>(
     rt: &R,
     name: &str,

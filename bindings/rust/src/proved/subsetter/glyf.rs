@@ -208,7 +208,7 @@ fn longer(size: Count, more: Count, most: u32) -> Result<Count, Error> {
     })
 }
 
-/// Stands for the first byte of an outline that has no other one, so that it counts as a composite. The closure follows it
+/// Returned as the first byte of an outline that has only one byte, so that it counts as a composite. The closure follows it
 /// then, and finds it faulty. (A byte and no enum: the first bytes of a block are read without a step that waits for one.)
 const ONLY_BYTE: u8 = 255;
 

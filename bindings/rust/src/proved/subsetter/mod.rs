@@ -2,7 +2,7 @@
 //! A subsetter for OpenType fonts, for embedding in PDF: it keeps some glyphs of a font under new consecutive numbers,
 //! and drops the rest.
 //!
-//! [`subset`] answers a font with exactly the mapper's glyphs, in order, and each further glyph that a composite needs;
+//! [`subset`] returns a font with exactly the mapper's glyphs, in order, and each further glyph that a composite needs;
 //! each draws as in the source. `subset_with_options` leaves out hinting or names, and takes limits on the work;
 //! `check_opening` looks at what needs no memory.
 //!

@@ -17,7 +17,7 @@ use crate::proved::subsetter_sfnt::parse::parse;
 use crate::proved::subsetter_type2::limits::Limits;
 use crate::rattle::alloc::Global;
 
-/// A subset of a TrueType font that has at most so many bytes.
+/// A subset of a TrueType font. Where `bytes` is given, it has at most that many.
 fn subset_truetype(
     alloc: Global,
     face: &Face<'_>,

@@ -47,7 +47,7 @@ impl GlyphRemapper {
         Self::with_capacity(alloc, 1)
     }
 
-    // Glyph 0 alone, with room for so many glyphs.
+    // Glyph 0 alone, with room for `count` glyphs.
     fn with_capacity(alloc: Global, count: usize) -> Result<Self, Error> {
         let mut pages = vec![in alloc; 0; PAGES]?;
         let mut entries = vec![in alloc; 0; 64]?;

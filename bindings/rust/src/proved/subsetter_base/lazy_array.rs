@@ -15,7 +15,7 @@ pub struct LazyArray16<'a, T> {
 }
 
 impl<'a, T: Readable<'a>> LazyArray16<'a, T> {
-    /// The array of so many items over these bytes.
+    /// The array of `len` items over these bytes.
     pub(crate) fn of_items(data: &'a [u8], len: u16) -> Self {
         Self {
             data,

@@ -45,7 +45,7 @@ fn curve_y(i: usize) -> bool {
     i % 8 == 2 || i % 8 == 3 || i % 8 == 4 || i % 8 == 6
 }
 
-/// Curves as they begin, of so many operands, of which the last may be a fifth one: the axis along which an operand moves.
+/// Curves as they begin, of `count` operands, of which the last may be a fifth one: the axis along which operand `i` moves.
 #[inline(always)]
 fn curves_along(first: usize, count: usize, i: usize) -> Along {
     if count % 4 == 1 && i + 1 == count && first + i >= 1 {
@@ -106,7 +106,7 @@ fn flex_along(i: usize) -> Along {
     }
 }
 
-/// What the operand numbered i of so many operands moves along.
+/// The axis along which operand `i` of `count` moves.
 #[inline(always)]
 pub fn moves_along(operator: Operator, count: usize, i: usize) -> Along {
     match operator.0 {

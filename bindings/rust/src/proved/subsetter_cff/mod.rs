@@ -11,7 +11,7 @@
 //!
 //! - Private dicts are slices of the source until they are written: their entries are gone through once to find their
 //!   subroutines, and once to be written. Entries of whole numbers in the first forms that hold them are passed and copied
-//!   as they stand; just the others are read.
+//!   as they are; just the others are read.
 //! - The number of a font dict is a byte, as FDSelect has it. The used ones are found by marking 256 flags, so they
 //!   are in ascending order without sorting. 256 of them are refused at once, before a string is read.
 //! - FDSelect of format 3 is searched by halves where no range begins before the one before it, which is looked at

@@ -9,7 +9,7 @@ const HEADER_SIZE: usize = 2;
 const TOP_DICT_LENGTH: usize = 3;
 /// The version that is read.
 const MAJOR_VERSION: u8 = 2;
-/// The fields of the header have so many bytes.
+/// How many bytes the fields of the header have.
 const LEAST_HEADER: u8 = 5;
 
 /// What is in front.

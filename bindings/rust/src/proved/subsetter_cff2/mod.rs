@@ -4,8 +4,8 @@
 //! - [`table::open`] finds the parts of a table; [`selection::search::FontDictSelect`] and [`private_dicts::private2::private_numbered`] the private dict and the
 //!   local subroutines of a glyph.
 //! - [`variation::store_at`] computes the scalars of all regions of the item variation store at a location, once.
-//! - [`private_dicts::private_at::write_private_at`] writes a private dict with every blend resolved, and answers which item variation data its
-//!   charstrings begin with.
+//! - [`private_dicts::private_at::write_private_at`] writes a private dict with every blend resolved, and returns which item
+//!   variation data its charstrings begin with.
 //!
 //! [`blend`] has the numbers of a DICT in parts of 2^30, and what a blend makes of them; [`variation::FontVariation`] gives the
 //! scalars to the charstrings.

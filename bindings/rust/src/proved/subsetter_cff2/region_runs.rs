@@ -17,7 +17,7 @@ fn one_more(n: u16) -> u16 {
     }
 }
 
-/// How many indexes of the last so many bytes stand before the first that isn't below the bound, by the runs of fewer bytes.
+/// How many of the indexes in the last `left` bytes come before the first that isn't below the bound, by the runs of fewer bytes.
 fn next_run(bytes: &[u8], bound: usize, left: usize, runs: &[u16]) -> u16 {
     if left < 2 {
         return 0;

@@ -30,7 +30,7 @@ pub struct Table2<'a> {
     pub select: Option<u32>,
 }
 
-/// The item variation store after two bytes at an offset, if it is one of so many axes.
+/// The item variation store after two bytes at an offset, if it has `axes` axes.
 fn store_at(bytes: &[u8], axes: usize, offset: usize) -> Option<VariationStore<'_>> {
     let place = offset.checked_add(2)?;
     let start = bytes.get(place..)?;
@@ -42,7 +42,7 @@ fn store_at(bytes: &[u8], axes: usize, offset: usize) -> Option<VariationStore<'
     }
 }
 
-/// The item variation store after two bytes at an offset, if there is an offset, and the store is one of so many axes.
+/// The item variation store after two bytes at an offset, if there is an offset, and the store has `axes` axes.
 fn store_by(bytes: &[u8], axes: usize, offset: Option<u32>) -> Option<Option<VariationStore<'_>>> {
     match offset {
         None => Some(None),
@@ -77,7 +77,7 @@ fn parse_parts<'a>(
     })
 }
 
-/// Opens the table of a font with so many axes; None where a part is missing or can't be read.
+/// Opens the table of a font with `axes` axes; None where a part is missing or can't be read.
 pub fn open(bytes: &[u8], axes: usize) -> Option<Table2<'_>> {
     let front = parse_front(bytes)?;
     parse_parts(bytes, axes, front.top, front.following)

@@ -57,7 +57,7 @@ fn locate<'a>(alloc: Global, store: VariationStore<'a>, at: &[i32]) -> Result<Lo
     Ok(Located { store, scalars })
 }
 
-/// The scalars of the first item variation data, which have so many regions.
+/// The scalars of the first item variation data, one for each of its `count` regions.
 fn first_scalars(
     alloc: Global,
     all: &Located<'_>,

@@ -128,8 +128,8 @@ fn make(
 ///
 /// `data` is a font file or a collection, of which `index` names a face (it is ignored for a single font). A coordinate is the
 /// tag of an axis and a value in 65536ths; where a tag comes twice the last value counts, and an axis without a value stays at
-/// its default. A font without `fvar` has no axes. Each charstring may take so many tokens and go so deep as the `limits` say, and
-/// together they may have so many bytes.
+/// its default. A font without `fvar` has no axes. Each charstring may take the tokens and the depth of `limits`, and all of them
+/// together its bytes.
 ///
 /// # Errors
 ///

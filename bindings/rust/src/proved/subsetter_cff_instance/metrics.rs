@@ -133,7 +133,7 @@ fn metric_among(
     metrics.get(usize::from(place)).copied()
 }
 
-/// The metric of each of so many glyphs.
+/// The metrics of the glyphs 0 to `count` - 1.
 pub fn metrics_by_glyph(
     alloc: Global,
     mapper: &GlyphRemapper,

@@ -45,7 +45,7 @@ fn make(
 ///
 /// `data` is a font file or a collection, of which `index` names a face (it is ignored for a single font). A coordinate is the
 /// tag of an axis and a value in 65536ths; where a tag comes twice the last value counts, and an axis without a value stays at
-/// its default. A font without `fvar` has no axes. Each glyph may take so many `steps`: one for each component at
+/// its default. A font without `fvar` has no axes. Each glyph may take `steps` steps: one for each component at
 /// any depth, each point, each tuple, and each point again of a tuple that counts.
 ///
 /// # Errors

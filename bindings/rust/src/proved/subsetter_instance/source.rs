@@ -40,7 +40,7 @@ pub fn normalized_coordinates(
     }
 }
 
-/// The variations of outlines for so many axes, if there are some.
+/// The variations of outlines for `axes` axes, if there are some.
 fn variations_in(gvar: Option<&[u8]>, axes: usize) -> Option<Option<Gvar<'_>>> {
     let bytes = match gvar {
         Some(bytes) => bytes,
@@ -56,7 +56,7 @@ fn variations_in(gvar: Option<&[u8]>, axes: usize) -> Option<Option<Gvar<'_>>> {
     }
 }
 
-/// The tables of a font of so many axes, unless one is missing or cut.
+/// The tables of a font with `axes` axes, unless one is missing or cut.
 pub fn source_in<'a>(face: &Face<'a>, axes: usize) -> Option<Source<'a>> {
     let glyf = face.stored(Tag::GLYF)?;
     let loca = face.stored(Tag::LOCA)?;
@@ -80,7 +80,7 @@ pub fn source_in<'a>(face: &Face<'a>, axes: usize) -> Option<Source<'a>> {
     })
 }
 
-/// The tables of a font of so many axes. `Unimplemented` where `gvar`, `HVAR` or `MVAR` has a major version other than 1, else
+/// The tables of a font with `axes` axes. `Unimplemented` where `gvar`, `HVAR` or `MVAR` has a major version other than 1, else
 /// `MalformedFont` where a table is missing or cut.
 pub fn source_or_fault<'a>(face: &Face<'a>, axes: usize) -> Result<Source<'a>, Error> {
     let gvar = face.stored(Tag::new(b"gvar"));

@@ -27,7 +27,7 @@ use crate::rattle::alloc::Global;
 /// The most contours of a simple glyph: `numberOfContours` is an int16, and below 0 for a composite glyph.
 const MOST_CONTOURS: u16 = 0x7FFF;
 
-/// The flags, the x coordinates and the y coordinates of so many points, in the memory of lists that are spare.
+/// The flags, the x coordinates and the y coordinates of `count` points, in the memory of the spare lists.
 fn read_points(
     spare_flags: Vec<u8>,
     spare_xs: Vec<i16>,
@@ -74,7 +74,7 @@ fn read_body(bytes: &[u8]) -> Option<&[u8]> {
     read_after(rest, usize::from(size))
 }
 
-/// The last points of so many contours, the instructions, which are passed over, and the points.
+/// The last points of the contours, the instructions, which are passed over, and the points.
 fn read_parts(
     alloc: Global,
     spare: Columns,
@@ -131,7 +131,7 @@ fn read_header(bytes: &[u8]) -> Option<(u16, &[u8])> {
     Some((contours, rest))
 }
 
-/// What [`read_simple`] reads, before the points are joined. Flags and coordinates stand in the memory of columns that are spare, whose
+/// What [`read_simple`] reads, before the points are joined. Flags and coordinates use the memory of the spare columns, whose
 /// contents don't count. Four more coordinates have room after those of the points.
 pub fn read_columns(alloc: Global, spare: Columns, bytes: &[u8]) -> Result<Option<Columns>, Error> {
     if bytes.is_empty() {

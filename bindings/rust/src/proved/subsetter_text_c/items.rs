@@ -28,7 +28,7 @@ pub struct TextItem {
     pub y_offset: i32,
 }
 
-/// Whether the text that begins at a glyph, if any does, is among so many characters.
+/// Whether the text that begins at a glyph, if any does, is within `count` characters.
 fn is_ranged(count: usize, item: TextItem) -> bool {
     item.continues != 0 || (item.start <= item.end && item.end as usize <= count)
 }

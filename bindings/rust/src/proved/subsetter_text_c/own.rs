@@ -65,7 +65,7 @@ fn places_in(alloc: Global, parts: &[TextPart]) -> Result<Vec<Placed>, RunError>
     Ok(places)
 }
 
-/// Whether the parts of an own glyph are the first of so many that are left.
+/// Whether the parts of an own glyph are the first of the `left` parts.
 fn is_own(before: u32, left: usize, own: TextOwn) -> bool {
     own.advance < 65_536 && (before <= own.part_end && (own.part_end - before) as usize <= left)
 }
@@ -126,7 +126,7 @@ pub fn glyphs_of(
 
 // ---- to C
 
-/// The end of so many parts after others.
+/// The end of `count` parts after others.
 fn end_after(before: u32, count: usize) -> Option<u32> {
     if count > (u32::MAX - before) as usize {
         return None;

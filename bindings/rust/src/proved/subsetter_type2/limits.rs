@@ -22,7 +22,7 @@ impl Limits {
         })
     }
 
-    /// These limits, where at most so many bytes may be written.
+    /// These limits, where at most `bytes` bytes may be written.
     pub fn with_bytes(self, bytes: u32) -> Self {
         Limits {
             tokens: self.tokens,
@@ -47,7 +47,7 @@ impl Limits {
         self.bytes
     }
 
-    /// Whether so many bytes are too many.
+    /// Whether `len` bytes are more than may be written.
     #[inline(always)]
     pub fn is_past(&self, len: usize) -> bool {
         match self.bytes {

@@ -2,8 +2,8 @@
 //! Type 2 charstrings (Technical Note 5177): flattening, which inlines the subroutines that a charstring calls,
 //! and the machine that it agrees with.
 //!
-//! [`charstring::Decompiler::flatten`] answers the charstring without subroutines that says the same, within a number
-//! of tokens and a depth; `decompile` answers its instructions.
+//! [`charstring::Decompiler::flatten`] returns the charstring without subroutines that says the same, within a number
+//! of tokens and a depth; `decompile` returns its instructions.
 //!
 //! ```text
 //! let decompiler = Decompiler::new(global.get_handler(), local.get_handler());

@@ -27,9 +27,9 @@ impl<'a> SubroutineHandler<'a> {
     }
 }
 
-/// Below so many subroutines the bias is the least one (Technical Note 5176, section 16 "Local/Global Subrs INDEXes").
+/// With fewer subroutines than this the bias is the least one (Technical Note 5176, section 16 "Local/Global Subrs INDEXes").
 const FEW_SUBROUTINES: u32 = 1240;
-/// From so many on it is the greatest one.
+/// With this many or more it is the greatest one.
 const MANY_SUBROUTINES: u32 = 33900;
 
 const LEAST_BIAS: u16 = 107;

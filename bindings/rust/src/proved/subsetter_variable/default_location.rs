@@ -15,7 +15,7 @@ fn are_zero(at: &[i32]) -> bool {
     at.iter().all(|v| *v == 0)
 }
 
-/// Whether a font stands at its default for user coordinates, each a tag and a value in 65536ths: it has no outlines in
+/// Whether user coordinates, each a tag and a value in 65536ths, are a font's default: it has no outlines in
 /// `glyf`, or each of its normalized coordinates is 0. A file that can't be opened has no outlines.
 ///
 /// # Errors
@@ -96,8 +96,8 @@ fn static_cff(
 /// The static font that a font is at user coordinates: None where it is at its default, and is to be taken as it is, with
 /// its hints. Else it is a file with one font, of index 0, in which the mapper's glyphs have their old numbers.
 ///
-/// - Of outlines in `glyf` it is what `instance` answers, where each glyph may take as many steps as `limits` has tokens.
-/// - Of outlines in `CFF2`, without `glyf` and `CFF `, it is what `cff_instance` answers, at the font's default too, where each
+/// - Of outlines in `glyf` it is what `instance` returns, where each glyph may take as many steps as `limits` has tokens.
+/// - Of outlines in `CFF2`, without `glyf` and `CFF `, it is what `cff_instance` returns, at the font's default too, where each
 ///   charstring may run within the tokens and the depth of `limits`.
 /// - The bytes of `limits` bound neither.
 ///

@@ -26,13 +26,13 @@ fn is_key_up_to(table: &[u8], records: Records, place: usize, wanted: u32) -> bo
     }
 }
 
-/// How many of so many records are there.
+/// How many of `count` records are there.
 fn records_there(table: &[u8], records: Records, count: u32) -> usize {
     let room = table.len().saturating_sub(records.at) / records.size;
     room.min(count as usize)
 }
 
-/// How many of the keys of so many records are at most a number.
+/// How many of the keys of `count` records are at most `wanted`.
 fn count_up_to(table: &[u8], records: Records, count: usize, wanted: u32) -> usize {
     let mut low = 0;
     let mut high = count;
@@ -50,7 +50,7 @@ fn count_up_to(table: &[u8], records: Records, count: usize, wanted: u32) -> usi
     low
 }
 
-/// The place of the last of so many records whose key is at most a number.
+/// The place of the last of `count` records whose key is at most `wanted`.
 pub fn last_up_to(table: &[u8], records: Records, count: u32, wanted: u32) -> Option<usize> {
     let there = records_there(table, records, count);
     let places = count_up_to(table, records, there, wanted);

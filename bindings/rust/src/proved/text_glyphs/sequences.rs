@@ -99,7 +99,7 @@ fn selector_record(table: &[u8], selector: char) -> Option<usize> {
     if_selects(table, SELECTORS.at + SELECTORS.size * place, selector)
 }
 
-/// The table that an offset leads to; 0 stands for none.
+/// The table that an offset leads to; 0 means none.
 fn part(table: &[u8], offset: u32) -> Option<&[u8]> {
     if offset == 0 {
         return None;

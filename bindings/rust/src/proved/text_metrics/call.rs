@@ -34,7 +34,7 @@ fn each_metrics(alloc: Global, units: u16, advances: &[u16]) -> Result<Vec<Glyph
     Ok(metrics)
 }
 
-/// The numbers of so many glyphs.
+/// The glyphs 0 to `count` - 1.
 pub(crate) fn numbers(alloc: Global, count: u16) -> Result<Vec<u16>, Error> {
     let mut glyphs = Vec::with_capacity(alloc, usize::from(count))?;
     for glyph in 0..count {

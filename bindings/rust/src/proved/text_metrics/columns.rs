@@ -33,13 +33,13 @@ fn each_metrics(alloc: Global, columns: &[Column]) -> Result<Vec<GlyphMetrics>, 
     Ok(metrics)
 }
 
-/// So many widths of 0.
+/// `count` widths of 0.
 fn no_widths(alloc: Global, count: u16) -> Result<Vec<u32>, Error> {
     let widths = vec![in alloc; 0; usize::from(count)]?;
     Ok(widths)
 }
 
-/// What the columns of the first glyphs have along the line at a location, of so many.
+/// What the columns of the first `count` glyphs have along the line at a location.
 fn columns_there(
     alloc: Global,
     face: &Face<'_>,
@@ -57,7 +57,7 @@ fn columns_there(
     each_metrics(alloc, &columns.each)
 }
 
-/// What the columns of the first glyphs have along the line, of so many.
+/// What the columns of the first `count` glyphs have along the line.
 fn columns_in(
     alloc: Global,
     face: &Face<'_>,

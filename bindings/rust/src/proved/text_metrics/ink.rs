@@ -40,7 +40,7 @@ fn is_drawn(entries: &Index<'_>, glyph: u16) -> bool {
     }
 }
 
-/// Whether the first glyphs of `glyf` have outlines, so many.
+/// Whether each of the first `count` glyphs of `glyf` has an outline.
 fn outlined(alloc: Global, tables: OutlineTables<'_>, count: u16) -> Result<Vec<bool>, Error> {
     let mut inked = Vec::with_capacity(alloc, usize::from(count))?;
     for glyph in 0..count {
@@ -49,7 +49,7 @@ fn outlined(alloc: Global, tables: OutlineTables<'_>, count: u16) -> Result<Vec<
     Ok(inked)
 }
 
-/// Whether the first glyphs of `CFF ` are drawn, so many.
+/// Whether each of the first `count` glyphs of `CFF ` is drawn.
 fn drawn(alloc: Global, entries: &Index<'_>, count: u16) -> Result<Vec<bool>, Error> {
     let mut inked = Vec::with_capacity(alloc, usize::from(count))?;
     for glyph in 0..count {
@@ -75,7 +75,7 @@ fn inked_in_cff(alloc: Global, cff: Option<&[u8]>, count: u16) -> Result<Vec<boo
     }
 }
 
-/// Whether the first glyphs of a font have ink, so many, as far as that is known.
+/// Whether each of the first `count` glyphs of a font has ink, as far as that is known.
 pub(crate) fn inked_in(alloc: Global, face: &Face<'_>, count: u16) -> Result<Vec<bool>, Error> {
     let tables = OutlineTables {
         head: face.stored(Tag::HEAD),

@@ -52,7 +52,7 @@ pub fn write_count(text: &mut Vec<u8>, count: usize) -> Result<(), Error> {
     write!(text, "{count}").map_err(|_| Error::OutOfMemory)
 }
 
-/// How many of so many lines the next block has.
+/// How many of `count` lines the next block has.
 pub fn block_size(count: usize) -> usize {
     count.min(100)
 }

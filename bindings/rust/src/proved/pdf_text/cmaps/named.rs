@@ -40,7 +40,7 @@ fn name_of(alloc: Global, vertical: bool, lines: &[u8]) -> Result<Vec<u8>, Error
     Ok(name)
 }
 
-/// Writes what stands before the name.
+/// Writes what comes before the name.
 fn write_front(text: &mut Vec<u8>) -> Result<(), Error> {
     text.extend_from_slice(
         b"/CIDInit /ProcSet findresource begin\n12 dict begin\nbegincmap\n/CIDSystemInfo << /Registry (Adobe) /Ordering (Identity) /Supplement 0 >> def\n/CMapName /",
@@ -48,7 +48,7 @@ fn write_front(text: &mut Vec<u8>) -> Result<(), Error> {
     Ok(())
 }
 
-/// Writes what stands after the name.
+/// Writes what comes after the name.
 fn write_back(text: &mut Vec<u8>, vertical: bool) -> Result<(), Error> {
     if vertical {
         text.extend_from_slice(b" def\n/CMapType 1 def\n/WMode 1 def\n")?;

@@ -62,7 +62,7 @@ fn write_blocks(text: &mut Vec<u8>, mappings: &[Mapping<'_>]) -> Result<(), Erro
     Ok(())
 }
 
-/// Writes what stands before the blocks.
+/// Writes what comes before the blocks.
 fn write_front(text: &mut Vec<u8>) -> Result<(), Error> {
     text.extend_from_slice(
         b"/CIDInit /ProcSet findresource begin\n12 dict begin\nbegincmap\n/CIDSystemInfo << /Registry (Adobe) /Ordering (UCS) /Supplement 0 >> def\n/CMapName /Adobe-Identity-UCS def\n/CMapType 2 def\n1 begincodespacerange\n<0000> <FFFF>\nendcodespacerange\n",

@@ -30,7 +30,7 @@ fn cmap_name(encoding: Option<OwnCmap<'_>>, vertical: bool) -> &[u8] {
     }
 }
 
-/// Writes what stands after the name of a font with CFF outlines.
+/// Writes what comes after the name of a font with CFF outlines.
 fn write_name_end(text: &mut Vec<u8>, kind: ProgramKind, cmap: &[u8]) -> Result<(), Error> {
     match kind {
         ProgramKind::TrueType => Ok(()),

@@ -7,7 +7,7 @@ use crate::proved::pdf_text::dictionaries::entries::{write_entry, write_name, wr
 use crate::proved::pdf_text::values::{OwnCmap, ProgramKind};
 use crate::proved::subsetter_base::Error;
 
-/// Writes the entries of a font program of so many bytes, but for Length.
+/// Writes the entries of a font program of `size` bytes, except Length.
 pub fn write_program(text: &mut Vec<u8>, kind: ProgramKind, size: usize) -> Result<(), Error> {
     match kind {
         ProgramKind::TrueType => write_size(text, b"Length1", size),

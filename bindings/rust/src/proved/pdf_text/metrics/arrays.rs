@@ -39,7 +39,7 @@ fn run(width: u32, widths: &[u32]) -> usize {
     n
 }
 
-/// How many widths at the front go on a list, of which it has at most so many.
+/// How many widths at the front go on a list of at most `most`.
 fn listed(most: usize, default: u32, widths: &[u32]) -> usize {
     let mut n = 0;
     let mut rest = widths;
@@ -100,7 +100,7 @@ fn step<'a>(
     Ok(more)
 }
 
-/// The parts of an array for widths from CID 0 on. After its first a list has at most so many.
+/// The parts of an array for widths from CID 0 on. After its first width a list has at most `most` more.
 pub fn parts_of(
     alloc: Global,
     most: usize,
@@ -121,7 +121,7 @@ pub fn parts_of(
     Ok(parts)
 }
 
-/// How many elements a part adds to the outer array: a CID and a list, or two CIDs and so many numbers.
+/// How many elements a part adds to the outer array: a CID and a list, or two CIDs and `numbers` numbers.
 fn elements_of(part: Part<'_>, numbers: usize) -> usize {
     match part {
         Part::Each(..) => 2,
@@ -142,7 +142,7 @@ pub fn has_room(numbers: usize, parts: &[Part<'_>]) -> bool {
     true
 }
 
-/// Lists of all widths from CID 0 on, each of at most so many.
+/// Lists of all widths from CID 0 on, each of at most `most`.
 pub fn lists_of(alloc: Global, most: usize, widths: &[u32]) -> Result<Vec<Part<'_>>, Error> {
     let mut parts = Vec::new(alloc);
     let mut first = 0;

@@ -97,7 +97,7 @@ fn outward(glyphs: GlyphBox, units: u16) -> Edges {
     }
 }
 
-/// FontBBox of a font with so many units to the em: the box of `head`, unless the other is chosen, else the one around
+/// FontBBox of a font with `units` units per em: the box of `head`, unless the other is chosen, else the one around
 /// the kept glyphs, if the caller has one.
 pub fn bounds_of(choice: Bounds, head: Option<&[u8]>, kept: Option<GlyphBox>, units: u16) -> Edges {
     outward(box_of(choice, head, kept), units)

@@ -190,8 +190,8 @@ fn heights_by(line: Line, cap: Option<i32>, x: Option<i32>, units: u16) -> Heigh
     }
 }
 
-/// All four, of a font with so many units to the em. The tops are those of "H" and "x" in these units, if the caller
-/// knows them: they stand for heights that `OS/2` doesn't say.
+/// All four, in a font with `units` units per em. The tops are those of "H" and "x" in these units, if the caller
+/// knows them: they replace heights that `OS/2` doesn't have.
 pub fn heights_of(
     movement: Option<Movement<'_>>,
     hhea: Option<&[u8]>,

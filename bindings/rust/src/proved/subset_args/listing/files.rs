@@ -22,7 +22,7 @@ pub fn read_list(alloc: Global, kind: FileKind, text: &[u8]) -> Result<GlyphList
     }
 }
 
-/// The part of the text of a file for which `read_list` answers `Usage`: of a list the first wrong one, and of a text all of it.
+/// The part of the text of a file for which `read_list` returns `Usage`: of a list the first wrong one, and of a text all of it.
 pub fn find_wrong<'a>(kind: FileKind, text: &'a [u8]) -> Option<&'a [u8]> {
     match kind {
         FileKind::Glyphs => find_wrong_part(text),

@@ -194,7 +194,7 @@ pub fn is_wrong_part(part: &[u8]) -> bool {
     }
 }
 
-/// The first part of the text of a file that is no number and no range, for which `glyphs_in_file` answers `Usage`.
+/// The first part of the text of a file that is no number and no range, for which `glyphs_in_file` returns `Usage`.
 pub fn find_wrong_part(text: &[u8]) -> Option<&[u8]> {
     for part in text.split(|b| is_blank(*b) || *b == b',') {
         if is_wrong_part(part) {

@@ -22,13 +22,13 @@ const OF_EACH_HIGH: u32 = 1024;
 /// What one step reads of a string.
 #[derive(Clone, Copy, Debug)]
 pub enum Character {
-    /// A byte of an unescaped character, or what a letter after a backslash stands for.
+    /// A byte of an unescaped character, or what a letter after a backslash means.
     Byte(u8),
     /// What `\u` writes.
     Scalar(char),
 }
 
-/// What a letter after a backslash stands for.
+/// What a letter after a backslash means.
 fn escaped(e: u8) -> Option<u8> {
     match e {
         b'"' => Some(b'"'),

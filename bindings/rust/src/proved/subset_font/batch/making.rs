@@ -131,7 +131,7 @@ fn answer_failed(alloc: Global, failure: &Failure, job: &Job) -> Answer {
     }
 }
 
-/// Does a request on the bytes of its source, or on why these can't be read, and answers it.
+/// Carries out a request on the bytes of its source, or on why these can't be read, and returns the answer.
 pub fn answer_of<R: Files + Print + Input + AllocGlobal>(
     rt: &R,
     source: &Result<Vec<u8>, Failure>,
@@ -160,7 +160,7 @@ fn answers_file<'a, R: Files>(rt: &R, job: &'a Job) -> Option<&'a str> {
     None
 }
 
-/// Does a request as `answer_of` does, but for one that would write among the answers.
+/// Carries out a request as `answer_of` does, but refuses one that would write to the file of the answers.
 pub fn answer_apart<R: Files + Print + Input + AllocGlobal>(
     rt: &R,
     source: &Result<Vec<u8>, Failure>,

@@ -25,7 +25,7 @@ const ONE_FAILED: u8 = 1;
 
 const UNUSABLE: u8 = 2;
 
-/// Reports that FILE can't be used, and answers the status.
+/// Reports that FILE can't be used, and returns the status.
 fn refuse_file<R: Eprint>(rt: &R, name: &str, reason: Option<io::Error>) -> u8 {
     let _ = report_refused(rt, &Err(Failure::Read), Some(name), reason);
     UNUSABLE
@@ -208,12 +208,12 @@ pub fn status_of_batch<R: Eprint>(
     }
 }
 
-/// Reports that memory ran out before the first request, and answers the status.
+/// Reports that memory ran out before the first request, and returns the status.
 pub fn refuse_memory<R: Eprint>(rt: &R) -> u8 {
     status_of_batch(rt, &Err(Failure::Error(Error::OutOfMemory)), false, false)
 }
 
-/// Does the requests of a batch, and answers the status.
+/// Carries out the requests of a batch, and returns the status.
 fn run_requests<R: Files + Print + Eprint + Input + AllocGlobal>(rt: &R, batch: Batch) -> u8 {
     let is_shown = is_shown(rt);
     let lines = match BufWriter::new(rt.alloc(), io::writer(rt)) {
@@ -237,7 +237,7 @@ fn run_requests<R: Files + Print + Eprint + Input + AllocGlobal>(rt: &R, batch: 
     status_of_batch(rt, &ended, answers.has_failed(), is_shown)
 }
 
-/// Does what the lines of FILE request, and answers the status: 0 where all is done, 1 where a request failed, 2 where FILE
+/// Carries out what the lines of FILE request, and returns the status: 0 where all is done, 1 where a request failed, 2 where FILE
 /// can't be used, and 3 where an answer can't be written.
 pub fn run_batch<R: Files + Print + Eprint + Input + AllocGlobal>(rt: &R, name: &str) -> u8 {
     match read_batch(rt, name) {

@@ -14,7 +14,7 @@ use crate::proved::subsetter::{Error, Extras, Limits, Options, Tag};
 use crate::proved::subsetter_sfnt::directory::table;
 use crate::rattle::alloc::{AllocError, Global};
 
-/// The tokens that all glyphs of a face together may take: so many, and so many more for each byte of the file. With the bytes
+/// The tokens that all glyphs of a face together may take: these, and more for each byte of the file. With the bytes
 /// that the new font may have it is about a second, or what a large file takes to read.
 const TOKENS: u64 = 24_000_000;
 

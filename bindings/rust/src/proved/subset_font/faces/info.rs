@@ -159,8 +159,8 @@ pub fn show_info<L: Write>(
     }
 }
 
-/// Reads the font from the reader, and writes what a face is. The bytes that were read are kept. Room for so many of them is
-/// taken at once.
+/// Reads the font from the reader, and writes what a face is. The bytes that were read are kept. Memory for `room` bytes is
+/// reserved at once.
 pub fn carry_info<R: Read, L: Write>(
     alloc: Global,
     index: u32,

@@ -12,7 +12,7 @@ use crate::rattle::alloc::Global;
 use crate::rattle::io::{Read, Write};
 
 /// Reads the font from the reader, writes the PDF of its glyphs to one writer, if one is requested, its subset to another, and
-/// the new numbers to the third. The bytes that were read are kept. Room for so many of them is taken at once.
+/// the new numbers to the third. The bytes that were read are kept. Memory for `room` bytes is reserved at once.
 ///
 /// `Read` where the reader fails; `Error`, `NoMapping` or `NoInstance` where the glyphs or the font are refused, or the font
 /// has no widths that are requested; `NotPermitted` where it may not be embedded into the PDF; `WritePdf`, `Write` and `Output`

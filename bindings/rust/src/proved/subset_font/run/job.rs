@@ -20,7 +20,7 @@ use crate::rattle::io;
 use crate::rattle::io::{BufWriter, ErrorKind, Read, Write};
 use crate::rattle::rt::Files;
 
-/// Opens the font's file or stream, of so many bytes at most. Why it can't be opened is kept.
+/// Opens the font's file or stream, of at most `most` bytes. Why it can't be opened is kept.
 pub fn open_font<R: Files + Input>(
     rt: &R,
     name: &str,
@@ -119,7 +119,7 @@ fn perform<R: Files + Print + Eprint + Input + AllocGlobal>(
     ended
 }
 
-/// Makes a subset, and answers the status.
+/// Makes a subset, and returns the status.
 pub fn run_job<R: Files + Print + Eprint + Input + AllocGlobal>(rt: &R, job: &Job) -> u8 {
     let mut text = Vec::new(rt.alloc());
     let mut reason = None;

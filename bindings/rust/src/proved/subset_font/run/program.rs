@@ -27,7 +27,7 @@ impl Termination for Ended {
     }
 }
 
-/// Reports a mistake in the arguments, and answers the status.
+/// Reports a mistake in the arguments, and returns the status.
 fn refuse<R: Eprint>(rt: &R, mistake: &Mistake<'_>) -> u8 {
     let status = report(rt, &Err(Failure::Usage), None);
     let _ = eprintln!(rt; "{mistake}");
@@ -35,7 +35,7 @@ fn refuse<R: Eprint>(rt: &R, mistake: &Mistake<'_>) -> u8 {
     status
 }
 
-/// Runs the program by the arguments after its name, and answers the status.
+/// Runs the program with the arguments after its name, and returns the status.
 fn run_words<R: Files + Print + Eprint + Input + AllocGlobal>(rt: &R, words: &[String]) -> u8 {
     match read_words(rt.alloc(), words) {
         Ok(Command::Help) => print_text(rt, HELP),
@@ -48,7 +48,7 @@ fn run_words<R: Files + Print + Eprint + Input + AllocGlobal>(rt: &R, words: &[S
     }
 }
 
-/// Reports that the arguments can't be read, and answers the status.
+/// Reports that the arguments can't be read, and returns the status.
 fn refuse_unread<R: Eprint>(rt: &R, failure: Failure) -> u8 {
     let ended = Err(failure);
     let status = report(rt, &ended, None);

@@ -24,10 +24,10 @@ use crate::proved::subsetter::{Error, Tag};
 use crate::rattle::alloc::{AllocError, Global};
 use crate::rattle::io;
 
-/// Prints why a run failed, if it did, and answers the status.
+/// Prints why a run failed, if it did, and returns the status.
 pub fn report<R: Eprint>(rt: &R, ended: &Result<(), Failure>, file: Option<&str>) -> u8 {
     if let Err(failure) = ended {
-        // Nobody could be told of a failure here, so the status alone tells.
+        // A failure here could be reported to nobody, so the status alone shows it.
         let _ = eprintln!(rt; "{}", Report { failure, file });
     }
     status_of_run(ended)

@@ -68,7 +68,7 @@ fn perform_shown<R: Files + Print + Input + AllocGlobal>(
     ended
 }
 
-/// Shows something of a face, and answers the status.
+/// Shows something of a face, and returns the status.
 pub fn run_shown<R: Files + Print + Eprint + Input + AllocGlobal>(
     rt: &R,
     topic: Topic,
@@ -82,7 +82,7 @@ pub fn run_shown<R: Files + Print + Eprint + Input + AllocGlobal>(
     report_shown(rt, &ended, topic, json, input, index, &font, reason)
 }
 
-/// Prints a text, and answers the status.
+/// Prints a text, and returns the status.
 pub fn print_text<R: Print + Eprint>(rt: &R, text: &str) -> u8 {
     match io::writer(rt).write_all(text.as_bytes()) {
         Ok(()) => 0,

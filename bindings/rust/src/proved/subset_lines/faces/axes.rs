@@ -20,7 +20,7 @@ use crate::rattle::io::Write;
 
 // ---- reading
 
-/// So many records of one size each.
+/// `count` records of `size` bytes each.
 fn records_at(
     alloc: Global,
     count: u16,
@@ -37,7 +37,7 @@ fn records_at(
     Ok(records)
 }
 
-/// The records of named instances after so many axes.
+/// The `count` records of named instances after the axes.
 fn instances_of(
     alloc: Global,
     at: u16,

@@ -64,7 +64,7 @@ fn add_record(
     Ok(())
 }
 
-/// The first of so many records for each name of a kind.
+/// Among the first `count` records, the first one for each name of a kind.
 fn first_records(
     alloc: Global,
     kind: Kind,

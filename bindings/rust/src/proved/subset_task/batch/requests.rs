@@ -114,7 +114,7 @@ fn too_long(alloc: Global) -> Answer {
     failed(TOO_LONG, String::from_str(alloc, text))
 }
 
-/// A request after others, and how far it is, where lists may have so many more numbers.
+/// A request after others, and its state, where lists may have `left` more numbers.
 fn admit(
     alloc: Global,
     before: &[Request],
@@ -130,7 +130,7 @@ fn admit(
     (Some(job), state)
 }
 
-/// The request of a line after others by what the line requests, and how far it is, where lists may have so many more numbers.
+/// The request of a line after others by what the line requests, and its state, where lists may have `left` more numbers.
 fn begin(
     alloc: Global,
     before: &[Request],

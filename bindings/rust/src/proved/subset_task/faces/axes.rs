@@ -98,8 +98,8 @@ pub fn report_axes<L: Write>(
     }
 }
 
-/// Reads the font from the reader, and writes the axes of a face. The bytes that were read are kept. Room for so many of
-/// them is taken at once.
+/// Reads the font from the reader, and writes the axes of a face. The bytes that were read are kept. Memory for `room` bytes
+/// is reserved at once.
 pub fn carry_axes<R: Read, L: Write>(
     alloc: Global,
     index: u32,

@@ -138,7 +138,7 @@ pub fn face_settings(
     }
 }
 
-/// Adds the name of the instance of a record, if it has one, after a text, and answers whether it has one.
+/// Adds the name of the instance of a record, if it has one, after a text, and returns whether it has one.
 fn push_name(
     text: &mut Vec<u8>,
     alloc: Global,

@@ -50,7 +50,7 @@ impl Picked {
 
 // ---- by number
 
-/// So many glyphs, from 0 on.
+/// The glyphs 0 to `count` - 1.
 pub fn first_glyphs(alloc: Global, count: u16) -> Result<Vec<u16>, AllocError> {
     let mut glyphs = Vec::new(alloc);
     for glyph in 0..count {

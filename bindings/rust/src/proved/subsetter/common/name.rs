@@ -39,7 +39,7 @@ fn is_kept(one: &NameRecord) -> bool {
 /// How many strings are looked through one by one.
 const LINEAR_MAX: usize = 32;
 
-/// Distinct strings, which are to stand one after another.
+/// Distinct strings, which are to be written one after another.
 struct Strings<'a> {
     strings: Vec<&'a [u8]>,
     /// The offsets of the strings after the first 32.
@@ -47,7 +47,7 @@ struct Strings<'a> {
     size: usize,
 }
 
-/// Where a string begins among some that stand one after another.
+/// Where a string begins among some that are written one after another.
 fn linear_offset(strings: &[&[u8]], string: &[u8]) -> Option<usize> {
     let mut place: usize = 0;
     for known in strings {
@@ -59,7 +59,7 @@ fn linear_offset(strings: &[&[u8]], string: &[u8]) -> Option<usize> {
     None
 }
 
-/// Keeps where a string begins that stands after so many, if these are 32 or more.
+/// Keeps where a string begins that comes after `count` others, if these are 32 or more.
 fn remember_hashed<'a>(
     hashed: &mut HashMap<Text<'a>, u16>,
     count: usize,
@@ -74,7 +74,7 @@ fn remember_hashed<'a>(
 }
 
 impl<'a> Strings<'a> {
-    /// No strings, and room for so many.
+    /// No strings, and room for `count`.
     fn with_capacity(alloc: Global, count: usize) -> Result<Self, Error> {
         Ok(Self {
             strings: Vec::with_capacity(alloc, count)?,
@@ -175,7 +175,7 @@ fn write_records(w: &mut Writer, table: &Table<'_>) -> Result<(), Error> {
     Ok(())
 }
 
-/// A table as it stands, its storage right after its records.
+/// A table as it is written: its storage comes right after its records.
 impl Writeable for Table<'_> {
     fn write(&self, w: &mut Writer) -> Result<(), Error> {
         let count = count_records(self);
@@ -208,7 +208,7 @@ impl<'a> NewNames<'a> {
     }
 }
 
-/// Writes the header of a table of so many records.
+/// Writes the header of a table with `count` records.
 fn write_header(out: &mut Vec<u8>, count: usize) {
     let [a, b] = (count as u16).to_be_bytes();
     let [c, d] = ((HEADER_SIZE + NAME_RECORD_SIZE * count) as u16).to_be_bytes();
@@ -235,7 +235,7 @@ fn collect_names<'a>(
     Ok(())
 }
 
-/// No bytes, and room for so many.
+/// No bytes, and room for `count`.
 fn no_bytes(alloc: Global, count: usize) -> Result<Writer, Error> {
     Writer::with_capacity(alloc, count)
 }

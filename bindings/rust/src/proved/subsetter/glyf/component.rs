@@ -70,7 +70,7 @@ pub fn is_composite(first: u8) -> bool {
     first >= 128
 }
 
-/// What stands after a component at the front.
+/// What comes after a component at the front.
 fn rest_after<'a>(bytes: &'a [u8], component: Component<'_>) -> &'a [u8] {
     &bytes[ARGUMENTS + component.rest.len()..]
 }

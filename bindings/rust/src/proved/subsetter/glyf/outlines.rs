@@ -24,7 +24,7 @@ use crate::rattle::alloc::Global;
 pub struct OutlineList<'a> {
     /// Whether instructions are asked for.
     hinting: bool,
-    /// The borrowed outlines; no bytes stand for the next of those that were made.
+    /// The borrowed outlines; an empty one is the place of the next of those that were made.
     kept: Vec<&'a [u8]>,
     /// How many bytes each outline that was made has. An empty one counts as made.
     sizes: Vec<usize>,
@@ -37,7 +37,7 @@ pub struct OutlineList<'a> {
 }
 
 impl<'a> OutlineList<'a> {
-    /// No outlines, and room for so many.
+    /// No outlines, and room for `count`.
     pub fn with_capacity(alloc: Global, count: usize, hinting: bool) -> Result<Self, Error> {
         Ok(Self {
             hinting,
@@ -176,7 +176,7 @@ fn write_outline(out: &mut Vec<u8>, outline: Outline<'_>, long: bool) {
     }
 }
 
-/// Writes the outlines one after another, and answers the checksum of what it wrote.
+/// Writes the outlines one after another, and returns the checksum of what it wrote.
 /// They are summed in pieces, while these are at hand.
 pub fn write_outlines(out: &mut Vec<u8>, outlines: &OutlineList<'_>, long: bool) -> u32 {
     let start = out.len();

@@ -46,7 +46,7 @@ pub fn one_byte_kind(first: u8) -> Option<Kind> {
     }
 }
 
-/// The operator of this byte takes so many operands.
+/// Whether the operator of this byte takes `count` operands.
 #[inline(always)]
 fn one_byte_accepts(first: u8, count: usize) -> bool {
     match first {
@@ -70,7 +70,7 @@ fn one_byte_accepts(first: u8, count: usize) -> bool {
     }
 }
 
-/// The operator of the mark and this byte takes so many operands.
+/// Whether the operator of the mark and this byte takes `count` operands.
 fn two_byte_accepts(second: u8, count: usize) -> bool {
     match second {
         second_byte::HFLEX => count == 7,
@@ -81,7 +81,7 @@ fn two_byte_accepts(second: u8, count: usize) -> bool {
     }
 }
 
-/// The operator takes so many operands.
+/// Whether the operator takes `count` operands.
 #[inline(always)]
 pub fn accepts(operator: Operator, count: usize) -> bool {
     match operator.0 {

@@ -61,7 +61,7 @@ impl Operands {
         self.len += 1;
     }
 
-    /// Puts the numbers of one byte each that are at the front of these bytes on the top, so many at most. It answers how many.
+    /// Pushes the one-byte numbers at the front of these bytes, at most `most` of them, and returns how many.
     #[inline(always)]
     pub fn push_all_small(&mut self, bytes: &[u8], most: usize) -> usize {
         let limit = least(bytes.len(), least(most, MAX_OPERANDS - self.len()));
@@ -91,7 +91,7 @@ impl Operands {
         self.len = 0;
     }
 
-    /// The last operands, so many defaults and their deltas, give way to as many results.
+    /// Replaces the last operands, `n` defaults and their deltas, by `n` results.
     pub fn blend<R: Regions>(
         &mut self,
         n: u16,

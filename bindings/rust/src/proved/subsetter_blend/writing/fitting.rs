@@ -132,7 +132,7 @@ fn end_point(hint: bool, old: Position, new: Position) -> Position {
 }
 
 impl Fitting {
-    /// Nothing is written yet; there is room for so many bytes.
+    /// Nothing is written yet; there is room for `room` bytes.
     pub fn with_room(alloc: Global, advance: i16, room: usize) -> Result<Self, Error> {
         Ok(Fitting {
             bytes: Vec::with_capacity(alloc, room)?,

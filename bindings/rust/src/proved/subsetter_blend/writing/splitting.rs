@@ -8,7 +8,7 @@ use crate::proved::subsetter_type2::runs::fixed_stack::FixedStack;
 /// The operands of a piece.
 pub type Part = FixedStack<i64, 48>;
 
-/// How many of so many operands the next piece takes, by an operator of one byte.
+/// How many of `count` operands the next piece takes, by an operator of one byte.
 fn one_byte_cut(first: u8, count: usize) -> usize {
     match first {
         first_byte::CURVE_TO | first_byte::CURVE_LINE => 42,
@@ -18,7 +18,7 @@ fn one_byte_cut(first: u8, count: usize) -> usize {
     }
 }
 
-/// How many of so many operands the next piece takes.
+/// How many of `count` operands the next piece takes.
 pub fn cut(operator: OperatorType, count: usize) -> usize {
     match operator {
         OperatorType::OneByteOperator(code) => match code {

@@ -44,7 +44,7 @@ pub fn parse_parts<'a>(bytes: &'a [u8], start: &'a [u8]) -> Option<Front<'a>> {
     })
 }
 
-/// What stands after the header, as far as the third byte says.
+/// What comes after the header, as far as the third byte says.
 fn past_header(bytes: &[u8]) -> Option<&[u8]> {
     let size = match bytes {
         [_, _, size, ..] => size,

@@ -41,7 +41,7 @@ fn held(parts: Option<i64>) -> Option<i64> {
     }
 }
 
-/// A default with the shares of its deltas, one for each of so many regions.
+/// A default with the shares of its deltas, one for each of `count` regions.
 fn vary(
     default: Option<i64>,
     variation: &Variation<'_>,
@@ -70,7 +70,7 @@ fn vary_each(
     }
 }
 
-/// The first n of these are defaults, which give way to their results; after them stand their deltas.
+/// The first `n` of these are defaults, which give way to their results; their deltas come after them.
 fn vary_front(
     all: &mut [Option<i64>],
     n: usize,

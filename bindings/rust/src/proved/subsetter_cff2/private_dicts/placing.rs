@@ -61,12 +61,12 @@ fn place_numbers(is_array: bool, numbers: &mut [Number], parts: &[Option<i64>]) 
     }
 }
 
-/// The first numbers of so many give way to those at the place.
+/// The first `len` numbers give way to those at the place.
 fn place_front(is_array: bool, numbers: &mut [Number], parts: &[Option<i64>], len: usize) {
     place_numbers(is_array, &mut numbers[..len], &parts[..len]);
 }
 
-/// Writes the first numbers of so many, placed, and an operator. A real that is too long is `OverflowError`.
+/// Writes the first `len` numbers, placed, and an operator. A real that is too long is `OverflowError`.
 pub fn write_front(
     is_array: bool,
     numbers: &mut [Number],

@@ -28,7 +28,7 @@ fn index_if(bytes: &[u8], offset: Option<u32>) -> Option<Index<'_>> {
     }
 }
 
-/// The local subroutines of a private dict that stands at the front of the bytes.
+/// The local subroutines of a private dict at the front of the bytes.
 fn find_subroutines<'a>(bytes: &'a [u8], dict: &[u8]) -> Option<Index<'a>> {
     let offset = optional_offset(dict, &SUBRS)?;
     index_if(bytes, offset)

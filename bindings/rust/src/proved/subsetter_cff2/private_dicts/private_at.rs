@@ -47,7 +47,7 @@ fn take_entry(
     take_operator(stack, operator, variation, w)
 }
 
-/// Writes a private dict at a location: its entries with every blend resolved. Answers the item variation data of its charstrings.
+/// Writes a private dict at a location: its entries with every blend resolved. Returns the item variation data of its charstrings.
 /// A blend or a vsindex with wrong operands, and more than 513 operands, are `MalformedFont`; a real that is too long is
 /// `OverflowError`.
 pub fn write_private_at(

@@ -71,12 +71,12 @@ fn has(range: Range, glyph: u32) -> bool {
     range.first <= glyph && glyph < range.next
 }
 
-/// Where a range stands, of ranges from a place on.
+/// Where range `i` is, of ranges from a place on.
 pub(crate) fn range_offset(at: usize, i: u32, is_wide: bool) -> usize {
     at + i as usize * (if is_wide { WIDE_RANGE_SIZE } else { RANGE_SIZE })
 }
 
-/// The font dict of the first of so many ranges that has a glyph.
+/// The font dict of the first of `count` ranges that has a glyph.
 pub(crate) fn in_ranges(
     bytes: &[u8],
     is_wide: bool,

@@ -49,7 +49,7 @@ pub fn used_dicts(alloc: Global, numbers: &[u16], bound: usize) -> Result<Vec<u1
     Ok(found)
 }
 
-/// Where a number stands first, or 0.
+/// The first place of a number, or 0.
 fn index_of(used: &[u16], number: u16) -> u8 {
     for i in 0..used.len() {
         if used[i] == number {
@@ -59,7 +59,7 @@ fn index_of(used: &[u16], number: u16) -> u8 {
     0
 }
 
-/// Where the font dict of a glyph stands, or 0 for a glyph that isn't asked for.
+/// The place of the font dict of a glyph, or 0 for a glyph that isn't asked for.
 fn index_in(used: &[u16], number: Option<u16>) -> u8 {
     match number {
         None => 0,
@@ -67,7 +67,7 @@ fn index_in(used: &[u16], number: Option<u16>) -> u8 {
     }
 }
 
-/// Where the font dict of each glyph stands, or 0 for a glyph that isn't asked for.
+/// The place of the font dict of each glyph, or 0 for a glyph that isn't asked for.
 pub fn indexes_of(alloc: Global, used: &[u16], numbers: &[Option<u16>]) -> Result<Vec<u8>, Error> {
     let mut places = Vec::with_capacity(alloc, numbers.len())?;
     for number in numbers {

@@ -27,7 +27,7 @@ impl<'a> DictionaryParser<'a> {
         }
     }
 
-    /// Goes to the next entry, and answers its operator; None where no entry can be read, and so again at each further call.
+    /// Goes to the next entry, and returns its operator; None where no entry can be read, and so again at each further call.
     pub fn parse_next(&mut self) -> Option<Operator> {
         self.operands_offset = self.offset;
         let read = next_operator(self.data, self.offset)?;
@@ -43,7 +43,7 @@ impl<'a> DictionaryParser<'a> {
         Some(entry)
     }
 
-    /// Goes to the next entry and reads its operands, as many as the buffer holds, and answers its operator; None where no
+    /// Goes to the next entry and reads its operands, as many as the buffer holds, and returns its operator; None where no
     /// entry can be read, and then none are shown.
     pub fn parse_entry(&mut self) -> Option<Operator> {
         self.operands_offset = self.offset;

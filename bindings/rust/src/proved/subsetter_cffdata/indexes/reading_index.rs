@@ -17,13 +17,13 @@ pub fn parse_index<'a, T: IndexSize>(r: &mut Reader<'a>) -> Option<Index<'a>> {
     parse_body(count, r)
 }
 
-/// The rest of an INDEX of so many entries: the size of an offset, the offsets and the data.
+/// The rest of an INDEX of `count` entries: the size of an offset, the offsets and the data.
 fn parse_body<'a>(count: u32, r: &mut Reader<'a>) -> Option<Index<'a>> {
     let size = OffsetSize::from_byte(reading::next_byte(r)?)?;
     parse_data(size, count, r)
 }
 
-/// The offsets of a size, and the data that they cut into so many entries. An INDEX whose last offset is 0 has none.
+/// The offsets of a size, and the data that they cut into `count` entries. An INDEX whose last offset is 0 has none.
 fn parse_data<'a>(size: OffsetSize, count: u32, r: &mut Reader<'a>) -> Option<Index<'a>> {
     let len = (count + 1).checked_mul(size.to_u32())?;
     let width = size.to_usize();

@@ -2,7 +2,7 @@
 //! Numbers of a DICT and of a charstring (Technical Note 5176, section 4 "DICT Data").
 //!
 //! Values are compared by `same_value`, as exact decimals, so an integer and a real of one value agree; `==` isn't
-//! given, as the kinds are kept. `combine` answers None where a power of ten doesn't fit 32 bits; its caller refuses by
+//! given, as the kinds are kept. `combine` returns None where a power of ten doesn't fit 32 bits; its caller refuses by
 //! `OverflowError`, as such a number's text is longer than 64 characters.
 
 use crate::proved::subsetter_base::error::Error;

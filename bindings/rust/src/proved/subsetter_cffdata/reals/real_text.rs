@@ -168,7 +168,7 @@ pub fn decimal_from(negative: bool, ds: &[u8], power: i32) -> RealNumber {
     plain_decimal(negative, kept.digits, power + kept.zeros as i32)
 }
 
-/// The power of ten of the last of so many digits after the point.
+/// The power of ten of the last of `count` digits after the point.
 fn last_power(exponent: i32, count: usize) -> i32 {
     exponent - count as i32
 }

@@ -67,7 +67,7 @@ impl GlyphCache {
         }
     }
 
-    /// A glyph that is kept, if it takes at most so many steps, and components may be so many levels deep at all.
+    /// A glyph that is kept, if it takes at most `steps` steps, and `depth` isn't 0.
     pub fn find(&self, depth: u8, glyph: u16, steps: u32) -> Option<&KeptGlyph> {
         let kept = self.places.get(usize::from(glyph) % SLOTS)?.as_ref()?;
         if depth > 0 && kept.glyph == glyph && kept.cost <= steps {
@@ -77,8 +77,8 @@ impl GlyphCache {
         }
     }
 
-    /// These slots with a glyph that was unfolded at a depth, if it is a simple one of few points: with so many steps before, and so many
-    /// many after. It is copied, so that no more room is held than it takes, and its lists are kept.
+    /// These slots with a glyph that was unfolded at a depth, if it is a simple one of few points: `before` and `after` are the
+    /// steps that were left. It is copied, so that no more room is held than it takes, and its lists are kept.
     pub fn with(
         self,
         alloc: Global,

@@ -182,7 +182,7 @@ fn component_at(bytes: &[u8]) -> Option<(Component, &[u8])> {
 }
 
 /// The components, one after another, and the steps that are left. Each takes a step before it is read: where none is left it is
-/// `OverflowError`, and where a component is cut `MalformedFont`. They stand in the memory of a list that is spare.
+/// `OverflowError`, and where a component is cut `MalformedFont`. They use the memory of the spare list.
 pub fn read_components(
     spare: Vec<Component>,
     bytes: &[u8],

@@ -17,7 +17,7 @@ use crate::rattle::alloc::{AllocError, Global};
 const UNIT: u64 = 1 << 30;
 /// Half of it.
 const HALF: i64 = 1 << 29;
-/// So many of it that a sum with any coordinate is above 0.
+/// As many units as make the sum with any coordinate greater than 0.
 const ABOVE_UNITS: i64 = 1 << 31;
 /// What is drawn of a glyph, in parts.
 const ABOVE: i64 = 1 << 61;
@@ -183,7 +183,7 @@ fn rounded(
     drawn_if_fit(outline, advance)
 }
 
-/// What is drawn of a glyph at a location, in so many steps, and the glyphs that are kept.
+/// What is drawn of a glyph at a location, within `steps` steps, and the glyphs that are kept.
 pub fn draw(
     alloc: Global,
     spare: &mut Spare,

@@ -59,7 +59,7 @@ impl Level {
         }
     }
 
-    /// Places component k, which unfolds to a part. Answers the steps that are left.
+    /// Places component k, which unfolds to a part. Returns the steps that are left.
     pub fn place(
         &mut self,
         alloc: Global,
@@ -78,7 +78,7 @@ impl Level {
 }
 
 impl Work {
-    /// Nothing yet, with so many steps, in the memory of lists that are spare.
+    /// Nothing yet, with `steps` steps left, in the memory of the spare lists.
     pub fn new(alloc: Global, spare: &mut Spare, steps: u32, kept: GlyphCache) -> Self {
         Work {
             level: Level::none(alloc),
@@ -89,7 +89,7 @@ impl Work {
         }
     }
 
-    /// Begins a composite glyph. Answers how many components it has.
+    /// Begins a composite glyph. Returns how many components it has.
     fn begin_composite(
         &mut self,
         alloc: Global,
@@ -104,8 +104,8 @@ impl Work {
         Ok(count)
     }
 
-    /// Begins a glyph that may have components one level less deep than this. A simple one is unfolded; of a composite one it
-    /// answers how many components are to be placed.
+    /// Begins a glyph that may have components one level less deep than this. A simple one is unfolded; for a composite one it
+    /// returns how many components are to be placed.
     pub fn begin(
         &mut self,
         alloc: Global,
@@ -132,7 +132,7 @@ impl Work {
         Ok(None)
     }
 
-    /// Places component k, whose glyph is what was unfolded last, at a depth and with so many steps before. The glyph is kept if
+    /// Places component k, whose glyph was unfolded last, at a depth and with `before` steps left before it. The glyph is kept if
     /// it is a simple one.
     pub fn place_part(
         &mut self,

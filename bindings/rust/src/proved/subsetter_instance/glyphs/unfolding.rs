@@ -46,7 +46,7 @@ pub fn counted_description<'a>(source: &Source<'a>, glyph: u16) -> Option<&'a [u
     }
 }
 
-/// Unfolds a glyph at a location. It may have components so many levels deep. What its levels hold is not on the stack, of which
+/// Unfolds a glyph at a location. Its components may be `depth` levels deep. What its levels hold is not on the stack, of which
 /// each takes little.
 fn unfold_within(
     alloc: Global,

@@ -30,7 +30,7 @@ struct NewTables {
     maxp: Vec<u8>,
 }
 
-/// Makes the tables of so many glyphs.
+/// Makes the tables of `count` glyphs.
 fn new_tables(
     alloc: Global,
     head: &[u8],

@@ -51,7 +51,7 @@ fn most_contours(drawn: &[Drawn]) -> usize {
     most
 }
 
-/// `maxp` of so many glyphs, without instructions and components.
+/// `maxp` of `count` glyphs, without instructions and components.
 pub fn maxp(alloc: Global, count: u16, drawn: &[Drawn]) -> Result<Vec<u8>, AllocError> {
     let mut maxp = Vec::with_capacity(alloc, 32)?;
     maxp.extend_from_slice(&[0, 1, 0, 0])?;

@@ -38,7 +38,7 @@ fn row_of(long: bool, offset: usize) -> [u8; 32] {
     }
 }
 
-/// Appends so many entries of one offset.
+/// Appends `count` entries of one offset.
 fn write_run(loca: &mut Vec<u8>, long: bool, offset: usize, count: usize) -> Result<(), Error> {
     let row = row_of(long, offset);
     let len = count * entry_size(long);
@@ -49,7 +49,7 @@ fn write_run(loca: &mut Vec<u8>, long: bool, offset: usize, count: usize) -> Res
     Ok(())
 }
 
-/// `loca` of so many glyphs, by where each requested one begins, and where the last one ends.
+/// `loca` of `count` glyphs, by where each requested one begins, and where the last one ends.
 pub fn loca(
     alloc: Global,
     long: bool,

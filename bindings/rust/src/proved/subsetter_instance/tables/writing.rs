@@ -63,7 +63,7 @@ fn metric_of(drawn: Option<&Drawn>) -> LongHorMetric {
     }
 }
 
-/// `hmtx`: an advance and a left side bearing for each of so many glyphs.
+/// `hmtx`: an advance and a left side bearing for each of `count` glyphs.
 pub fn hmtx(
     alloc: Global,
     mapper: &GlyphRemapper,

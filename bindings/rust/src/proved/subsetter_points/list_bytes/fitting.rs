@@ -12,7 +12,7 @@ const MOST_CONTOURS: usize = 0x7FFF;
 /// The most points of an outline (`maxPoints` of `maxp`).
 const MOST_POINTS: usize = 0xFFFF;
 
-/// Whether these are the last points of contours that have so many points in all.
+/// Whether these are the last points of contours that have `points` points in all.
 fn are_ends(ends: &[u16], points: usize) -> bool {
     let mut from = 0;
     for end in ends {

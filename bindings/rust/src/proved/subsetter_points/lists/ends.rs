@@ -19,7 +19,7 @@ fn read_end(from: u32, bytes: &[u8]) -> Option<(u16, &[u8])> {
     Some((end, rest))
 }
 
-/// The last points of so many contours, and the bytes after them.
+/// The last points of `count` contours, and the bytes after them.
 pub fn read_ends(
     alloc: Global,
     count: u16,

@@ -47,7 +47,7 @@ fn read_next(run: Run, bytes: &[u8]) -> Option<(Run, &[u8])> {
     Some((rest_of_run, bytes))
 }
 
-/// The flags of so many points, in the memory of a list that is spare, and the bytes after them.
+/// The flags of `count` points, in the memory of the spare list, and the bytes after them.
 pub fn read_flags(
     spare: Vec<u8>,
     count: usize,

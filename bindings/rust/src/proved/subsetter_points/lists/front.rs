@@ -15,7 +15,7 @@ pub fn read_word(bytes: &[u8]) -> Option<(u16, &[u8])> {
     Some((n, &bytes[2..]))
 }
 
-/// The bytes after so many, if these are there.
+/// The bytes after the first `size`, if these are there.
 pub fn read_after(bytes: &[u8], size: usize) -> Option<&[u8]> {
     bytes.get(size..)
 }

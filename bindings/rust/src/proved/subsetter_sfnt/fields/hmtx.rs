@@ -55,7 +55,7 @@ pub fn glyph_metric(hmtx: &[u8], count: u16, glyph: u16) -> Option<LongHorMetric
     }
 }
 
-/// The advance of the last of so many pairs.
+/// The advance of the last of `count` pairs.
 pub fn last_advance(hmtx: &[u8], count: u16) -> Option<u16> {
     Reader::new_at(hmtx, LONG_HOR_METRIC_SIZE * (count as usize - 1)).read::<u16>()
 }

@@ -55,7 +55,7 @@ impl Sum {
         Self { value: 0, done: 0 }
     }
 
-    /// Adds a piece of the table, if so many bytes of it are after those that were summed.
+    /// Adds a piece of the table, if that many bytes come after those that were summed.
     pub fn go_on(self, table: &[u8]) -> Self {
         if table.len() - self.done < PIECE {
             return self;

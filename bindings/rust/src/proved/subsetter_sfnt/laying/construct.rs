@@ -82,7 +82,7 @@ fn new_record<T: TableBytes>(at: u32, len: u32, sum: u32, table: &NewTable<T>) -
     ]
 }
 
-/// Writes a table, with zeros up to a multiple of four, and its record in the place of other bytes, and answers its checksum.
+/// Writes a table, with zeros up to a multiple of four, and its record in the place of other bytes, and returns its checksum.
 fn write_table<T: TableBytes>(
     out: &mut Vec<u8>,
     place: usize,
@@ -97,7 +97,7 @@ fn write_table<T: TableBytes>(
 }
 
 /// Writes tables, each with zeros up to a multiple of four, and their records in the place of other bytes, all of which are
-/// before an offset. Answers the checksum of all the tables.
+/// before an offset. Returns the checksum of all the tables.
 fn write_tables<T: TableBytes>(out: &mut Vec<u8>, start: usize, tables: &[NewTable<T>]) -> u32 {
     let mut place = TABLE_RECORDS;
     let mut at = start;
@@ -150,7 +150,7 @@ pub fn construct<T: TableBytes>(
     out
 }
 
-/// `OverflowError` where so many bytes pass a bound. No memory is taken.
+/// `OverflowError` where a size passes a bound. No memory is taken.
 fn check_bound(size: usize, bytes: Option<u32>) -> Result<(), Error> {
     match bytes {
         Some(most) if size > most as usize => Err(Error::OverflowError),

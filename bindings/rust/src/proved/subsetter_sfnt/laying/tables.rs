@@ -13,7 +13,7 @@ pub trait TableBytes: Copy {
     /// How many bytes there are; where these are 2^32 or more, some number from 2^32 on.
     fn len(&self) -> usize;
 
-    /// Writes the bytes into room that was reserved before, and answers their checksum.
+    /// Writes the bytes into room that was reserved before, and returns their checksum.
     fn write_summed(&self, out: &mut Vec<u8>) -> u32;
 }
 

@@ -34,7 +34,7 @@ fn follow<'a, const N: usize>(
     }
 }
 
-/// The flat form of a charstring after these bytes, with room for so many rests. `OverflowError` where all of these pass
+/// The flat form of a charstring after these bytes, with room for `N` rests. `OverflowError` where all of these bytes pass
 /// the bound.
 fn flatten_within<'a, const N: usize>(
     bytes: Vec<u8>,

@@ -5,7 +5,7 @@ use crate::proved::subsetter_cffdata::numerals::charstring_number::{
     read_number, CharStringNumber,
 };
 
-/// What is after so many numbers.
+/// What is after the first `count` numbers.
 #[inline(always)]
 fn skip_numbers(bytes: &[u8], count: usize) -> Option<&[u8]> {
     let mut rest = bytes;
@@ -27,7 +27,7 @@ pub struct LastNumber {
     pub before: usize,
 }
 
-/// The last of so many numbers, which are all of these bytes, and how many bytes are before it.
+/// The last of `count` numbers, which are all of these bytes, and how many bytes are before it.
 #[inline(always)]
 pub fn find_last_number(bytes: &[u8], count: usize) -> Option<LastNumber> {
     if count == 0 {

@@ -85,7 +85,7 @@ impl Output {
         Some(self.settled + last.before)
     }
 
-    /// Writes the stretch of so many tokens at most at the front of a charstring.
+    /// Writes the stretch of at most `tokens` tokens at the front of a charstring.
     #[inline(always)]
     pub fn take_stretch(
         &mut self,

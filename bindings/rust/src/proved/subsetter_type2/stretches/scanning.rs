@@ -55,7 +55,7 @@ fn longer_by_fixed(
     Some(stretch.with_number(stretch.len + 5))
 }
 
-/// One token longer, where a mask of so many bytes follows, whose length is known: it isn't the first one.
+/// One token longer, where a mask of `mask_len` bytes follows. That is 0 before the first mask, whose length isn't known yet.
 #[inline(always)]
 fn longer_by_mask(
     stretch: Stretch,
@@ -114,7 +114,7 @@ fn longer(stretch: Stretch, charstring: &[u8], most: usize, mask_len: u16) -> Op
     Some(stretch.with_token(len, first < first_byte::LEAST_NUMBER))
 }
 
-/// The longest stretch of so many tokens at most at the front of a charstring, with so many operands on the stack.
+/// The longest stretch of at most `tokens` tokens at the front of a charstring, with `count` operands on the stack.
 #[inline(always)]
 pub fn find_stretch(charstring: &[u8], tokens: u32, mask_len: u16, count: usize) -> Stretch {
     let most = charstring.len().min(tokens as usize);

@@ -27,7 +27,7 @@ fn choose(first: bool, one: usize, other: usize) -> usize {
 }
 
 impl Stretch {
-    /// Where the operands begin after this stretch, which is after so many bytes.
+    /// Where the operands begin after this stretch, which comes after `before` bytes.
     #[inline(always)]
     pub fn settled_after(&self, settled: usize, before: usize) -> usize {
         if self.settled == 0 {

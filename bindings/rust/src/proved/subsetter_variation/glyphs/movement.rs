@@ -53,7 +53,7 @@ impl<'a> Walk<'a> {
     }
 }
 
-/// The steps that are left after so many. Where there aren't as many it is `OverflowError`.
+/// The steps that are left after `n`. Where there aren't as many it is `OverflowError`.
 pub fn spent(n: usize, steps: u32) -> Result<u32, Error> {
     if n <= steps as usize {
         Ok(steps - n as u32)

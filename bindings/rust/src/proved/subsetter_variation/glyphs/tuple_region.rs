@@ -51,7 +51,7 @@ fn after_two(bytes: &[u8]) -> &[u8] {
     &bytes[2..]
 }
 
-/// The region on so many axes, with these peaks and with ends of its own or without.
+/// The region on `axes` axes, with these peaks and with ends of its own or without.
 pub(crate) fn tuple_region<'a>(
     inner: bool,
     axes: u16,

@@ -40,7 +40,7 @@ const DATA_OFFSET: usize = 2;
 const TUPLE_VARIATION_HEADERS: usize = 4;
 /// The flag of tupleVariationCount: the tuples share point numbers.
 const SHARED_POINT_NUMBERS: u16 = 0x8000;
-/// So many values are below the flags: one more than COUNT_MASK.
+/// How many values are below the flags: one more than COUNT_MASK.
 const COUNTS: u16 = 0x1000;
 
 /// The flags of tupleIndex: a peak of its own is in the header.
@@ -49,7 +49,7 @@ const EMBEDDED_PEAK_TUPLE: u16 = 0x8000;
 const INTERMEDIATE_REGION: u16 = 0x4000;
 /// The tuple has point numbers of its own.
 const PRIVATE_POINT_NUMBERS: u16 = 0x2000;
-/// So many values are below the flags: one more than TUPLE_INDEX_MASK.
+/// How many values are below the flags: one more than TUPLE_INDEX_MASK.
 const TUPLE_INDEXES: u16 = 0x1000;
 
 /// The table `gvar`.
@@ -339,7 +339,7 @@ pub(crate) fn scalar_by(listed: Option<i64>, header: &TupleHeader<'_>, at: &[i32
     }
 }
 
-/// The deltas of x and those of y, one for each of so many points, in the memory of lists that are spare.
+/// The deltas of x and those of y, one for each of `n` points, in the memory of the spare lists.
 pub fn both_deltas(
     spare_x: Vec<i16>,
     spare_y: Vec<i16>,

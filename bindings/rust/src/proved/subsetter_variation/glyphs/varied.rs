@@ -57,7 +57,7 @@ fn own_delta(deltas: &[i16], k: usize) -> Option<i16> {
     deltas.get(k).copied()
 }
 
-/// The delta of each of so many points, if there are as many.
+/// The delta of each of `n` points, if it has one.
 fn all_by_point(alloc: Global, n: usize, deltas: &[i16]) -> Result<Vec<Option<i16>>, AllocError> {
     let mut list = Vec::with_capacity(alloc, n)?;
     for k in 0..n {
@@ -94,7 +94,7 @@ fn own_points(
 }
 
 /// The points of a glyph with the deltas that a tuple gives: those that are listed for their numbers, or without numbers their own.
-/// Those that are listed stand in the memory of a list that is spare.
+/// Those that are listed use the memory of the spare list.
 fn points_of_tuple(
     alloc: Global,
     spare: Vec<Point>,
@@ -115,7 +115,7 @@ fn write_units(sums: &mut [i64], coordinates: &[i16]) {
     }
 }
 
-/// A list of so many numbers, in the memory of one that is spare.
+/// `count` zeros, in the memory of the spare list.
 fn zeros(spare: Vec<i64>, count: usize) -> Result<Vec<i64>, AllocError> {
     let mut sums = spare;
     sums.clear();

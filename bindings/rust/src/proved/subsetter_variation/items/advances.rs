@@ -37,7 +37,7 @@ const MAP_DATA_0: usize = 4;
 
 const MAP_DATA_1: usize = 6;
 
-/// How many entries a map of indexes has, and where they stand.
+/// How many entries a map of indexes has, and where they are.
 fn map_head(map: &[u8]) -> Option<(u32, usize)> {
     match Reader::new(map).read::<u8>()? {
         0 => Some((
@@ -124,7 +124,7 @@ fn advance_items(
     Ok(items)
 }
 
-/// `MalformedFont` for so many items: there is no store.
+/// `MalformedFont` for each of `count` items: there is no store.
 #[cfg(feature = "variable-fonts")]
 #[cfg(feature = "variable-fonts")]
 fn without_store(alloc: Global, count: usize) -> Result<Vec<Result<i64, Error>>, AllocError> {

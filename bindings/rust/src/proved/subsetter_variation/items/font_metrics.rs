@@ -38,7 +38,7 @@ fn has_tag(bytes: &[u8], tag: Tag) -> bool {
     Tag::new(&[bytes[0], bytes[1], bytes[2], bytes[3]]) == tag
 }
 
-/// The indexes of the first of so many value records that has a tag, if one has.
+/// The indexes of the first of `count` value records that has a tag, if one has.
 fn value_from(mvar: &[u8], count: u16, size: u16, tag: Tag) -> Option<Option<(u16, u16)>> {
     for k in 0..count {
         let bytes = Reader::new_at(mvar, VALUE_RECORDS + k as usize * size as usize)
@@ -60,7 +60,7 @@ fn value_of(mvar: &[u8], tag: Tag) -> Option<Option<(u16, u16)>> {
     value_from(mvar, count, size, tag)
 }
 
-/// A store, if its regions have so many axes.
+/// A store, if its regions have `axis_count` axes.
 fn store_for(axis_count: usize, store: Store<'_>) -> Option<Store<'_>> {
     if store.axis_count() as usize == axis_count {
         Some(store)

@@ -20,7 +20,7 @@ use crate::proved::subsetter_variation::items::layout::{
 use crate::proved::subsetter_variation::region::{times_axis_scalar, RegionAxis, ONE};
 use crate::proved::subsetter_variation::rounding::{nearest, scaled, wide_plus};
 
-/// An offset of 32 bits, unless it is 0, which stands for no table.
+/// An offset of 32 bits, unless it is 0, which means that there is no table.
 pub(crate) fn nullable_offset(bytes: &[u8], at: usize) -> Option<u32> {
     let offset = Reader::new_at(bytes, at).read::<u32>()?;
     if offset == 0 {

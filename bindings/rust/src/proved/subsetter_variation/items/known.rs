@@ -42,7 +42,7 @@ pub(crate) fn none_known() -> [Option<KnownScalar>; PLACES] {
     [None; PLACES]
 }
 
-/// So many places without scalars, one at least.
+/// `count` places without scalars, one at least.
 #[cfg(feature = "variable-fonts")]
 #[cfg(feature = "variable-fonts")]
 fn no_scalars(alloc: Global, count: usize) -> Result<Vec<Option<KnownScalar>>, AllocError> {
@@ -54,7 +54,7 @@ fn no_scalars(alloc: Global, count: usize) -> Result<Vec<Option<KnownScalar>>, A
     Ok(places)
 }
 
-/// So many places without deltas, one at least.
+/// `count` places without deltas, one at least.
 #[cfg(feature = "variable-fonts")]
 #[cfg(feature = "variable-fonts")]
 fn no_deltas(alloc: Global, count: usize) -> Result<Vec<Option<KnownDelta>>, AllocError> {

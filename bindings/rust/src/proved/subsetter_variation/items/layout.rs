@@ -31,5 +31,5 @@ pub(crate) const LONG_WORDS: u16 = 0x8000;
 pub(crate) const DELTA32_SIZE: usize = 4;
 
 pub(crate) const DELTA16_SIZE: usize = 2;
-/// The index that stands for no variation, as an outer and as an inner one.
+/// The index that means no variation, as an outer and as an inner one.
 pub(crate) const NO_VARIATION_INDEX: u32 = 0xFFFF;

@@ -48,7 +48,7 @@ pub fn find_axis(axes: &[Axis], tag: Tag) -> Option<Axis> {
     None
 }
 
-/// So many axes, of size bytes each.
+/// `count` axes, of `size` bytes each.
 fn axes_at(
     alloc: Global,
     count: u16,

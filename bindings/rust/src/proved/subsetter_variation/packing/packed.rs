@@ -16,11 +16,11 @@ use crate::rattle::mem;
 pub(crate) const DELTAS_ARE_ZERO: u8 = 0x80;
 /// Each has two bytes.
 pub(crate) const DELTAS_ARE_WORDS: u8 = 0x40;
-/// So many values are below these flags: one more than DELTA_RUN_COUNT_MASK.
+/// How many values are below these flags: one more than DELTA_RUN_COUNT_MASK.
 pub(crate) const DELTA_RUN_COUNTS: u8 = 0x40;
 /// The flag of a run of point numbers: each has two bytes.
 const POINTS_ARE_WORDS: u8 = 0x80;
-/// So many values are below this flag: one more than POINT_RUN_COUNT_MASK.
+/// How many values are below this flag: one more than POINT_RUN_COUNT_MASK.
 const POINT_RUN_COUNTS: u8 = 0x80;
 /// The flag of a count of point numbers that has two bytes.
 const COUNT_IS_WORD: u8 = 0x80;
@@ -169,7 +169,7 @@ pub fn deltas(spare: Vec<i16>, n: usize, bytes: &[u8]) -> Result<(Vec<i16>, &[u8
     Ok((list, rest))
 }
 
-/// So many numbers, which ascend and are below the limit, in the memory of a list that is spare, and the bytes after them.
+/// `count` numbers, which ascend and are below the limit, in the memory of the spare list, and the bytes after them.
 fn points_from(
     spare: Vec<u32>,
     limit: u32,

@@ -76,7 +76,7 @@ fn write_refused<W: Write>(
     write_if_any(b"reason: ", reason, out)
 }
 
-/// Writes what `subset` answers for every glyph.
+/// Writes what `subset` returns for every glyph: that it accepts it, or why it refuses.
 fn write_refusal<W: Write>(
     refusal: Option<&[u8]>,
     reason: Option<&[u8]>,

@@ -53,7 +53,7 @@ impl fmt::Display for ForbiddenText {
     }
 }
 
-/// That a glyph needs more than so many tokens, or such a depth.
+/// That a glyph needs more tokens or more depth than this.
 #[derive(Clone, Copy)]
 struct LimitsText(u32, u8);
 

@@ -33,7 +33,7 @@ fn past_name(bytes: &[u8], at: usize) -> usize {
     }
 }
 
-/// The place after so many names from a place on.
+/// The place after `count` names from a place on.
 fn pass(bytes: &[u8], start: usize, count: usize) -> usize {
     let mut at = start;
     for _ in 0..count {
@@ -42,7 +42,7 @@ fn pass(bytes: &[u8], start: usize, count: usize) -> usize {
     at
 }
 
-/// How many bytes so many of eight names have, where the eight have this length, so that one look at each length byte finds it out.
+/// How many bytes the first `count` of eight names have, where all eight have this length: one look at each length byte tells.
 fn alike_len(bytes: &[u8], count: usize, len: u8) -> Option<usize> {
     let step = usize::from(len) + 1;
     if bytes.len() < 8 * step {
@@ -71,7 +71,7 @@ fn length_byte(bytes: &[u8], at: usize) -> u8 {
     }
 }
 
-/// The place after so many names from a place on, found soon where eight names are alike.
+/// The place after `count` names from a place on, found fast where eight names have one length.
 fn skip(bytes: &[u8], at: usize, count: usize) -> usize {
     if count == 0 {
         return at;
@@ -143,7 +143,7 @@ fn mark_in(marks: &[u32], place: usize) -> Option<usize> {
     Some(*mark as usize)
 }
 
-/// So many names from a number on, each after its length byte, where every offset is kept and all are there.
+/// `count` names from a number on, each after its length byte, where every offset is kept and all are there.
 fn run_in<'a>(
     all: &'a [u8],
     marks: &[u32],
@@ -170,7 +170,7 @@ struct Mark<'a> {
     count: usize,
 }
 
-/// Names by their numbers. They stand one after another, so the places of some are kept.
+/// Names by their numbers. They are written one after another, so the places of some are kept.
 pub(crate) struct NameList<'a> {
     all: &'a [u8],
     /// Where every name begins, or else every eighth, up to some number.
@@ -229,7 +229,7 @@ impl<'a> NameList<'a> {
         first_entry(&bytes[at..])
     }
 
-    /// So many names from a number on, each after its length byte, where every offset is kept and all are there.
+    /// `count` names from a number on, each after its length byte, where every offset is kept and all are there.
     pub(crate) fn entries(&self, from: usize, count: usize) -> Option<&'a [u8]> {
         run_in(self.all, &self.marks, self.is_dense, from, count)
     }

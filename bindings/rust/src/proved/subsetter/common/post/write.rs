@@ -66,14 +66,14 @@ fn write_indexes(w: &mut Writer, indexes: &[u16]) -> Result<(), Error> {
     Ok(())
 }
 
-/// Names that follow one another: so many from a number on.
+/// Names that follow one another: `count` names from a number on.
 #[derive(Clone, Copy)]
 struct Run {
     from: usize,
     count: usize,
 }
 
-/// Writes so many names from a number on, one after another, an empty one where none is there.
+/// Writes `count` names from a number on, one after another, an empty one where none is there.
 fn write_each(
     w: &mut Writer,
     names: &NameList<'_>,

@@ -5,14 +5,14 @@ use crate::proved::subsetter_cff::read::entries::operators::same_operator;
 use crate::proved::subsetter_cffdata::dicts::dict::DictionaryParser;
 use crate::proved::subsetter_cffdata::dicts::operator::Operator;
 
-/// Shows the operands of the entry that the parser stands at, where it is wanted.
+/// Shows the operands of the entry that the parser is at, where it is wanted.
 fn show_wanted(parser: &mut DictionaryParser<'_>, is_wanted: bool, is_shown: &mut bool) {
     if is_wanted {
         *is_shown = parser.parse_operands().is_some();
     }
 }
 
-/// Goes on to the end, and answers whether an entry of the operator was met. The parser then shows the operands of the last one.
+/// Goes on to the end, and returns whether an entry of the operator was met. The parser then shows the operands of the last one.
 pub fn show_last(parser: &mut DictionaryParser<'_>, operator: &Operator) -> bool {
     let mut is_shown = false;
     while let Some(next) = parser.parse_next() {

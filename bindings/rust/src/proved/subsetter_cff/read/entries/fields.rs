@@ -65,7 +65,7 @@ pub fn field_of(operator: &Operator) -> Field {
     }
 }
 
-/// Takes the value of an entry in place of that of an earlier one, and answers whether its operands are as a top dict demands.
+/// Takes the value of an entry in place of that of an earlier one, and returns whether its operands are as a top dict demands.
 pub fn take_field(field: Field, operands: &[Number], said: &mut TopDictData) -> bool {
     match field {
         Field::Notice => {

@@ -76,7 +76,7 @@ fn entry_cell<S: Search>(
     }
 }
 
-/// The cell of the place where so many bytes are left, by those after it. An operand is put into a variable of its own.
+/// The cell of the place where `at` bytes are left, by those after it. An operand is put into a variable of its own.
 fn next_cell<S: Search>(
     search: &S,
     bytes: &[u8],
@@ -131,7 +131,7 @@ fn first_entries<S: Search>(alloc: Global, bytes: &[u8], search: &S) -> Result<V
     Ok(cells)
 }
 
-/// The cells of a table whose dicts have together so many bytes; none where the dicts are soon read, each from its start.
+/// The cells of a table whose dicts have `total` bytes together; none where the dicts are soon read, each from its start.
 pub fn cells_for_dicts<S: Search>(
     alloc: Global,
     bytes: &[u8],

@@ -35,7 +35,7 @@ pub struct TopDictData {
     pub private: Option<Range<usize>>,
 }
 
-/// Takes what an entry says, in place of what an earlier one of its operator said, and answers whether it meets all demands.
+/// Takes what an entry says, in place of what an earlier one of its operator said, and returns whether it meets all demands.
 fn take_entry(
     demands: Demands,
     operator: &Operator,

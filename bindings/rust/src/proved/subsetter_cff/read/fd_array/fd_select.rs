@@ -37,7 +37,7 @@ const FORMAT_0: u8 = 0;
 /// The format of ranges.
 const FORMAT_3: u8 = 3;
 
-/// Reads an FDSelect for so many glyphs; None where its format is missing or unknown, or a format 0 is cut.
+/// Reads an FDSelect for `glyphs` glyphs; None where its format is missing or unknown, or a format 0 is cut.
 pub fn parse_fd_select(glyphs: u32, bytes: &[u8]) -> Option<FDSelect<'_>> {
     let mut r = Reader::new(bytes);
     match reading::next_byte(&mut r)? {

@@ -58,7 +58,7 @@ pub fn private_bytes(dict: &[u8]) -> usize {
     bytes
 }
 
-/// Whether the entry that the parser stands at leads to a private dict, where it is a Private entry.
+/// Whether the entry that the parser is at leads to a private dict, where it is a Private entry.
 fn leads_here(
     offsets: &SubrOffsets<'_>,
     operator: &Operator,

@@ -71,7 +71,7 @@ impl<'a> SubrOffsets<'a> {
         }
     }
 
-    /// Of a table whose dicts have together so many bytes.
+    /// Of a table whose dicts have `bytes` bytes together.
     pub fn for_dicts(alloc: Global, table: &'a [u8], bytes: usize) -> Result<Self, Error> {
         let cells = cells_for_dicts(alloc, table, &SubrSearch, bytes)?;
         Ok(SubrOffsets { table, cells })

@@ -9,7 +9,7 @@ const FORMAT_0: u8 = 0;
 /// One of ranges: the first number, and how many follow it, two bytes each.
 const FORMAT_2: u8 = 2;
 
-/// Writes the charset of so many glyphs: each but glyph 0 has its own number as CID.
+/// Writes the charset of `count` glyphs: each but glyph 0 has its own number as CID.
 pub fn rewrite_charset(count: u16, w: &mut Writer) -> Result<(), Error> {
     if count < 2 {
         return w.extend(&[FORMAT_0]);
@@ -18,7 +18,7 @@ pub fn rewrite_charset(count: u16, w: &mut Writer) -> Result<(), Error> {
     w.extend(&[FORMAT_2, 0, 1, left[0], left[1]])
 }
 
-/// How many bytes the charset of so many glyphs has.
+/// How many bytes the charset of `count` glyphs has.
 pub fn charset_size(count: u16) -> usize {
     if count < 2 {
         1

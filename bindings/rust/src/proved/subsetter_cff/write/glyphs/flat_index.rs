@@ -13,7 +13,7 @@ fn put_ends(size: u8, ends: &[usize], w: &mut Writer) -> Result<(), Error> {
     Ok(())
 }
 
-/// So many bytes of data are too many: the offset after them has 32 bits.
+/// From this size on, data is too long: the offset after it has 32 bits.
 const MAX_DATA: usize = 4294967295;
 
 /// The length of data together with one. Data of 4 GiB is `OverflowError`. It takes no memory.
@@ -35,7 +35,7 @@ pub fn write_flat_header(size_of_data: usize, ends: &[usize], w: &mut Writer) ->
     put_ends(size_of_offset(total), ends, w)
 }
 
-/// How many bytes are at most before the data of an INDEX of so many items.
+/// The most bytes that can come before the data of an INDEX with `count` items.
 pub fn header_room(size_of_data: usize, count: u16) -> usize {
     let width = match total_of(size_of_data) {
         Ok(total) => usize::from(size_of_offset(total)),

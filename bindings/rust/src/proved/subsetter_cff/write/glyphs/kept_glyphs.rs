@@ -117,7 +117,7 @@ fn room_under(most: usize) -> usize {
     room
 }
 
-/// Room for the charstrings of so many glyphs to begin with, in bytes.
+/// Room for the charstrings of `count` glyphs to begin with, in bytes.
 fn first_room(count: usize, bound: Option<u32>) -> usize {
     match bound {
         Some(most) => room_under(most as usize),

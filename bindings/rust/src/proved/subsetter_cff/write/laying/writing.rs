@@ -60,7 +60,7 @@ fn write_pieces(
     })
 }
 
-/// Where the pieces stand after a front of a size.
+/// Where the pieces begin after a front of a size.
 fn find_offsets(size: usize, pieces: &Pieces) -> Result<Offsets, Error> {
     let privates = offset_after(size, pieces.charset)?;
     let select = offset_after(privates, pieces.privates.len())?;
@@ -74,7 +74,7 @@ fn find_offsets(size: usize, pieces: &Pieces) -> Result<Offsets, Error> {
     })
 }
 
-/// What stands before the charstrings' INDEX, by the draft of its front. Room is taken for that INDEX's offsets too.
+/// What comes before the charstrings' INDEX, by the draft of its front. Room is taken for that INDEX's offsets too.
 fn write_laid(
     alloc: Global,
     table: &TableParts<'_>,

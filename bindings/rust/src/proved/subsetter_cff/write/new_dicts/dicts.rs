@@ -52,7 +52,7 @@ fn write_private(dict: &FontDictParts<'_>, w: &mut Writer) -> Result<(), Error> 
     rewrite_private_dict(w, dict.private)
 }
 
-/// A font dict whose private dict of a size stands at a place. A real that is too long is `OverflowError`.
+/// A font dict whose private dict of a size is at a place. A real that is too long is `OverflowError`.
 fn font_dict_text(
     alloc: Global,
     remapper: &SidRemapper<'_>,
@@ -71,7 +71,7 @@ fn font_dict_text(
     Ok(w.finish())
 }
 
-/// Puts a font dict after others, whose private dicts stand from a place on.
+/// Puts a font dict after others, whose private dicts begin at `place`.
 fn put_dict(
     alloc: Global,
     made: &mut WrittenDicts,
@@ -107,7 +107,7 @@ pub fn write_dicts(
 }
 
 /// Whether the private dicts are longer than a bound on bytes. They are written, one after the other, until they are; a real
-/// that is too long ends that, and is told where the table is written.
+/// that is too long ends that, and is reported where the table is written.
 fn privates_pass(alloc: Global, dicts: &[FontDictParts<'_>], most: u32) -> Result<bool, Error> {
     let mut w = Writer::with_capacity(alloc, PRIVATES_ROOM)?;
     for dict in dicts {

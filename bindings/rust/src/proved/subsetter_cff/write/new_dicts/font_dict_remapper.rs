@@ -35,7 +35,7 @@ fn mark_used(numbers: &[u8]) -> [bool; 256] {
     used
 }
 
-/// From where on none of these numbers stands.
+/// The end of these numbers: all of them are below it.
 fn end_of(numbers: &[u8]) -> usize {
     let mut end = 0;
     for number in numbers {
@@ -63,7 +63,7 @@ fn marked_numbers(alloc: Global, used: &[bool], end: usize) -> Result<Vec<u8>, E
     Ok(places)
 }
 
-/// Where each number stands first.
+/// The first place of each number.
 fn indexes_of(numbers: &[u8]) -> [Option<u8>; 256] {
     let mut places = [None; 256];
     for i in (0..numbers.len()).rev() {
@@ -101,7 +101,7 @@ impl FontDictRemapper {
     }
 }
 
-/// The new number of a font dict, by where each of the used ones stands.
+/// The new number of a font dict, by the place of each of the used ones.
 fn new_number(indexes: &[Option<u8>; 256], _used: &[u8], number: u8) -> u8 {
     indexes[number as usize].unwrap_or(0)
 }

@@ -18,7 +18,7 @@ fn is_subroutines(operator: &Operator) -> bool {
     same_operator(operator, &SUBRS)
 }
 
-/// What follows the entries in front that stand as they are written and don't lead to subroutines.
+/// What follows the entries in front that are copied as they are written and don't lead to subroutines.
 fn skip_plain(bytes: &[u8]) -> &[u8] {
     let mut rest = bytes;
     while let Some(entry) = plain_entry(rest) {
@@ -50,7 +50,7 @@ fn bytes_from(bytes: &[u8], at: usize) -> &[u8] {
     reading::tail(&Reader::new_at(bytes, at))
 }
 
-/// Writes an entry of many operands, unless it leads to subroutines, and answers what follows it; None where no entry can be
+/// Writes an entry of many operands, unless it leads to subroutines, and returns what follows it; None where no entry can be
 /// read. A real that is too long is `OverflowError`.
 #[inline(never)]
 fn write_long_entry<'a>(w: &mut Writer, bytes: &'a [u8]) -> Result<Option<&'a [u8]>, Error> {
@@ -66,7 +66,7 @@ fn write_long_entry<'a>(w: &mut Writer, bytes: &'a [u8]) -> Result<Option<&'a [u
     Ok(Some(bytes_from(bytes, parser.next_offset())))
 }
 
-/// Writes an entry by its numbers, unless it leads to subroutines, and answers what follows it; None where no entry can be
+/// Writes an entry by its numbers, unless it leads to subroutines, and returns what follows it; None where no entry can be
 /// read. A real that is too long is `OverflowError`. Nearly every entry with a real has one operand.
 fn write_entry<'a>(w: &mut Writer, bytes: &'a [u8]) -> Result<Option<&'a [u8]>, Error> {
     let mut operands = [Number::zero(); 2];
@@ -84,7 +84,7 @@ fn write_entry<'a>(w: &mut Writer, bytes: &'a [u8]) -> Result<Option<&'a [u8]>, 
     Ok(Some(bytes_from(bytes, parser.next_offset())))
 }
 
-/// Writes entries that stand as they are written at once, then one by its numbers, and answers what follows them; None where
+/// Copies the entries that stay as they are written at once, writes one more by its numbers, and returns what follows; None where
 /// no further entry can be read. A real that is too long is `OverflowError`.
 fn write_run<'a>(w: &mut Writer, bytes: &'a [u8]) -> Result<Option<&'a [u8]>, Error> {
     let rest = skip_plain(bytes);

@@ -17,7 +17,7 @@ pub struct SidRemapper<'a> {
     known: Vec<(u16, u16)>,
 }
 
-/// Where a string stands first.
+/// The first place of a string.
 fn index_of(strings: &[&[u8]], string: &[u8]) -> Option<usize> {
     for i in 0..strings.len() {
         if strings[i] == string {
@@ -27,7 +27,7 @@ fn index_of(strings: &[&[u8]], string: &[u8]) -> Option<usize> {
     None
 }
 
-/// The number of a string that stands at a place.
+/// The number of the string at a place.
 fn number_at(place: usize) -> StringId {
     StringId(StringId::STANDARD_STRING_LEN + place as u16)
 }
