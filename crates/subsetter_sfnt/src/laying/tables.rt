@@ -47,7 +47,6 @@ impl<'a> TableBytes for &'a [u8] {
 }
 
 /// The tables that a new font can have, whichever its kind of outlines is, each if it is there.
-#[derive(Clone, Copy)]
 pub struct FontTables<T> {
     pub cff: Option<T>,
     pub cvt: Option<T>,
@@ -90,18 +89,32 @@ pub fn in_order<T: TableBytes>(
     ensures ok { IfOk result (λ list. views T.bytes_of list.items ≡ present (rows (font_seen T.bytes_of tables))) }
     ensures err { IfErr result (λ e. e ≡ OutOfMemory) }
 {
+    let FontTables {
+        cff,
+        cvt,
+        fpgm,
+        glyf,
+        head,
+        hhea,
+        hmtx,
+        loca,
+        maxp,
+        name,
+        post,
+        prep,
+    } = tables;
     let mut list = Vec::with_capacity(alloc, 12)?;
-    push(&mut list, Tag::CFF, tables.cff);
-    push(&mut list, Tag::CVT, tables.cvt);
-    push(&mut list, Tag::FPGM, tables.fpgm);
-    push(&mut list, Tag::GLYF, tables.glyf);
-    push(&mut list, Tag::HEAD, tables.head);
-    push(&mut list, Tag::HHEA, tables.hhea);
-    push(&mut list, Tag::HMTX, tables.hmtx);
-    push(&mut list, Tag::LOCA, tables.loca);
-    push(&mut list, Tag::MAXP, tables.maxp);
-    push(&mut list, Tag::NAME, tables.name);
-    push(&mut list, Tag::POST, tables.post);
-    push(&mut list, Tag::PREP, tables.prep);
+    push(&mut list, Tag::CFF, cff);
+    push(&mut list, Tag::CVT, cvt);
+    push(&mut list, Tag::FPGM, fpgm);
+    push(&mut list, Tag::GLYF, glyf);
+    push(&mut list, Tag::HEAD, head);
+    push(&mut list, Tag::HHEA, hhea);
+    push(&mut list, Tag::HMTX, hmtx);
+    push(&mut list, Tag::LOCA, loca);
+    push(&mut list, Tag::MAXP, maxp);
+    push(&mut list, Tag::NAME, name);
+    push(&mut list, Tag::POST, post);
+    push(&mut list, Tag::PREP, prep);
     Ok(list)
 }
