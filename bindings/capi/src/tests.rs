@@ -15,7 +15,7 @@ thread_local! {
     static PANICS: Cell<bool> = const { Cell::new(false) };
 }
 
-/// Stands for a fault of the crate: each call runs it where it could panic.
+/// Acts as a fault of the crate: each call runs it where it could panic.
 pub fn panic_where_wanted() {
     if PANICS.with(Cell::get) {
         panic!("as the test wants it");
