@@ -14,7 +14,7 @@ import time
 import pytest
 from support import COMMAND, IS_CARGO, SYSTEM, USAGE, fonts, library, read, remove, run
 
-# Fonts of each kind: each by each of these requests, with names of options and their values; True stands for none.
+# Fonts of each kind: each by each of these requests, with names of options and their values; True means none.
 SOURCES = ("six", "small", "variable_named", "instances", "faces", "cff", "post_2", "fs_2", "cut_loca", "empty")
 REQUESTS = (
     {"gids": "1,2"},
@@ -353,7 +353,7 @@ class Stopped:
         return found
 
     def signs(self, count, threads):
-        """So many signs, and what further ones there are once so many threads all sleep, in the order of letters."""
+        """`count` signs, and the further ones until all threads sleep, in the order of letters."""
         found = b""
         while len(found) < count and select.select([self.said], [], [], LATE)[0]:
             found += os.read(self.said, 1)

@@ -69,7 +69,7 @@ class Users:
         return ran.stdout
 
     def builds(self, name, tables, answer=SUBSET):
-        """A program with these tables in its manifest is built without a warning, takes this crate alone, and answers the row."""
+        """A program with these tables in its manifest is built without a warning, takes this crate alone, and passes the row."""
         at = self.room / name
         write(at / "Cargo.toml", f'[package]\nname = "user"\nversion = "1.0.0"\nedition = "2021"\n\n{tables}\n')
         write(at / "src/main.rs", MAIN.replace("ANSWER", answer))

@@ -83,7 +83,7 @@ impl Sum {
         }
     }
 
-    /// The answers for a font of so many glyphs: in some faces at coordinates, and by options for the first face.
+    /// The answers for a font: in some faces at coordinates, and by options for the first face.
     fn add_answers(&mut self, data: &[u8], faces: &[u32], lists: &[Vec<u16>], choice: u64) {
         let at = [(Tag::new(b"wght"), 650.5), (Tag::new(b"slnt"), -7.25), (Tag::new(b"opsz"), 20.0)];
         for face in faces {
