@@ -141,7 +141,7 @@ def test_opened_once(fonts_room, tmp_path_factory):
         assert (found.count("six"), found.count("small"), found.count("requests")) == (1, 1, 1)
 
 
-# What a request is answered where memory is refused, beside its line.
+# The answer to a request where memory is refused, beside its line.
 NO_MEMORY = ({"status": 1, "error": "out of memory"}, *({"status": 3, "error": f"cannot {it}"} for it in ("read six", "read small", "write one", "write two", "write three")))
 
 

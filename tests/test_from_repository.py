@@ -1,7 +1,7 @@
 """The crate as programs take it: from a bare clone, by git, by path, in the place of the crate 0.2.6, and as Cargo packs it.
 
 Cargo has an empty home and no network, and a build reaches neither rt nor Python nor make. Each program subsets a font of the
-worked rows and must answer that row's bytes.
+worked rows and must give that row's bytes.
 """
 import os
 import subprocess

@@ -811,10 +811,10 @@ typedef struct subsetter_part {
  * time, and gives it back by `subsetter_free_text`. It borrows the font, which has to stay, unchanged, as long as calls take the
  * text. */
 typedef struct subsetter_text {
-    /* sizeof (subsetter_text), which the inline call writes; for another the calls answer 10. Later versions put further fields
+    /* sizeof (subsetter_text), which the inline call writes; for another the calls return 10. Later versions put further fields
      * after these, and go on to take this size. */
     uint32_t size;
-    /* unitsPerEm. 0: there is no text, and the calls answer 10; so they do where `most_parts` hasn't 16 bits. */
+    /* unitsPerEm. 0: there is no text, and the calls return 10; so they do where `most_parts` hasn't 16 bits. */
     uint32_t units_per_em;
     /* The font, which is the caller's. */
     const uint8_t *font;

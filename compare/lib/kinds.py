@@ -56,7 +56,7 @@ COLLECTIONS = {
     "TrueType, SID and CID": [(NOTO % "Ogham", 0, 0), (f"{OPENTYPE}/mplus/MplusCode60-Thin.otf", 0, 0), (CJK, 7, 60)],
     "variable and SID": [(f"{INTER}/InterDisplay-roman.var.ttf", 0, 60), (f"{TEXMF}/lm/lmmono10-regular.otf", 0, 0)],
 }
-# (a Notice that is a standard string is answered otherwise by both)
+# (a Notice that is a standard string is handled otherwise by both)
 LEAST = {name: font for name, (font, _) in made.WORKED.items()}
 LEAST["a CID-keyed font"] = made.cff_font(made.cff([b"\x0e"] * 7, dicts=made.FONT_DICTS, select=b"\0\3\0\0\0\0\7\3"))
 PACKAGES = sorted({it[1] for it in WHOLE_AND_CUT} | {"fonts-wqy-microhei", "python3-fonttools"})

@@ -508,7 +508,7 @@ static void free_all(struct all *it)
     subsetter_free_font(&it->font);
 }
 
-/* Each request for memory is refused in turn: what is answered is whole, or nothing with status 7. Where a smaller block is requested the
+/* Each request for memory is refused in turn: what is returned is whole, or nothing with status 7. Where a smaller block is requested the
  * call may go on. */
 static void refuse(const struct row *row)
 {
@@ -1204,7 +1204,7 @@ static int is_sheet(const struct shown *it, const char *line)
     return is_one;
 }
 
-/* Runs and their font, with own glyphs and without, where each request for memory is refused in turn: what is answered is whole, or nothing with
+/* Runs and their font, with own glyphs and without, where each request for memory is refused in turn: what is returned is whole, or nothing with
  * status 7, and the codes stay. */
 static void try_runs_with(const uint8_t *bytes, size_t size, uint32_t own)
 {

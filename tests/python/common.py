@@ -24,7 +24,7 @@ DROPS = {1: "hinting", 2: "names", 4: "glyph_names"}
 
 
 class Row(NamedTuple):
-    """A call, and what it has to answer: bytes, the parts of an `Embedded`, or the name and the text of an error."""
+    """A call, and what it has to return: bytes, the parts of an `Embedded`, or the name and the text of an error."""
 
     name: str
     call: str

@@ -116,7 +116,7 @@ pub unsafe extern "C" fn heap_start(at: usize) {
 }
 
 // SAFETY: a block has the size of its list, so that it serves each request of that list, and is in a list only while nobody
-// uses it. Null is answered where there is no memory.
+// uses it. Null is returned where there is no memory.
 unsafe impl GlobalAlloc for Heap {
     unsafe fn alloc(&self, layout: Layout) -> *mut u8 {
         if layout.align() > ALIGNMENT {

@@ -1,7 +1,7 @@
 //! Many answers of the crate as numbers, to be compared with those on another machine: platforms LIST
 //!
 //! LIST has a line `FACE FILE` for each font. The program prints a line for each, with five numbers: of the whole font, and of four
-//! sets of damaged copies. A number is FNV-1a of the fonts, CIDs, widths and error texts that the calls answer.
+//! sets of damaged copies. A number is FNV-1a of the fonts, CIDs, widths and error texts that the calls return.
 
 use std::{env, fs};
 use subsetter::{embed, embed_with_options, embed_with_variations, subset, subset_with_options};

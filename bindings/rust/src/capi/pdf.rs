@@ -318,7 +318,7 @@ fn parted(font: proved::PdfFont) -> Result<(FontLists, FontNumbers), Error> {
     Ok((lists, numbers))
 }
 
-/// All that a PDF has of a font. For a font that can't be opened its fault is answered, whatever memory there is.
+/// All that a PDF has of a font. For a font that can't be opened its fault is returned, whatever memory there is.
 ///
 /// # Errors
 ///
