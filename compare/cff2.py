@@ -14,7 +14,7 @@ have some). Each is taken at the default and at N places, for N glyphs (0: all; 
                   hhea are those of the outlines (fontTools' ControlBoundsPen); else head is the source's, and hhea and post are what MVAR makes
                   of theirs; FreeType hints each glyph, where it does so of the source
 
-N copies of the fonts of at most 1 MB are damaged in CFF2, fvar, avar or HVAR, each at a random place and for 12 glyphs: the program has to answer what
+N copies of the fonts of at most 1 MB are damaged in CFF2, fvar, avar or HVAR, each at a random place and for 12 glyphs: the program has to give what
 HarfBuzz draws of the copy (or, where that goes on otherwise, the second reading; or else a font that FreeType opens as little as the copy), or to refuse it
 with status 1 and one of its messages, within a second. A glyph that is refused is a difference, but where its advance is above 32,767.
 """

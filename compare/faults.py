@@ -7,7 +7,7 @@ file. (tests/test_files.py has standard streams, links, owners, rights and limit
     calls     each call gives each of its usual errors (also those of a quota, of a disk that is full or read-only, and of a signal),
               and each such call from there on; a write takes no byte
     signals   at each call the program gets a signal: OUT is as it was or whole, and so it is after another run; not in the short form
-    disk      OUT is on a disk of so many pages, or of so many files, and on one that may be read alone (mounted in a namespace)
+    disk      OUT is on a disk of few pages, or of few files, and on one that is read-only (mounted in a namespace)
 
 --only takes what has this word in its name, as `calls:OUT-over-a-file`. Quotas can't be set everywhere: EDQUOT is injected.
 """
@@ -65,7 +65,7 @@ class Base:
         """What is done to a call, in the words of strace."""
         call = self.got.steps[at].call
         what = {"signal": f"signal={signal.Signals(number).name if how == 'signal' else ''}", "nothing": "retval=0"}.get(how, f"error={errno.errorcode.get(number)}")
-        # (Linux answers a refused brk by an end of the heap that is too low, and by no error)
+        # (Linux refuses brk by an end of the heap that is too low, and by no error)
         what = "retval=0" if call == "brk" and how != "signal" else what
         return f"{call}:{what}:when={[it.call for it in self.got.steps[:at + 1]].count(call)}{'+' * (how == 'errors')}"
 
@@ -198,7 +198,7 @@ PARTS = {"disk": (check_disk, lambda way: way.name in ON_DISK), "signals": (chec
 def task(program, part, way):
     """A part of the work with a way, in a folder of its own."""
     report = reports.Report(f"{part}:{way.name}")
-    # (a signal that is ignored here, as behind a shell's `&`, would be ignored by the program, too)
+    # (a signal that is ignored here, as by a shell's `&`, would be ignored by the program, too)
     for it in (signal.SIGINT, signal.SIGHUP, signal.SIGQUIT):
         signal.signal(it, signal.SIG_DFL)
     with tempfile.TemporaryDirectory(prefix="faults-") as top:

@@ -27,7 +27,7 @@ BOUND = {"tree of subroutines", "numbers of five bytes", "masks of stems", "one 
 # ---- what fonts are made of
 
 def static(count, **tables):
-    """A TrueType font of so many glyphs, of which the first has an outline."""
+    """A TrueType font of `count` glyphs, of which the first has an outline."""
     outline = u16s(1, 0, 0, 100, 100, 2, 0) + b"\1\1\1" + u16s(0, 100, 65486, 0, 0, 100) + b"\0"
     usual = {"head": made.HEAD[:18] + u16s(1000) + made.HEAD[20:], "hhea": u32s(0x10000) + u16s(800, 65336) + bytes(26) + u16s(1),
              "maxp": u32s(0x10000) + u16s(count) + bytes(26), "hmtx": u16s(500, 0) + bytes(2 * count - 2), "glyf": outline,
@@ -41,7 +41,7 @@ def fvar(axes, instances=b"", count=0):
 
 
 def store(axes, regions):
-    """One region of so many axes, and one item of so many indexes of it."""
+    """A region of `axes` axes, and an item of `regions` indexes of it."""
     return made.store([[(0, 0, 0)] * axes], [[0] * regions], [[[0] * regions]])
 
 
@@ -79,7 +79,7 @@ def vvar(size):
 
 
 def blends(size):
-    """So many regions, and so many blends after a `vsindex`."""
+    """`size` regions, and `size` blends after a `vsindex`."""
     glyph = number(1) + made.VSINDEX + (made.called(0, 1, made.GLOBAL_CALL) * (size // 100))
     held = made.store([[(0, 0, 0)]], [[0], [0] * size])
     return font2(3, made.cff2([b"", glyph, b""], subroutines=[(number(0) + made.BLEND) * 100], variation=held))
@@ -102,7 +102,7 @@ def select3(size):
 
 
 def named(size, length=255):
-    """So many glyphs with names of their own, or of one name that all share."""
+    """`size` glyphs with names of their own, or of one name that all share."""
     own = range(size) if length else [0] * size
     return static(size, post=u32s(0x20000) + bytes(28) + u16s(size, *[258 + k for k in own]) + (b"\xff" + b"A" * 255) * (size if length else 1))
 
@@ -162,7 +162,7 @@ CALLS = [
     ("masks of stems", lambda n: tree(n, 12, b"\x8b\x8b\x01\x13\xaa\x0b"), 20, "subset 0-{last} -"), ("one outline of composites", crowd, 2000, "subset 0 -"),
 ]
 def by_library(library, path, call, size):
-    """The seconds of a call, the bytes that it answers, those that it holds, and the name of its error or `-` (lib/cost.py)."""
+    """The seconds of a call, the bytes that it returns, those that it holds, and the name of its error or `-` (lib/cost.py)."""
     call, glyphs, at = call.format(last=size - 1, size=size).split()
     env = {**os.environ, "LIBRARY": library, "LD_PRELOAD": os.path.join(build.BUILD, "refuse.so")}
     words = [sys.executable, os.path.join(build.HERE, "lib", "cost.py"), call, path, "0", glyphs, at, LIMITS]

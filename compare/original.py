@@ -59,7 +59,7 @@ def names_of(found):
 
 
 def answers_of(drivers, tasks, room):
-    """What each driver answers on each task, without its times: `ok LENGTH HASH`, or the text."""
+    """What each driver says of each task, without its times: `ok LENGTH HASH`, or the text."""
     said = {name: [re.sub(r"^ok \d+ ", "ok ", line) for line in run_list(program, tasks, room)] for name, program in drivers.items()}
     if CANARY.is_due:
         CANARY.is_due, said["crate"][0] = False, said["crate"][0] + "0"

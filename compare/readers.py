@@ -15,7 +15,7 @@ is as near as widths in whole thousandths are; and no warning comes for the subs
 Of variable fonts (Debian's Inter, those with CFF2 of lib/cff2_fonts.py, and those of FONTS) N are taken, at N places (with CFF2 at the default, too), with up
 to 24 glyphs at each, beside a font of the same outlines that is made by another way: name-keyed and without hints, by fontTools, of what HarfBuzz draws of the
 source, each coordinate rounded once, with HarfBuzz's advances. Ink lies within two pixels of ink, at 128 pixels an em. The glyphs lean by a ten
-thousandth, as Ghostscript lets FreeType hint what stands upright.
+thousandth, as Ghostscript lets FreeType hint what is upright.
 """
 import io
 import mmap
@@ -68,7 +68,7 @@ def compare(font, index, glyphs, folder, bare):
 
 
 def chosen(count):
-    """So many faces of the machine: one after another of each kind of outlines, spread over its list."""
+    """`count` faces of the machine: one after another of each kind of outlines, spread over its list."""
     kinds, taken = {"TrueType": [], "SID-keyed": [], "CID-keyed": []}, []
     for path, index in fonts.faces():
         with open(path, "rb") as file, mmap.mmap(file.fileno(), 0, access=mmap.ACCESS_READ) as data:

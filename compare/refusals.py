@@ -78,7 +78,7 @@ def with_instances(names):
 INSTANCES = with_instances(["Semi Bold", "Black"])
 WITH_CMAP = made.truetype([b"", bytes(12), bytes(11)], [("cmap", CMAP)])
 NO_INSTANCE, NAMES = b"no such instance in font\n", b"named instances: Semi Bold, Black\n"
-# The words in front of IN, and whether glyphs stand behind OUT.
+# The words in front of IN, and whether glyphs come after OUT.
 WIDE_RUNS = [["--pdf", "page", *it] for it in (["--text", "A"], ["--json", "--codes", "text", "--text", "A"], ["--vertical", "--codes", "source", "--text", "AA"])]
 
 

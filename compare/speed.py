@@ -18,7 +18,7 @@ from text import DRIVERS, Run
 
 # The parts of another program's time that the crate may take: of HarfBuzz's, and of the Rust crate's by the kind of outlines.
 HARFBUZZ, ORIGINAL = 0.60, {"glyf": 0.35, "CFF ": 0.25}
-# In a turn so many glyphs are subset at least, by 2 to 200 calls.
+# The fewest glyphs that a turn subsets, by 2 to 200 calls.
 GLYPHS = 40000
 
 

@@ -9,12 +9,12 @@ the short form.
   program of the file are read here (ISO 32000-1, 9.4.4, 9.7.4), and HarfBuzz draws the glyphs of the program and of the source.
 - Compressed, all fonts and pages with one text for each cluster have at most 1.02 of the bytes of sheets (PdfFont.sheet).
 - The reader's text is the line's: exactly (2), after marks of direction are taken out, NFC, each space of category Zs as U+0020, no blanks at the ends, and
-  no line ends in a column; or nearly (1), but for blanks and default ignorables. MuPDF and Ghostscript know no directions: of these the order in which
-  letters or clusters stand counts, too. It fails where a reader gives back less than text.tsv says, and says where it gives more.
+  no line ends in a column; or nearly (1), but for blanks and default ignorables. MuPDF and Ghostscript know no directions: of these the order of
+  letters or clusters counts, too. It fails where a reader gives back less than text.tsv says, and says where it gives more.
 
 Whole runs have the lines made by four other programs beside it (lib/writers.py), in one document each, but for those with texts of single glyphs. Nothing
 is demanded of them, but that they are there: one that isn't is left out by --skip alone.
-In text.tsv `runs` are a text, its direction, script and language each, as they stand on the line from the left; `texts` are those of single glyphs.
+In text.tsv `runs` are a text, its direction, script and language each, as they are on the line from the left; `texts` are those of single glyphs.
 """
 import concurrent.futures
 import csv
@@ -66,7 +66,7 @@ class Run:
                        for it in json.loads(said)]
 
     def clusters(self):
-        """Their texts, as they stand."""
+        """Their texts, in order."""
         begins = list(dict.fromkeys(it.cluster for it in self.glyphs))
         ends = dict(zip(sorted(begins), [*sorted(begins)[1:], len(self.text)]))
         return [self.text[it:ends[it]] for it in begins]
@@ -134,7 +134,7 @@ def packed(font, content):
 
 
 def rows_of(words):
-    """So many rows of each script."""
+    """N rows of each script."""
     with open(os.path.join(build.HERE, "text.tsv"), encoding="utf-8", newline="") as file:
         rows, count = list(csv.DictReader(file, delimiter="\t", quoting=csv.QUOTE_NONE)), {}
     for row in rows:
@@ -151,7 +151,7 @@ def moved(path, x, y, scale):
 
 
 def placed(operators, advances):
-    """Each code with how far along the pen is and how far up it stands, in thousandths; and where the pen ends."""
+    """Each code with how far along the pen is and how far up it is, in thousandths; and where the pen ends."""
     found, at, rise, is_array, tokens = [], 0, 0, False, TOKEN.findall(operators)
     for before, token in zip(["", *tokens], tokens):
         if token in ("[", "]"):

@@ -188,7 +188,7 @@ def answer_of(data, place, glyphs):
 
 
 def damage_piece(words, path, number):
-    """So many damaged copies of a font."""
+    """`PIECE` damaged copies of a font."""
     report, library, data = Report(path), build.Calls(words.library), fonts.content(path)
     rng, axes, count = random.Random(f"{words.seed} {report.label} {number}"), fonts.axes(data), fonts.count_in(data, 0)
     for k in range(PIECE):

@@ -33,7 +33,7 @@ COLUMN = 208, 184
 
 
 def shaped(font, index, text, *more):
-    """What HarfBuzz makes of a text: each glyph's number, where it stands and how far it moves on, in font units."""
+    """What HarfBuzz makes of a text: each glyph's number, where it is and how far it moves on, in font units."""
     words = ["hb-shape", f"--face-index={index}", "--output-format=json", "--no-glyph-names", *more, font, text]
     return json.loads(subprocess.run(words, capture_output=True, text=True, check=True).stdout)
 

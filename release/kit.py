@@ -59,7 +59,7 @@ class Kit:
         return said[-1]
 
     def compile(self, name, target, to):
-        """Compiles a crate for every processor of a target, over libraries that are proved, and answers the last line of that: it proves what isn't kept."""
+        """Compiles a crate for every processor of a target, over libraries that are proved, and returns the last line of that: it proves what isn't kept."""
         crate, (triple, cpu) = self.crates[name], TARGETS[target]
         if not all(it.is_built() for it in crate.below()):
             self.check(name)

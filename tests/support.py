@@ -164,7 +164,7 @@ class Row:
     line: str
     status: int = 0
     out: bytes = b""
-    # lines of standard error; behind those of a wrong argument there is one more, which isn't compared where the row doesn't have it
+    # lines of standard error; after those of a wrong argument there is one more, which isn't compared where the row doesn't have it
     err: bytes = b""
     has_more: bool = False
     out_font: str = ""

@@ -14,7 +14,7 @@ import time
 import pytest
 from support import COMMAND, IS_CARGO, SYSTEM, USAGE, fonts, library, read, remove, run
 
-# Fonts of each kind: each by each of these requests, with names of options and their values; True stands for none.
+# Fonts of each kind: each by each of these requests, with names of options and their values; True means none.
 SOURCES = ("six", "small", "variable_named", "instances", "faces", "cff", "post_2", "fs_2", "cut_loca", "empty")
 REQUESTS = (
     {"gids": "1,2"},
@@ -141,7 +141,7 @@ def test_opened_once(fonts_room, tmp_path_factory):
         assert (found.count("six"), found.count("small"), found.count("requests")) == (1, 1, 1)
 
 
-# What a request is answered where memory is refused, beside its line.
+# The answer to a request where memory is refused, beside its line.
 NO_MEMORY = ({"status": 1, "error": "out of memory"}, *({"status": 3, "error": f"cannot {it}"} for it in ("read six", "read small", "write one", "write two", "write three")))
 
 
@@ -353,7 +353,7 @@ class Stopped:
         return found
 
     def signs(self, count, threads):
-        """So many signs, and what further ones there are once so many threads all sleep, in the order of letters."""
+        """`count` signs, and the further ones until all threads sleep, in the order of letters."""
         found = b""
         while len(found) < count and select.select([self.said], [], [], LATE)[0]:
             found += os.read(self.said, 1)

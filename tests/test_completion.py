@@ -78,10 +78,10 @@ class Shell:
 
 
 def test_bash_in_a_terminal(room):
-    """A file's name with a blank is completed as one word, with a blank behind it, and a folder's name with a stroke."""
+    """A file's name with a blank is completed as one word, with a blank after it, and a folder's name with a stroke."""
     shell = Shell(room, ["bash", "--norc", "--noprofile", "-i"], HISTFILE="", PS1="next: ", INPUTRC="/dev/null")
     shell.type(f"source '{FOLDER}/subset_font.bash'; echo rea''dy\n", "ready\r\nnext: ")
-    # (what is typed behind the key shows that the completion is over, whatever it did)
+    # (what is typed after the key shows that the completion is over, whatever it did)
     shown = shell.type("subset_font --json one\t=1= ", "=1= ") + shell.type("--gids-file fol\t=2=", "=2=")
     shell.end()
     assert "one\\ font.ttf =1= " in shown and "folder/=2=" in shown

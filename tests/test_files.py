@@ -527,7 +527,7 @@ def test_refused_reason(refusing, words, said):
 
 @pytest.mark.parametrize(("words", "stdin", "out"), [*((it, b"", "out") for it in RUNS), (["-", "out", "0", "2"], BOTH, "out"), (["in", f"{DEEP}/out", "0", "2"], b"", f"{DEEP}/out")], ids=str)
 def test_little_room(refusing, room, words, stdin, out):
-    """With room for so many bytes a run is whole, or ends before OUT is touched; and no file is left beside OUT."""
+    """With any bound on memory a run is whole, or ends before OUT is touched; and no file is left beside OUT."""
     (room / out).parent.mkdir(parents=True, exist_ok=True)
     base = refusing(words, stdin, out)
     for size in range(0, 1 << 20, 360):

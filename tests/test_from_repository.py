@@ -1,7 +1,7 @@
 """The crate as programs take it: from a bare clone, by git, by path, in the place of the crate 0.2.6, and as Cargo packs it.
 
 Cargo has an empty home and no network, and a build reaches neither rt nor Python nor make. Each program subsets a font of the
-worked rows and must answer that row's bytes.
+worked rows and must give that row's bytes.
 """
 import os
 import subprocess
@@ -69,7 +69,7 @@ class Users:
         return ran.stdout
 
     def builds(self, name, tables, answer=SUBSET):
-        """A program with these tables in its manifest is built without a warning, takes this crate alone, and answers the row."""
+        """A program with these tables in its manifest is built without a warning, takes this crate alone, and passes the row."""
         at = self.room / name
         write(at / "Cargo.toml", f'[package]\nname = "user"\nversion = "1.0.0"\nedition = "2021"\n\n{tables}\n')
         write(at / "src/main.rs", MAIN.replace("ANSWER", answer))

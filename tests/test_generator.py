@@ -187,7 +187,7 @@ def test_what_is_refused_is_not_written(small):
 # ---- what it refuses
 
 IN_BODY, ABOVE, IN_TRAIT, AT_TOP, LAW = "    last = &pair.low;", "/// The last byte.", "pub trait Read {", "use std::marker::Model;", "    ensures { Law }\n{}"
-# A line, what is inserted behind it, and why that is refused.
+# A line, what is inserted after it, and why that is refused.
 REFUSED = [
     (IN_BODY, "    prove!(last == 1);", "prove! is left over"), (IN_BODY, "    ghost let x = 1;", "ghost is left over"), (IN_BODY, "    let x = ghost;", "ghost is left over"),
     (IN_BODY, "    requires { last }", "requires is left over"), (IN_BODY, "    let requires = 1;", "requires is left over"), (IN_BODY, "    let x = T::Model;", "Model is left over"),
@@ -293,7 +293,7 @@ REACHED = [
 
 
 def bare(text):
-    """A text without blanks and line ends, which rustfmt sets, and without the commas that it puts behind the last."""
+    """A text without blanks and line ends, which rustfmt sets, and without the commas that it puts after the last."""
     return re.sub(r",(?=[}\])])", "", re.sub(r"\s+", "", text))
 
 
@@ -331,7 +331,7 @@ SHAPES = set("( ) { } , = > _ : let match else mut crate proved core pub . .. fo
 
 
 def behind(found, i):
-    """The place behind the braces that open at one."""
+    """The place after the braces that open at one."""
     depth = 0
     while True:
         depth += (found[i] == "{") - (found[i] == "}")
@@ -394,7 +394,7 @@ CRATES = {path.name for path in PROVED.iterdir() if path.is_dir()}
 
 
 def test_nothing_of_the_sources_is_lost():
-    # (the impls that a derive of thiserror stands for have no source)
+    # (the impls that a derive of thiserror makes have no source)
     derived = r"\nimpl crate::rattle::fmt::Display for .*?\n}\n|\nimpl From<\w+> for \w+ {\n    fn from\(error: .*?\n}\n"
     count = 0
     for path in sorted(PROVED.rglob("*.rs")):

@@ -232,7 +232,7 @@ def test_in_that_has_no_end_is_refused(room):
 # ---- limits
 
 def cff_font(glyphs, tokens):
-    """A font of CFF outlines, each of so many tokens by subroutines."""
+    """CFF outlines of `tokens` tokens each, by subroutines."""
     from fontTools.misc.psCharStrings import T2CharString
     names = [".notdef", *(f"g{it}" for it in range(1, glyphs))]
     made = FontBuilder(1000, isTTF=False)
@@ -298,7 +298,7 @@ def with_tables(data, **new):
 
 
 def many_instances(count, records, text):
-    """A variable font of so many instances, each with the name 300, which is the last of so many records of Unicode."""
+    """A variable font of `count` instances, each with the name 300, the last of `records` records of Unicode."""
     axis = struct.pack(">4siiiHH", b"wght", 100 << 16, 400 << 16, 900 << 16, 0, 256)
     fvar = struct.pack(">HHHHHHHH", 1, 0, 16, 2, 1, 20, count, 8) + axis + struct.pack(">HHi", 300, 0, 500 << 16) * count
     heads = struct.pack(">HHHHHH", 0, 3, 0, 299, 2, 0) * (records - 1) + struct.pack(">HHHHHH", 0, 3, 0, 300, len(text), 0)

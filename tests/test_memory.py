@@ -1,4 +1,4 @@
-"""`OutOfMemory` is answered only where memory was refused.
+"""`OutOfMemory` is returned only where memory was refused.
 
 A contract can't tell a refused request from a lie: "or memory ran out" holds of both. A refused request becomes the error by `?`; each
 other place in crates/*/src whose code names the case, a batch's `NoMemory` or an allocator's refusal is listed here with its reason.

@@ -214,7 +214,7 @@ def composite(components):
 
 
 def chain(count):
-    """So many composites of one component, each of the glyph behind it, and an empty glyph behind them."""
+    """`count` composites of one component, each of the glyph after it, and an empty glyph after them."""
     return b"".join(composite([glyph + 1]) for glyph in range(count)), [*range(0, 16 * count + 1, 16), 16 * count]
 
 
@@ -270,7 +270,7 @@ LIMITS = {
     # The short format of `loca` reaches 131,070 bytes: glyph 1 has 65,535, and glyph 2 one less or as many. Only it pads them.
     "a short loca": (lambda: truetype(bytes(131069), [0, 0, 65535, 131069]), "1,2", "", {"glyf": bytes(131070), "loca": bytes.fromhex("0000 0000 8000 ffff")}),
     "a long loca": (lambda: truetype(bytes(131070), [0, 0, 65535, 131070]), "1,2", "", {"glyf": bytes(131070), "loca": bytes.fromhex("00000000 00000000 0000ffff 0001fffe")}),
-    # A new string of `name` begins at most 65,535 bytes behind the first one, and there are at most 5,460 records.
+    # A new string of `name` begins at most 65,535 bytes after the first one, and there are at most 5,460 records.
     "a string before 65535": (lambda: with_names(TWO), "", "", {"name": TWO}),
     "a string past 65535": (lambda: with_names(names(42, [(40000, 0), (40000, 40000), (39999, 0)], STORAGE)), "", NO_SUBSET, {}),
     "5,460 records": (lambda: with_names(names(0, [(1, 0)] * 5460)), "", "", {"name": names(6 + 12 * 5460, [(1, 0)] * 5460, b"\0")}),

@@ -8,7 +8,7 @@
 /* How the program ends: 0, or one of these. */
 enum { REFUSED = 1, WRONG_USAGE = 2, NO_FILE = 3 };
 
-/* A number of one or more ASCII digits that is at most `most`: what stands behind it, or null. */
+/* A number of one or more ASCII digits that is at most `most`: what is after it, or null. */
 static const char *read_number(const char *text, uint32_t most, uint32_t *number)
 {
     const char *at = text;
@@ -92,7 +92,7 @@ static int run(const char *in, const char *out, uint32_t index, const uint16_t *
         fprintf(stderr, "cannot read %s\n", in);
         return NO_FILE;
     }
-    /* All is kept: options that say otherwise would stand in the place of NULL. */
+    /* All is kept: options that say otherwise would be in place of NULL. */
     subsetter_made made;
     uint32_t status = subsetter_make_subset(font, size, index, glyphs, count, NULL, &made);
     free(font);

@@ -55,7 +55,7 @@ extern "C" {
     (SUBSETTER_VERSION_MAJOR * 0x1000000u + SUBSETTER_VERSION_MINOR * 0x10000u               \
      + SUBSETTER_VERSION_PATCH * 0x100u + SUBSETTER_VERSION_N)
 
-/* What a call answers. (The library that Cargo builds, bindings/capi, answers 4294967295, of unknown status, where its own code
+/* What a call returns. (The library that Cargo builds, bindings/capi, returns 4294967295, of unknown status, where its own code
  * fails; no font is known to cause that.) */
 enum {
     SUBSETTER_DONE = 0,
@@ -202,8 +202,8 @@ enum {
  * to 6252"; "OS/2: fsType 0x0002 forbids embedding"). It is in UTF-8, without a zero at the end, of at most 127 bytes, for people, and
  * may change. `call` is one of SUBSETTER_CALL_.. (the calls in buffers and in memory of the library are one), and the font, the
  * coordinates, the glyphs and the options are those of that call; without coordinates there are none, and of `subsetter_pdf_options`
- * it takes tokens and depth. A charstring is run within the limits, once at most, and none after the first that can't be. It is told
- * no text, and says nothing of it.
+ * it takes tokens and depth. A charstring is run within the limits, once at most, and none after the first that can't be. It gets no
+ * text, and says nothing of it.
  *
  *     status = subsetter_make_subset(data, size, 0, glyphs, count, NULL, &made);
  *     if (status != SUBSETTER_DONE) {
@@ -570,7 +570,7 @@ typedef struct subsetter_font {
  *   0: `*made` is the font.
  *   1 to 7, 10 to 12, 14: all sizes, counts and numbers of `*made` are 0 (but for `made->size`), and nothing is to be freed. First
  *   comes 10, then a text that isn't one (12), 14, what is found in opening the font, 11, a text that is too long (12), and then what
- *   `subsetter_embed_at_by_words` answers. 2 also where outlines in `glyf` have no `maxp`; 5 also for more than 65,535 pairs of a
+ *   `subsetter_embed_at_by_words` returns. 2 also where outlines in `glyf` have no `maxp`; 5 also for more than 65,535 pairs of a
  *   glyph and a text.
  * `made` is written by each call and must not be null; what it held before isn't freed. No value of the font descriptor is a
  * reason to refuse a font: where a table is missing or cut, another source of the value is taken.
@@ -811,10 +811,10 @@ typedef struct subsetter_part {
  * time, and gives it back by `subsetter_free_text`. It borrows the font, which has to stay, unchanged, as long as calls take the
  * text. */
 typedef struct subsetter_text {
-    /* sizeof (subsetter_text), which the inline call writes; for another the calls answer 10. Later versions put further fields
+    /* sizeof (subsetter_text), which the inline call writes; for another the calls return 10. Later versions put further fields
      * after these, and go on to take this size. */
     uint32_t size;
-    /* unitsPerEm. 0: there is no text, and the calls answer 10; so they do where `most_parts` hasn't 16 bits. */
+    /* unitsPerEm. 0: there is no text, and the calls return 10; so they do where `most_parts` hasn't 16 bits. */
     uint32_t units_per_em;
     /* The font, which is the caller's. */
     const uint8_t *font;
@@ -1012,7 +1012,7 @@ void subsetter_free_pdf_font(subsetter_pdf_font *made);
  * `out` is room for `out_size` bytes; the subset is mostly smaller than the font, but not always.
  *   0: `out` begins with the subset, the bytes after it are as they were, and `*length` is its size in bytes.
  *   8: `out` is too small and as it was; `*length` is the exact size in bytes. Call again with that room: the
- *      same call answers the same bytes, or 7.
+ *      same call gives the same bytes, or 7.
  *   1 to 7: `out` is as it was, and `*length` is 0.
  */
 uint32_t subsetter_subset(const uint8_t *font, size_t font_size, uint32_t index,
@@ -1102,7 +1102,7 @@ typedef struct subsetter_sizes {
  * `glyph_count` CIDs and `glyph_count` + 1 widths always suffice, so that only the font's size has to be asked.
  *   0: each buffer begins with its part, what is after it is as it was, and `*sizes` are the sizes.
  *   8: one of the buffers is too small, and all are as they were; `*sizes` are the exact sizes. Call again with that
- *      room: the same call answers the same, or 7.
+ *      room: the same call gives the same, or 7.
  *   1 to 7: the buffers are as they were, and `*sizes` are 0. 2 also where the font has no `hmtx` or no `head`, or 0 units
  *   per em.
  */
@@ -1138,7 +1138,7 @@ static inline uint32_t subsetter_embed_with_options(const uint8_t *font, size_t 
 }
 
 /* The same of a font as it is at coordinates, which are as for `subsetter_subset_at_by_words`: the font is the one that that
- * call answers, and a width is the advance that its glyph has there. The statuses are those of both calls.
+ * call gives, and a width is the advance that its glyph has there. The statuses are those of both calls.
  */
 uint32_t subsetter_embed_at_by_words(const uint8_t *font, size_t font_size, uint32_t index,
                                      const subsetter_coordinate *coordinates, size_t coordinate_count,
@@ -1171,7 +1171,7 @@ typedef struct subsetter_made {
     /* The subset, in bytes. */
     const uint8_t *font;
     size_t font_size;
-    /* The CID of each given glyph, and the width of each CID, as `subsetter_embed` answers them. */
+    /* The CID of each given glyph, and the width of each CID, as `subsetter_embed` gives them. */
     const uint16_t *cids;
     size_t cid_count;
     const uint32_t *widths;

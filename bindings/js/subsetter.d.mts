@@ -224,7 +224,7 @@ export interface Part {
 /** How the streams of parts are packed. */
 export interface Packing {
     /**
-     * Packs the bytes of a stream, as Node's `deflateSync` does. Without it nothing is packed. (A browser's `CompressionStream` answers
+     * Packs the bytes of a stream, as Node's `deflateSync` does. Without it nothing is packed. (A browser's `CompressionStream` ends
      * later: set `entries` and `stream` of each part then.)
      */
     readonly pack?: (bytes: Uint8Array) => Uint8Array;

@@ -6,7 +6,7 @@
  *     const font = subsetter.pdfFont(bytes, subsetter.glyphsOf(bytes, "Hello"));   // .objects(5), .sheet(), .codes, .widths ..
  *     const alone = subsetter.subset(bytes, [36, 68]);
  *
- * `subsetter.d.mts` says what each call takes and answers, and README.md what is proved of it and what is tested.
+ * `subsetter.d.mts` says what each call takes and returns, and README.md what is proved of it and what is tested.
  */
 
 /**
@@ -601,7 +601,7 @@ class Library {
         };
     }
 
-    /** What shows a run, by `name`: the operators, and what the text keeps then. A glyph and a unit of its text have so many bytes. */
+    /** What shows a run, by `name`: the operators, and what the text keeps then. `glyphSize` and `unitSize` are in bytes. */
     show(name, [glyphSize, unitSize], needs, kept, glyphs, text, ...choices) {
         const { lists, counted } = listsOfText(needs, kept);
         const given = (...places) => [

@@ -1,6 +1,6 @@
 //! Subsets of lists of tasks by a crate, and their times: `original_bench --list FILE`, with lines FONT INDEX GLYPHS COUNT.
 //!
-//! For each line it prints `ok LEAST LENGTH HASH` of so many calls (nanoseconds), `error` and its text, or `panic`. The font is read and the
+//! For each line it prints `ok LEAST LENGTH HASH` of COUNT calls (nanoseconds), `error` and its text, or `panic`. The font is read and the
 //! mapper made once, and the clock runs round each call of `subset` alone.
 
 use std::time::Instant;

@@ -2,8 +2,8 @@
  * LD_PRELOAD=refuse.so TOLD=FILE [REFUSE=N] [ROOM=BYTES] [SPARE=BYTES] [FAIL=WHAT:N] [INODE=N] PROGRAM WORDS.
  *
  *     REFUSE=N       the Nth request for memory is refused
- *     ROOM=BYTES     a request is refused where more than so many bytes would be held
- *     SPARE=BYTES    the same from when a file is made on, with so many bytes above what is held then
+ *     ROOM=BYTES     a request is refused where more than BYTES bytes would be held
+ *     SPARE=BYTES    the same from when a file is made on, with BYTES bytes above what is held then
  *     FAIL=WHAT:N    the Nth call of WHAT fails: write, and write1 and write2 for the standard streams
  *     INODE=N        each file has the inode number N
  *     WATCH=1        requests and blocks count that come from a part of the program's memory, which it names by `watch`
@@ -52,7 +52,7 @@ __attribute__((constructor)) static void start(void) {
 
 static int is_watched(uintptr_t at) { return is_ready && watched <= at && at < watched_end; }
 
-/* Whether a request for so many bytes is to be refused. */
+/* Whether a request for `asked` bytes is to be refused. */
 static int is_refused(size_t asked, uintptr_t at) {
     if (!is_watched(at) || is_ended) return 0;
     requests++;

@@ -1,6 +1,6 @@
 //! The operators of runs, and the objects of their font: `text FONT RUNS VERTICAL`. A line of RUNS has numbers alone: of the direction, how many
 //! characters and glyphs there are, the characters, and six for each glyph. With a further word, `text FONT RUNS VERTICAL COUNT OWN`, it prints
-//! the least nanoseconds of laying out the first run so many times, with own glyphs where OWN is 1.
+//! the least nanoseconds of laying out the first run COUNT times, with own glyphs where OWN is 1.
 
 use std::io::Write;
 use subsetter::pdf::{ClusterUnit, Direction, FontOptions, Rights, RunDirection, ShapedGlyph, Text, TextOptions};

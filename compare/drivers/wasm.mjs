@@ -1,4 +1,4 @@
-// What the WebAssembly module answers: node wasm.mjs MODULE LIST. A line of LIST is PATH, FACE and glyphs with commas between, with tabs
+// What the WebAssembly module returns: node wasm.mjs MODULE LIST. A line of LIST is PATH, FACE and glyphs with commas between, with tabs
 // between these three; for each it prints the error's name, or the font's length and its SHA-256.
 import { createHash } from "node:crypto";
 import { readFileSync } from "node:fs";

@@ -144,7 +144,7 @@ class Calls:
         self.module._loaded = self.module._declare(ctypes.CDLL(path or library()))
 
     def answer(self, call, *words, **more):
-        """What a call answers, or the name of its error; of a panic `RuntimeError`."""
+        """What a call returns, or the name of its error; of a panic `RuntimeError`."""
         try:
             return getattr(self.module, call)(*words, **more)
         except (self.module.Error, RuntimeError) as error:

@@ -25,7 +25,7 @@ GLYPHS, SECONDS = 12, 1
 SECOND = "the second reading"
 # HarfBuzz's floats have 24 bits, and a coordinate is a sum of many.
 NEAR, PART = 0.001, 2 ** -19
-# Pieces of so many copies.
+# The copies of a piece.
 PIECE = 50
 
 
@@ -162,7 +162,7 @@ def one_copy(words, report, face, data, rng, room, label):
 
 
 def piece(words, path, index, number):
-    """So many damaged copies of a face."""
+    """Damaged copies of a face."""
     face = Face(path, index)
     report, rng = Report(face.label), random.Random(f"{words.seed} {os.path.basename(path)} {index} {number}")
     data = fonts.content(path)

@@ -34,7 +34,7 @@ METRICS = {"hasc": (31, -12), "hdsc": (-17, 6), "hlgp": (5, -3), "undo": (-8, 4)
 STACK = 513
 # A number of glyphs that follow one another and have one font dict, at most.
 GROUP = 200
-# So many of the last glyphs have one row of HVAR, so that its map ends before them.
+# How many last glyphs have one row of HVAR, so that its map ends before them.
 ALIKE = 20
 SUBROUTINES, LARGE_DICT = 40, 1300
 
@@ -90,7 +90,7 @@ class Maker:
         return self.blended([self.value(most) for _ in range(2 if kind == 21 else 1)], data) + bytes([kind])
 
     def stems(self, count, data):
-        """The operands of so many stems: each edge lies above the one before."""
+        """The operands of `count` stems: each edge lies above the one before."""
         return self.blended([self.rng.randint(3, 24) for _ in range(2 * count)], data, most=2)
 
     def hints(self, data):
@@ -122,7 +122,7 @@ class Subroutines:
 
     def body(self, maker, k, data, shared):
         """`whole` has an operator with its operands, `inner` calls another one first, `blend` has the deltas of a default that is before
-        the call, and `operands` has two operands of an operator that is behind the call."""
+        the call, and `operands` has two operands of an operator that is after the call."""
         kind = maker.rng.choice(["whole", "whole", "inner", "blend", "operands"])
         regions = len(DATA[data])
         if kind == "blend":
@@ -197,7 +197,7 @@ def groups(maker, count):
 
 
 def table(rng, count, kind, large=True):
-    """The CFF2 table of so many glyphs, with FDSelect of this format."""
+    """The CFF2 table of `count` glyphs, with FDSelect of this format."""
     maker = Maker(rng)
     dicts, chosen = groups(maker, count)
     own = [k % len(DATA) for k in range(DICTS)]
@@ -256,7 +256,7 @@ def make(with_large):
 
 
 def faces(folders, only, most=2 ** 32, with_large=False):
-    """The faces with CFF2, of files of at most so many bytes; of one name the first file counts."""
+    """The faces with CFF2, of files of at most `most` bytes; of one name the first file counts."""
     make(with_large)
     paths, found = {}, []
     for folder in [FOLDER, *folders]:

@@ -97,7 +97,7 @@ def drawer():
 
 
 def blended(operands, count, regions):
-    """Takes so many blended values off a stack, each with its deltas."""
+    """Takes `count` blended values off a stack, each with its deltas."""
     base = len(operands) - count * (regions + 1)
     values, deltas = operands[base:base + count], operands[base + count:]
     del operands[base:]

@@ -212,7 +212,7 @@ def is_too_wide(face, at, glyphs):
 
 
 def compare_face(words, path, index, number, room):
-    """A face at its default (0) or at a random place, for so many glyphs (0: all, of large ones 300) in a random order."""
+    """A face at its default (0) or at a random place, for `words.glyphs` glyphs (0: all, of large ones 300), jumbled."""
     face = Face(path, index)
     report, rng, count = Report(face.label), random.Random(f"{words.seed} {os.path.basename(path)} {index} {number}"), len(face.metrics)
     place = harfbuzz.random_place(face.axes, rng) if number else []

@@ -10,7 +10,7 @@ import time
 import build
 import fonts
 
-# Items of so many glyphs, of one cluster with so many, and of a glyph with so many characters.
+# Items of n glyphs, of one cluster with n, and of a glyph with n characters.
 RUNS = {"run": lambda n: [(1, "A", 500, 0, 0, 0)] * n, "cluster": lambda n: [(1, "A", 500, 0, 0, 0)] + [(1, None, 500, 0, 0, 0)] * (n - 1), "characters": lambda n: [(1, "A" * n, 500, 0, 0, 0)]}
 
 

@@ -7,7 +7,7 @@ from fonts import directory, u16, u32
 
 # Words that are often a limit of something.
 WORDS = (0, 1, 2, 127, 128, 255, 256, 390, 391, 32767, 32768, 65535)
-# Of each of these tables so many bytes are aimed at in front, besides those of the kept glyphs.
+# Of each of these tables the first FRONT bytes are aimed at, besides those of the kept glyphs.
 READ, FRONT = {"head", "hhea", "hmtx", "maxp", "name", "post", "loca", "glyf", "cvt ", "CFF ", "CFF2", "fvar", "avar", "gvar", "HVAR", "MVAR"}, 300
 
 
@@ -71,7 +71,7 @@ def neighbour(rng, copy, first, last):
 
 
 def spots(data, index, glyphs):
-    """The parts of a face that a damage is aimed at: a name, the first byte and the one behind the last."""
+    """The parts of a face that a damage is aimed at: a name, the first byte and the one after the last."""
     at, tables = u32(data, 12 + 4 * index) if data[:4] == b"ttcf" else 0, directory(data, index)
     found = [("directory", at, at + 12 + 16 * u16(data, at + 4))] + [("collection", 8, 16)] * bool(at)
     found += [(tag, first, first + min(size, FRONT)) for tag, (first, size) in tables.items() if tag in READ]

@@ -48,7 +48,7 @@ def subset(font, index, glyphs, out, bare=False, more=()):
 
 
 def cells(count, page=PAGE):
-    """Where so many glyphs of the grid stand, in points from the page's left lower corner."""
+    """Where `count` glyphs of the grid are, in points from the page's left lower corner."""
     across = page[0] // CELL
     return [(12 + CELL * (place % across), page[1] - CELL * (place // across + 1)) for place in range(count)]
 
@@ -67,7 +67,7 @@ def line_by_widths(codes, y=500, lean=0):
 
 
 def line_of(face, glyphs):
-    """As many of the glyphs as a line holds, and where each begins behind its start, in points."""
+    """As many of the glyphs as a line holds, and where each begins after its start, in points."""
     held, places, x = [], [], 0.0
     for glyph in glyphs:
         advance = face.advance(glyph) * LINE / face.units
@@ -87,7 +87,7 @@ def write(folder, face, program, widths, contents, page=PAGE):
 
 
 def differences(ours, theirs, most, dpi=96):
-    """What the readers show otherwise of one file than of the other: ink that has no ink within so many pixels. With 0 each pixel is the same; but
+    """What the readers show otherwise of one file than of the other: ink that has no ink within `most` pixels. With 0 each pixel is the same; but
     of Ghostscript, which hints by letters that it finds by names, ink lies within two."""
     wrong = []
     for reader in READERS:

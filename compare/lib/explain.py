@@ -186,7 +186,7 @@ class Machine:
         self.need(self.stems <= STEMS_AT_MOST, "more than 65535 stems")
 
     def draw(self, first):
-        """Takes an operator that neither calls nor ends, and answers the bytes after its first one."""
+        """Takes an operator that neither calls nor ends, and returns the bytes after its first one."""
         more = int(first == 12)
         if first in (1, 3, 18, 23) or first in (19, 20) and not self.mask:
             self.count_stems()
@@ -199,7 +199,7 @@ class Machine:
         return more
 
     def go(self, code, depth):
-        """Runs a charstring or a subroutine, and answers whether the run is finished."""
+        """Runs a charstring or a subroutine, and returns whether the run is finished."""
         self.need(depth <= DEPTH_AT_MOST)
         at = 0
         while at < len(code):
@@ -265,7 +265,7 @@ def note_name(found, name):
 
 
 def note_directory(found, data, index):
-    """Notes what stands in the directory."""
+    """Notes what is in the directory."""
     at = u32(data, 12 + 4 * index) if data[:4] == b"ttcf" else 0
     tags = [data[r:r + 4] for r in range(at + 12, at + 12 + 16 * u16(data, at + 4), 16) if r + 16 <= len(data)]
     if any(one >= two for one, two in zip(tags, tags[1:])):
@@ -278,7 +278,7 @@ def note_directory(found, data, index):
 
 
 def reasons(data, index, glyphs):
-    """The intended differences that stand in a font, each with what it is seen by."""
+    """The intended differences that are in a font, each with what it is seen by."""
     def body(tag):
         start, length = directory(data, index)[tag]
         return data[start:start + length]

@@ -36,7 +36,7 @@ USUAL = {
 OTHERS = (errno.EINTR, errno.EIO, errno.ENOMEM)
 # What is said of a file that another run seems to write.
 BUSY = "resource busy\n"
-# How a run ends in which a file beside OUT can't be removed, behind what it ends with.
+# How a run ends in which a file beside OUT can't be removed, after what it ends with.
 FILE_LEFT = ", and a file beside it is left"
 # These can't fail.
 NEVER = ("exit", "exit_group", "rt_sigreturn")
@@ -63,7 +63,7 @@ class Roles:
         self.names = [it.names for it in steps]
         self.beside = next((at for at, names in enumerate(self.names) if any(BESIDE.fullmatch(it) for it in names)), len(steps))
         self.first = next((at for at in range(len(steps)) if self.role(at)[0] != "own"), len(steps))
-        # (behind the lines there is a message of no bytes)
+        # (after the lines there is a message of no bytes)
         self.last_message = max((at for at, it in enumerate(steps) if it.call == "write" and "stderr" in self.names[at]), default=0) + 1
         # by these it is known what OUT, or the PDF, is
         self.looks = {}
@@ -72,14 +72,14 @@ class Roles:
                 self.looks.setdefault(self.names[at][-1], at)
         # from this on a file that is written in place may be a part
         self.cut = next((at for at, it in enumerate(steps) if "O_TRUNC" in it.arguments and self.role(at)[0] == "write"), len(steps))
-        # behind these OUT, or the PDF, is whole
+        # after these OUT, or the PDF, is whole
         self.named = {}
         for at, it in enumerate(steps):
             if it.call in RENAMING and it.gave == 0:
                 self.named.setdefault(self.names[at][-1], at)
 
     def file(self, name):
-        """The file of a message that a name stands for: that of a second name, and the link by which it is written."""
+        """The file that a message names for a name: that of a second name, and the link by which it is written."""
         found = BESIDE.fullmatch(name)
         name = found[1] if found else name
         return next((link for link, target in self.way.links.items() if target == name), name)

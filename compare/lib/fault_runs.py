@@ -74,7 +74,7 @@ class Room:
         return {name: file_of(os.path.join(self.work, name)) for name in sorted(os.listdir(self.work))}
 
     def lay(self, way):
-        """Makes the folder what it is before a run, and answers its files."""
+        """Makes the folder what it is before a run, and returns its files."""
         for name in os.listdir(self.work):
             os.unlink(os.path.join(self.work, name))
         for name, (data, mode) in way.files.items():
@@ -166,7 +166,7 @@ MAXP = made.u32s(0x00010000) + made.u16s(3) + bytes(26)
 
 
 def font():
-    """Three glyphs with metrics and a character; the last two have so many bytes that a new font takes several pages of a disk."""
+    """Three glyphs with metrics and a character; the last two are so long that a new font takes several pages of a disk."""
     outlines = [b"", bytes(12) + b"one" * 3000, bytes(11) + b"other" * 2000]
     further = [("cmap", CMAP), *made.metrics([(500, 0), (600, 0), (700, 0)]), ("maxp", MAXP)]
     return made.truetype(outlines, further).replace(made.HEAD, HEAD)

@@ -35,7 +35,7 @@ CFF_FONTS = [
     ("fonts-noto-cjk", f"{OPENTYPE}/noto/NotoSansCJK-Regular.ttc", 0),
     ("fonts-noto-cjk", f"{OPENTYPE}/noto/NotoSerifCJK-Regular.ttc", 0),
 ]
-# The mapper holds so many glyphs.
+# As many as the mapper holds.
 GLYPHS_AT_MOST = 65535
 
 
@@ -108,7 +108,7 @@ def label(path, index):
 
 
 def spread(count, size):
-    """So many glyphs at equal distances over the whole face, in an order that is jumbled (the same in each run)."""
+    """`size` glyphs at equal distances over the whole face, in an order that is jumbled (the same in each run)."""
     glyphs = [count * k // size for k in range(size)]
     random.Random(size).shuffle(glyphs)
     return ",".join(map(str, glyphs))
@@ -125,7 +125,7 @@ def glyph_sets(count):
 
 
 def part_of(items, count):
-    """So many items, spread over all, and jumbled (the same in each run), so that the first of them are spread, too."""
+    """`count` items, spread over all, and jumbled (the same in each run), so that the first of them are spread, too."""
     taken = [items[k * len(items) // count] for k in range(count)] if len(items) > count else list(items)
     random.Random(1).shuffle(taken)
     return taken

@@ -56,17 +56,17 @@ COLLECTIONS = {
     "TrueType, SID and CID": [(NOTO % "Ogham", 0, 0), (f"{OPENTYPE}/mplus/MplusCode60-Thin.otf", 0, 0), (CJK, 7, 60)],
     "variable and SID": [(f"{INTER}/InterDisplay-roman.var.ttf", 0, 60), (f"{TEXMF}/lm/lmmono10-regular.otf", 0, 0)],
 }
-# (a Notice that is a standard string is answered otherwise by both)
+# (a Notice that is a standard string is handled otherwise by both)
 LEAST = {name: font for name, (font, _) in made.WORKED.items()}
 LEAST["a CID-keyed font"] = made.cff_font(made.cff([b"\x0e"] * 7, dicts=made.FONT_DICTS, select=b"\0\3\0\0\0\0\7\3"))
 PACKAGES = sorted({it[1] for it in WHOLE_AND_CUT} | {"fonts-wqy-microhei", "python3-fonttools"})
 DROPPED = "GSUB GPOS GDEF BASE JSTF VORG vhea vmtx DSIG EBDT EBLC EBSC FFTM STAT kern MATH".split()
-# A variable font that is larger than this is cut down too, to so many glyphs and fewer the larger it is.
+# A variable font that is larger than this is cut down too, to fewer glyphs the larger it is.
 LARGE, GLYPHS = 120000, 50000000
 
 
 def cut(path, index, count):
-    """The bytes of a font of so many glyphs, evenly chosen, and what these need."""
+    """The bytes of a font of `count` glyphs, evenly chosen, and what these need."""
     from fontTools import subset
 
     options = subset.Options(layout_features=[], notdef_outline=True, glyph_names=True, font_number=index, name_IDs=["*"],
@@ -84,7 +84,7 @@ def cut(path, index, count):
 
 
 def collection(parts):
-    """A collection of these fonts, in which tables of the same bytes stand once."""
+    """A collection of these fonts, in which tables of the same bytes are shared."""
     from fontTools.ttLib import TTCollection, TTFont
 
     file, made_of = io.BytesIO(), TTCollection()

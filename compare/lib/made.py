@@ -39,7 +39,7 @@ def composite(components):
 # ---- CFF
 
 def index(items, size=2):
-    """An INDEX, whose count has so many bytes (of CFF2 four)."""
+    """An INDEX, whose count has `size` bytes (of CFF2 four)."""
     if not items:
         return bytes(size)
     ends = [1, *accumulate(map(len, items), initial=1)][1:]
@@ -72,7 +72,7 @@ CHARSTRINGS, PRIVATE, SUBRS, ROS, FDARRAY, FDSELECT = 17, 18, 19, 1230, 1236, 12
 
 
 def private_dict(entries, subroutines, size=2):
-    """A private dict that leads to its subroutines right behind it, and its length without these."""
+    """A private dict that leads to its subroutines right after it, and its length without these."""
     if not subroutines:
         return entries, len(entries)
     length = len(entries) + 6
@@ -81,8 +81,8 @@ def private_dict(entries, subroutines, size=2):
 
 def cff(charstrings, top=b"", strings=(), subroutines=(), dicts=None, select=b"", entries=b"", local=(), times=1):
     """A CFF table. `dicts` holds private entries and local subroutines of each font dict of a CID-keyed font, `select` is
-    its FDSelect; a SID-keyed font has the one private dict of `entries` and `local`. So many `times` a font dict leads to
-    each of the private dicts."""
+    its FDSelect; a SID-keyed font has the one private dict of `entries` and `local`. Each private dict has `times` font
+    dicts that lead to it."""
     keyed = dicts is not None
     privates = [private_dict(*it) for it in (dicts if keyed else [(entries, local)])]
 
@@ -120,12 +120,12 @@ def fixed(value):
 
 
 def bias(count):
-    """What is taken from the number of a subroutine before a call, of so many."""
+    """What is taken from the number of a subroutine before a call, of `count`."""
     return 107 if count < 1240 else 1131 if count < 33900 else 32768
 
 
 def called(k, count, operator=CALL):
-    """A call of subroutine k of so many."""
+    """A call of subroutine k of `count`."""
     return number(k - bias(count)) + operator
 
 

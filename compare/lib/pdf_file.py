@@ -83,7 +83,7 @@ class Face:
         return [g for g in range(count) if entry(g) < entry(g + 1)]
 
 
-# How the font program stands in the PDF: the whole file of TrueType outlines; of CFF outlines the bare table, or the
+# How the font program is in the PDF: the whole file of TrueType outlines; of CFF outlines the bare table, or the
 # whole file.
 PROGRAMS = {"TrueType": "/FontFile2", "CIDFontType0C": "/FontFile3", "OpenType": "/FontFile3"}
 

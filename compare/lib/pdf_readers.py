@@ -127,7 +127,7 @@ def ink(it, level):
 
 
 def ink_apart(one, other, most=2):
-    """How many pixels of ink of either picture have no ink of the other within so many pixels."""
+    """How many pixels of ink of either picture have no ink of the other within `most` pixels."""
     from PIL import ImageChops, ImageFilter
 
     if one.size != other.size:

@@ -312,7 +312,7 @@ def postscript_name(source):
 
 
 def decimal(value):
-    """The shortest decimal number that rounds back to so many 65536ths."""
+    """The shortest decimal number that rounds back to `value` 65536ths."""
     for places in range(6):
         digits = round(fractions.Fraction(value * 10 ** places, 65536))
         if round(fractions.Fraction(digits * 65536, 10 ** places)) == value:

@@ -7,7 +7,7 @@ FAR, DEEPEST = 32768 * UNIT, 65
 
 
 class Fault(Exception):
-    """What stands against an instance, by the name of its error."""
+    """What speaks against an instance, by the name of its error."""
 
 
 def need(it, name="MalformedFont"):
@@ -315,7 +315,7 @@ def advance_delta(hvar, at, glyph):
 
 # ---- MVAR
 
-# Where a metric stands in its table.
+# Where a metric is in its table.
 LINES = {b"hhea": {4: b"hasc", 6: b"hdsc", 8: b"hlgp", 18: b"hcrs", 20: b"hcrn", 22: b"hcof"}, b"post": {8: b"undo", 10: b"unds"}}
 
 
@@ -477,7 +477,7 @@ class Font:
         return Unfolded(all_ends, all_points, left, right)
 
     def placed(self, part, points, before, dx, dy):
-        """The points of a component where it stands behind others."""
+        """The points of a component, placed after others."""
         flags, _, arguments, matrix = part
         if matrix:
             a, b, c, d = matrix

@@ -8,7 +8,7 @@ import time
 
 import build
 
-# So many lines of differences are printed.
+# Printed lines of differences, at most.
 LINES = 40
 
 
@@ -42,7 +42,7 @@ def words(**own):
 
 
 def beside(words, call, rows, part=1):
-    """What a call answers for each row, some of them at a time, in this part of the time that is left. The minutes begin with the first call."""
+    """What a call returns for each row, some of them at a time, in this part of the time that is left. The minutes begin with the first call."""
     words.end = words.end or time.monotonic() + 60 * words.minutes
     end = time.monotonic() + part * (words.end - time.monotonic())
     with concurrent.futures.ProcessPoolExecutor(words.jobs) as pool:

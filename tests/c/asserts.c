@@ -66,7 +66,7 @@ SIZE(subsetter_column, 12)
 FIELD(subsetter_sizes, font, 0, size_t *) FIELD(subsetter_sizes, cids, WORD, size_t *) FIELD(subsetter_sizes, widths, 2 * WORD, size_t *)
 SIZE(subsetter_sizes, 3 * WORD)
 
-/* A list: a pointer to its items, and their count behind it. */
+/* A list: a pointer to its items, and their count after it. */
 #define LIST(STRUCT, AT, NAME, ITEM, COUNT) FIELD(STRUCT, NAME, 2 * (AT) * WORD, const ITEM **) FIELD(STRUCT, COUNT, (2 * (AT) + 1) * WORD, size_t *)
 LIST(subsetter_made, 0, font, uint8_t, font_size) LIST(subsetter_made, 1, cids, uint16_t, cid_count)
 LIST(subsetter_made, 2, widths, uint32_t, width_count) SIZE(subsetter_made, 6 * WORD)
@@ -84,10 +84,10 @@ PDF_NUMBER(10, italic_angle, int32_t *) PDF_NUMBER(11, ascent, int32_t *) PDF_NU
 PDF_NUMBER(14, has_x_height, uint32_t *) PDF_NUMBER(15, x_height, int32_t *) PDF_NUMBER(16, stem_v, uint32_t *)
 PDF_NUMBER(17, font_weight, uint32_t *) PDF_NUMBER(18, usage, uint32_t *) PDF_NUMBER(19, may_subset, uint32_t *)
 PDF_NUMBER(20, may_embed_outlines, uint32_t *)
-/* (behind 21 numbers there may be room) */
+/* (after 21 numbers there may be room) */
 SIZE(subsetter_pdf_font, (22 * WORD + 4 * 21 + WORD - 1) / WORD * WORD)
 
-/* (what is behind these of later versions isn't promised) */
+/* (what is after these in later versions isn't promised) */
 enum { BEHIND = 8 + sizeof(subsetter_pdf_font) };
 FIELD(subsetter_font, size, 0, uint32_t *) FIELD(subsetter_font, units_per_em, 4, uint32_t *) FIELD(subsetter_font, pdf, 8, subsetter_pdf_font *)
 #define FONT_LIST(AT, NAME, ITEM, COUNT)                                                                          \

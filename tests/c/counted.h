@@ -96,7 +96,7 @@ void __wrap_free(void *block)
 }
 #endif
 
-/* Room for some bytes that isn't counted. (So many and no more, so that AddressSanitizer and Valgrind see a byte beside them.) */
+/* Room for `size` bytes that isn't counted. (No more, so that AddressSanitizer and Valgrind see a byte beside them.) */
 static inline void *room(size_t size)
 {
     void *block = __real_malloc(size);
@@ -105,7 +105,7 @@ static inline void *room(size_t size)
     return block;
 }
 
-/* The bytes of a file with a zero behind them, which stay. */
+/* The bytes of a file with a zero after them, which stay. */
 static inline uint8_t *content(const char *path, size_t *size)
 {
     FILE *file = fopen(path, "rb");

@@ -1,5 +1,5 @@
 /* heap.c, which takes the place of the kit's C files on another processor: what it requests of malloc, realloc and free, and what it
- * answers, also where a request is refused. */
+ * returns, also where a request is refused. */
 #include "heap.c"
 
 #include <stdint.h>
@@ -8,7 +8,7 @@
 
 _Static_assert(__alignof__(nowhere) >= 16, "the place for no memory is aligned for any item");
 
-/* A block of so many bytes; or, refused, a place that isn't null and is aligned for any item. */
+/* A block of `size` bytes; or, refused, a place that isn't null and is aligned for any item. */
 static void check_block(struct tried it, size_t size, int is_refused, const char *what)
 {
     check(it.ok == !is_refused && it.at != NULL && (uintptr_t)it.at % 16 == 0, what, "heap");

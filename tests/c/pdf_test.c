@@ -114,7 +114,7 @@ static void read_options(struct row *row, const char *words)
             *known[i].field = known[i].number;
 }
 
-/* Takes a row of a text, and answers what is behind it; null behind the last one. */
+/* Takes a row of a text, and returns what is after it; null after the last one. */
 static char *read_row(struct row *row, char *text)
 {
     memset(row, 0, sizeof *row);
@@ -263,7 +263,7 @@ static uint32_t make(const struct row *row, const subsetter_pdf_options *options
     return subsetter_make_pdf_font(FONT, PLACE, SHOWN, options, font);
 }
 
-/* (there may be room behind the last number) */
+/* (there may be room after the last number) */
 enum { NUMBERS_END = offsetof(subsetter_pdf_font, may_embed_outlines) + 4 };
 
 /* Whether a font was given back: all of it is 0. */
@@ -508,7 +508,7 @@ static void free_all(struct all *it)
     subsetter_free_font(&it->font);
 }
 
-/* Each request for memory is refused in turn: what is answered is whole, or nothing with status 7. Where a smaller block is requested the
+/* Each request for memory is refused in turn: what is returned is whole, or nothing with status 7. Where a smaller block is requested the
  * call may go on. */
 static void refuse(const struct row *row)
 {
@@ -548,7 +548,7 @@ static void refuse(const struct row *row)
 
 /* ---- damaged fonts */
 
-/* Fonts with some other bytes, or an end that is cut off: a call answers a known status, and all memory comes back. */
+/* Fonts with some other bytes, or an end that is cut off: a call gives a known status, and all memory comes back. */
 static void damage(const struct row *row, int times)
 {
     static struct row other;
@@ -769,7 +769,7 @@ static void try_lists_alone(void)
     _Static_assert(LISTS * sizeof(struct list) == offsetof(subsetter_pdf_font, kind), "these are the lists of a font");
     for (int kind = 0; kind < 3; kind++)
         for (size_t alone = 0; alone <= structs[kind].lists; alone++) {
-            /* (behind the lists are numbers) */
+            /* (after the lists are numbers) */
             union {
                 struct list lists[LISTS];
                 subsetter_pdf_font font;
@@ -819,7 +819,7 @@ static void try_empty(void)
     }
 }
 
-/* Each list in turn is none, by null and by a pointer behind all that there is. */
+/* Each list in turn is none, by null and by a pointer past all that there is. */
 static void try_nulls(const struct row *row)
 {
     static const char name[] = "no items";
@@ -1204,7 +1204,7 @@ static int is_sheet(const struct shown *it, const char *line)
     return is_one;
 }
 
-/* Runs and their font, with own glyphs and without, where each request for memory is refused in turn: what is answered is whole, or nothing with
+/* Runs and their font, with own glyphs and without, where each request for memory is refused in turn: what is returned is whole, or nothing with
  * status 7, and the codes stay. */
 static void try_runs_with(const uint8_t *bytes, size_t size, uint32_t own)
 {

@@ -4,7 +4,7 @@
  * of which no bit may be lost; and each request for memory refused in turn. --brief is for Valgrind and qemu: fonts that take long are
  * subset once. SUBSETTER_BY_CARGO is for the library of bindings/capi, which asks for memory in another way.
  *
- * Or so many damaged fonts with any glyphs, coordinates, options and buffers: test --damaged COUNT ROWS. The last line has a sum over
+ * Or COUNT damaged fonts with any glyphs, coordinates, options and buffers: test --damaged COUNT ROWS. The last line has a sum over
  * all answers: two libraries, or two processors, that print the same one gave the same answers. */
 #include "subsetter.h"
 
@@ -15,7 +15,7 @@ static int is_brief;
 /* ---- rows */
 
 enum { MOST = 1024, WORDS = 14, FILLED = 0xA5 };
-/* So many items behind each buffer are looked at. */
+/* How many items after each buffer are looked at. */
 static size_t behind = 8;
 
 struct row {
@@ -242,7 +242,7 @@ static void give_up(struct answer *a)
 /* The call for a row of these four. */
 #define OF_ROW(EMBED_AT, EMBED, SUBSET_AT, SUBSET) (row->embeds ? row->varies ? EMBED_AT : EMBED : row->varies ? SUBSET_AT : SUBSET)
 
-/* (a subset answers one size) */
+/* (a subset has one size) */
 static void ended(const struct row *row, struct answer *a, uint32_t status)
 {
     if (!row->embeds)
@@ -298,7 +298,7 @@ static int all_are_filled(const void *block, size_t from, size_t to)
     return 1;
 }
 
-/* Nothing is written behind so many items. */
+/* Nothing is written after these items. */
 static int untouched(const struct answer *a, size_t size, size_t cids, size_t widths)
 {
     return all_are_filled(a->font, size, a->room + behind) && all_are_filled(a->cids, 2 * cids, 2 * (a->cid_room + behind))
@@ -447,7 +447,7 @@ static void check_memory(const struct row *row)
 
 /* ---- options that say the same */
 
-/* Options of so many bytes, behind which there is rubbish: they are answered, or the size is unknown. */
+/* Options of `size` bytes, with rubbish after them: they are taken, or the size is unknown. */
 static void check_size(const struct row *row, uint32_t size, int is_known)
 {
     struct answer a = exact(row);
@@ -568,7 +568,7 @@ static void check_words(const struct row *row)
 
 static uint64_t sum = 14695981039346656037u;
 
-/* True in one of so many cases. */
+/* True in one of `cases` cases. */
 static int once_in(uint32_t cases)
 {
     return below(cases) == 0;
@@ -653,13 +653,13 @@ static void draw_lists(struct row *row)
     row->list = list;
 }
 
-/* Room for so many items, for fewer, or for none. */
+/* Room for `most` items, for fewer, or for none. */
 static size_t drawn_room(uint32_t most)
 {
     return once_in(6) ? 0 : once_in(6) ? below(most) : most;
 }
 
-/* A call: what it answers is what the header says for any font, and the same in memory of the library. Whether it is accepted. */
+/* A call: what it gives is what the header says for any font, and the same in memory of the library. Whether it is accepted. */
 static int is_accepted(struct row *row, const struct named_font *source)
 {
     struct answer a = {.sizes = {77, 77, 77}};

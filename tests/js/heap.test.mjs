@@ -72,7 +72,7 @@ test("what can't be had is null, and changes nothing", () => {
     }
 });
 
-/** How far apart the sizes of blocks are that may serve for so many bytes: 16 up to 64, and then a quarter of the power of two below. */
+/** How far apart the sizes of blocks are that may serve for `bytes` bytes: 16 up to 64, and then a quarter of the power of two below. */
 function stepOf(bytes) {
     let power = 64;
     while (2 * power < bytes) power *= 2;

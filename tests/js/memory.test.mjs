@@ -41,7 +41,7 @@ test("open fonts", () => {
 test("a font in the gap that another left", async () => {
     const it = await load(wasm), font = plainFont(40, 16), wanted = it.subset(font, [2, 1]), room = Math.ceil(font.length / 16) * 16 - font.length;
     for (const more of [0, room, room + 1, room + 2, room + 16, room + 17]) {
-        // (bytes behind the last table are no part of it)
+        // (bytes after the last table are no part of it)
         const longer = new Uint8Array(font.length + more).fill(255);
         longer.set(font);
         const [first, between, last] = [font, font, font].map((data) => it.open(data));
@@ -86,7 +86,7 @@ test("the memory is as large after any number of calls", async () => {
     });
 });
 
-/** What a call answers, or null where memory runs out. */
+/** What a call returns, or null where memory runs out. */
 function orNothing(call) {
     try {
         return call();

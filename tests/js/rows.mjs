@@ -1,4 +1,4 @@
-/** The worked rows, in Node and in browsers: each function answers what differs, as a list of lines. */
+/** The worked rows, in Node and in browsers: each function returns what differs, as a list of lines. */
 
 const ERRORS = [, "UnknownKind", "MalformedFont", "Unimplemented", "SubsetError", "OverflowError", "CFFError", "OutOfMemory"];
 ERRORS[14] = "BitmapsAlone";
@@ -53,7 +53,7 @@ export function readRows(table) {
     return { rows, fonts, texts };
 }
 
-/** What a call answers or throws, as text. An error is named by its class. */
+/** What a call returns or throws, as text. An error is named by its class. */
 function outcome(library, call) {
     try {
         const answer = call();

@@ -79,7 +79,7 @@ function lebAt(bytes, at) {
     }
 }
 
-/** The pages of memory that a module begins with, those that it may have, and a copy of it that gets at most so many. */
+/** The pages of memory that a module begins with, those that it may have, and a copy of it with another maximum. */
 export function memoryOf(wasm) {
     for (let at = 8; at < wasm.length; ) {
         const id = wasm[at], [size, start] = lebAt(wasm, at + 1);

@@ -1,4 +1,4 @@
-/** Uses of the package: tsc has to accept each, but for the line behind each `@ts-expect-error`, which it has to refuse. */
+/** Uses of the package: tsc has to accept each, but for the line after each `@ts-expect-error`, which it has to refuse. */
 import { load, OutOfMemory, SubsetterError, UnknownKind } from "subsetter-proved";
 import type { Advances, Column, Embedded, Font, GlyphKind, Objects, Part, PdfFont, PdfText, Run, Shown, Subsetter } from "subsetter-proved";
 

@@ -24,7 +24,7 @@ DROPS = {1: "hinting", 2: "names", 4: "glyph_names"}
 
 
 class Row(NamedTuple):
-    """A call, and what it has to answer: bytes, the parts of an `Embedded`, or the name and the text of an error."""
+    """A call, and what it has to return: bytes, the parts of an `Embedded`, or the name and the text of an error."""
 
     name: str
     call: str
@@ -119,7 +119,7 @@ def run(*words, folder=None, **env):
 
 
 def child(program, path=MODULE, folder="/", **env):
-    """What a program prints in a Python of its own, which finds programs.py, with its status behind it where that isn't 0."""
+    """What a program prints in a Python of its own, which finds programs.py, with its status after it where that isn't 0."""
     env = {"SUBSETTER_LIBRARY": os.environ["SUBSETTER_LIBRARY"], **env}
     ran = run(sys.executable, "-c", textwrap.dedent(program), folder=folder, PYTHONPATH=f"{path}:{HERE}", **env)
     return ran.stdout + (f"status {ran.returncode}" if ran.returncode else "")

@@ -147,7 +147,7 @@ def test_limits(name, value):
 @pytest.mark.parametrize("name", RANGES)
 def test_no_numbers(name):
     for call in LIMITED:
-        # (Python writes no number of so many digits)
+        # (Python writes no number this long)
         error = raised(call, TTF, **{name: 10**5000})
         assert type(error) is ValueError and alone(error) and str(error).startswith(f"{name} is ")
         for value in ("1", 1.0, b"1", [1], *([None] if name == "index" else [])):

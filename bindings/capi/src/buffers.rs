@@ -9,7 +9,7 @@ use std::{ptr, slice};
 ///
 /// # Safety
 ///
-/// So many items are at the pointer, aligned, and nobody writes them as long as they are used; or the count is 0.
+/// `count` items are at the pointer, aligned, and nobody writes them as long as they are used; or `count` is 0.
 pub unsafe fn list<'a, T>(at: *const T, count: usize) -> &'a [T] {
     if count == 0 {
         return &[];
@@ -24,12 +24,12 @@ pub struct Buffer<T> {
 }
 
 impl<T: Copy> Buffer<T> {
-    /// A buffer for so many items.
+    /// A buffer for `room` items.
     ///
     /// # Safety
     ///
-    /// There is room for so many items at the pointer, aligned, that nothing else uses as long as the buffer is used; or the
-    /// count is 0.
+    /// There is room for `room` items at the pointer, aligned, that nothing else uses as long as the buffer is used; or `room`
+    /// is 0.
     pub unsafe fn new(at: *mut T, room: usize) -> Self {
         Self { at, room }
     }

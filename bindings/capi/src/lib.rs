@@ -7,7 +7,7 @@
 //! - A list is read by its pointer and its count; with a count of 0 the pointer may be anything, null included ([`buffers`]).
 //! - Nothing is written but through [`buffers`], after the answer is whole.
 //! - All memory is C's `malloc`, so that `subsetter_free` can give it back by `free` ([`heap`]). The crate takes it by calls
-//!   that answer where memory is refused; nothing here takes memory.
+//!   that report refused memory; nothing here takes memory.
 //! - No panic reaches the caller ([`calls`]).
 
 #![warn(missing_docs)]

@@ -12,7 +12,7 @@ fn word(words: &[u32], at: usize) -> u32 {
     words.get(at).copied().unwrap_or(0)
 }
 
-/// 0 stands for the default.
+/// 0 means the default.
 fn or_default(number: u32, usual: u32) -> u32 {
     if number == 0 {
         usual

@@ -1,4 +1,4 @@
-//! Statuses: what each call answers to C.
+//! Statuses: what each call returns to C.
 
 use fonts::Error;
 

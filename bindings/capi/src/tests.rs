@@ -15,7 +15,7 @@ thread_local! {
     static PANICS: Cell<bool> = const { Cell::new(false) };
 }
 
-/// Stands for a fault of the crate: each call runs it where it could panic.
+/// Acts as a fault of the crate: each call runs it where it could panic.
 pub fn panic_where_wanted() {
     if PANICS.with(Cell::get) {
         panic!("as the test wants it");
@@ -143,7 +143,7 @@ fn no_panic_reaches_the_caller() {
     );
 }
 
-/// The font has neither metrics nor characters, so all but the calls that subset it answer 2, or 13 where a text is given, and nothing has objects.
+/// The font has neither metrics nor characters, so all but the calls that subset it return 2, or 13 where a text is given, and nothing has objects.
 #[test]
 fn lists_of_no_items_may_be_anywhere() {
     for address in [0, 1, 3, usize::MAX] {

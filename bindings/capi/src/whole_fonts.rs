@@ -33,7 +33,7 @@ pub struct FontMade {
 /// The one size that is known.
 const SIZE: u32 = size_of::<FontMade>() as u32;
 
-/// A list with room for so many.
+/// A list with room for `count`.
 fn with_room<T>(count: usize) -> Result<Vec<T>, u32> {
     let mut list = Vec::new();
     let reserved = list.try_reserve_exact(count);
@@ -113,7 +113,7 @@ impl FontMade {
 ///
 /// # Safety
 ///
-/// The size of what is made can be read, and so many bytes written.
+/// `size` of `made` can be read, and that many bytes written.
 pub unsafe fn hand_font(call: impl FnOnce() -> Result<FontMade, u32>, made: *mut FontMade) -> u32 {
     if unsafe { (*made).size } != SIZE {
         return UNKNOWN_OPTION;

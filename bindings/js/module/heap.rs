@@ -1,7 +1,7 @@
 //! The heap, of which WebAssembly has none.
 //!
 //! The memory holds, from its low end: the stack, the module's data, the open fonts and the arguments of a call (all of which
-//! the loader in `subsetter.mjs` places), and behind them this heap. The loader calls `heap_start` before each call with the
+//! the loader in `subsetter.mjs` places), and after them this heap. The loader calls `heap_start` before each call with the
 //! end of what it has placed, and the heap then forgets every block of the call before. So no call finds the memory more cut
 //! up than the first did.
 //!
@@ -35,7 +35,7 @@ static HEAP: Heap = Heap(UnsafeCell::new(Blocks::new(0)));
 // SAFETY: the module has no second thread.
 unsafe impl Sync for Heap {}
 
-/// The size of a block for so many bytes, and its list.
+/// The size of a block for `bytes` bytes, and its list.
 fn size_and_list(bytes: usize) -> (usize, usize) {
     if bytes <= 4 * ALIGNMENT {
         let units = cmp::max(1, (bytes + ALIGNMENT - 1) / ALIGNMENT);
@@ -70,7 +70,7 @@ impl Blocks {
         }
     }
 
-    /// A block for so many bytes, or null.
+    /// A block for `bytes` bytes, or null.
     ///
     /// # Safety
     ///
@@ -92,7 +92,7 @@ impl Blocks {
         }
     }
 
-    /// Takes a block of so many bytes back.
+    /// Takes a block of `bytes` bytes back.
     ///
     /// # Safety
     ///
@@ -116,7 +116,7 @@ pub unsafe extern "C" fn heap_start(at: usize) {
 }
 
 // SAFETY: a block has the size of its list, so that it serves each request of that list, and is in a list only while nobody
-// uses it. Null is answered where there is no memory.
+// uses it. Null is returned where there is no memory.
 unsafe impl GlobalAlloc for Heap {
     unsafe fn alloc(&self, layout: Layout) -> *mut u8 {
         if layout.align() > ALIGNMENT {

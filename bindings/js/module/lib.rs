@@ -1,7 +1,7 @@
 //! The WebAssembly module of `subsetter.mjs`: the calls of the crate `subsetter` (bindings/rust) on what the loader has put
 //! into the memory.
 //!
-//! What it trusts is what the loader writes: each list has so many items at its address, and nothing else uses them during the
+//! What it trusts is what the loader writes: each list has `count` items at its address, and nothing else uses them during the
 //! call. A panic ends the instance by a trap, and the loader then takes another.
 
 #![deny(unsafe_op_in_unsafe_fn)]
@@ -35,7 +35,7 @@ impl<T> List<T> {
     ///
     /// # Safety
     ///
-    /// So many items are at the address, and nobody writes them as long as they are used; or the count is 0.
+    /// `count` items are at the address, and nobody writes them as long as they are used; or `count` is 0.
     unsafe fn items(&self) -> &[T] {
         if self.count == 0 {
             return &[];
@@ -65,7 +65,7 @@ fn choices_of(tokens: u32, depth: u32, bytes: u32, drop: u32) -> Result<Choices,
     Ok(bounded.keeping(drop & 1 == 0, drop & 2 == 0, drop & 4 == 0))
 }
 
-/// What a call is given, and behind it what it hands over. The loader writes and reads it as words of 32 bits.
+/// What a call is given, and after it what it hands over. The loader writes and reads it as words of 32 bits.
 #[repr(C)]
 pub struct Call {
     font: List<u8>,
@@ -228,7 +228,7 @@ pub struct Chosen {
     depth: u32,
     bytes: u32,
     drop: u32,
-    /// The words of `subsetter_pdf_options` behind those.
+    /// The words of `subsetter_pdf_options` after those.
     further: [u32; 8],
 }
 

@@ -167,7 +167,7 @@ impl PdfFont {
 /// The objects of a font for a PDF file.
 #[derive(Debug, Clone, Eq, PartialEq, Hash)]
 pub struct Objects {
-    /// The objects, one behind the other.
+    /// The objects, one after the other.
     pub bytes: Vec<u8>,
     /// Where each begins in these bytes.
     pub offsets: Vec<usize>,

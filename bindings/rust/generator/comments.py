@@ -2,7 +2,7 @@
 import re
 import textwrap
 
-# What speaks of proofs, contracts and laws, or of what stands for the prover alone.
+# What speaks of proofs, contracts and laws, or of what is for the prover alone.
 OF_PROOFS = re.compile(
     r"\b(?:prov(?:e|es|ed|en|er|ing)|proofs?|clauses?|contracts?|laws?|ghosts?|lemmas?|tactics?|theorems?|premises?|the plain way"
     r"|the plain function|antt)\b|`(?:requires|ensures)`",

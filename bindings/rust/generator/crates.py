@@ -61,7 +61,7 @@ def load(module, path, open_file):
 
 
 def declared(module):
-    """A module and those that stand in its file."""
+    """A module and those in its file."""
     yield module
     for inner in module.inner:
         yield from declared(inner)

@@ -1,4 +1,4 @@
-"""The items of a file: functions, types, traits, impls, imports and modules, and where each stands."""
+"""The items of a file: functions, types, traits, impls, imports and modules, and where each is."""
 import re
 
 QUALIFIERS = ("const", "unsafe", "async", "extern")
@@ -9,7 +9,7 @@ FEATURES = {1: "variable-fonts", 2: "program"}
 
 
 class Item:
-    """An item and the tokens that it takes. `first` is its first token behind the comments above it."""
+    """An item and the tokens that it takes. `first` is its first token after the comments above it."""
 
     def __init__(self, file, kind, name, first, last, parent):
         self.file, self.kind, self.name, self.first, self.last, self.parent = file, kind, name, first, last, parent
@@ -22,14 +22,14 @@ class Item:
 
 
 class Name:
-    """A name that a `use` gives: the path that it stands for."""
+    """A name that a `use` gives, and its path."""
 
     def __init__(self, name, path, at, item):
         self.name, self.path, self.at, self.item, self.reached = name, path, at, item, None
 
 
 def attributes(tokens, i):
-    """The tokens where the attributes before an item begin, and the item behind them."""
+    """The tokens where the attributes before an item begin, and the item after them."""
     found = []
     while tokens.text(i) == "#":
         bracket = tokens.next(i)
@@ -69,7 +69,7 @@ def items(tokens, file, first, last, parent):
         item = one(tokens, file, i, parent)
         if item is None:
             break
-        # (what stands in thread_local! are items as those around it)
+        # (the items in thread_local! are items as those around it)
         found += item.children if item.kind == "thread_local" else [item]
         i = tokens.next(item.last)
     return found
@@ -152,7 +152,7 @@ def read_impl(tokens, item, i):
 
 
 def behind_generics(tokens, i):
-    """The token behind the <..> that begins at a token."""
+    """The token after the <..> that begins at a token."""
     depth = 0
     while True:
         depth += (tokens.text(i) == "<") - (tokens.text(i) == ">")
@@ -167,7 +167,7 @@ def path_at(tokens, i):
 
 
 def path_words(tokens, i):
-    """The words of the path at a token with their tokens, and the token behind it."""
+    """The words of the path at a token with their tokens, and the token after it."""
     words = [(tokens.text(i), i)]
     i = tokens.next(i)
     while tokens.text(i) == "::":
@@ -191,7 +191,7 @@ def read_use(tokens, file, start, i, parent):
 
 
 def read_tree(tokens, i, prefix, item):
-    """The names of a tree of imports; answers the token behind it."""
+    """The names of a tree of imports; returns the token after it."""
     path = list(prefix)
     if tokens.text(i) == "::":
         path.append("::")

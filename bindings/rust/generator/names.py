@@ -33,7 +33,7 @@ class Module:
         self.reached = None
 
     def add(self, items):
-        """Takes items up, and the modules that stand in them."""
+        """Adds items, and the modules in them."""
         for item in items:
             if item.is_test:
                 self.tests.add(item.name)
@@ -124,7 +124,7 @@ class Reach:
         return []
 
     def walk(self, module, words, passed, ended):
-        """Follows a path: `passed` is told each thing on the way, `ended` the items and what is left of the path behind them."""
+        """Follows a path: `passed` is given each thing on the way, `ended` the items and what is left of the path after them."""
         if words[0][0] in FOREIGN and words[0][0] not in module.names:
             return
         for thing in self.start(module, words):

@@ -147,7 +147,7 @@ class Source(Tokens):
         return item.is_test or item.level is None
 
     def write_use(self, item, level):
-        """The names of an import that are reached, each behind its feature."""
+        """The names of an import that are reached, each with its feature."""
         if all(name.level == level for name in item.names):
             return
         lines = []
@@ -217,7 +217,7 @@ class Source(Tokens):
                     self.written[name] = "_"
 
     def reasons(self, item):
-        """Above each statement that unwraps stands why that can't fail."""
+        """Puts above each statement that unwraps why that can't fail."""
         for i in self.code(item.body, item.last) if item.body else ():
             if self.kinds[i] != "word" or self.text(i) not in ("unwrap", "expect", "unreachable"):
                 continue
@@ -423,7 +423,7 @@ class Source(Tokens):
         return LINK.sub(unlinked, line)
 
     def prelude(self):
-        """What the stand-in's prelude has to give, each name behind the feature that all that needs it is behind."""
+        """What the stand-in's prelude has to give, each name with the feature that all its uses need."""
         levels = {}
         for i, word in enumerate(self.written):
             for name in self.needed(word):

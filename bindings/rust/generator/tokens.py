@@ -19,7 +19,7 @@ OPENING = {"{": "}", "(": ")", "[": "]"}
 CLOSING = set(OPENING.values())
 # Attributes that are read by the prover alone.
 PROVER = ("tactic", "cycle")
-# What can stand before a ghost item: the end of another one, a bracket that opens, an attribute, or its visibility.
+# What can come before a ghost item: the end of another one, a bracket that opens, an attribute, or its visibility.
 BEFORE_ITEM = {"", ";", "{", "}", ",", "]", ")", "pub"}
 
 
@@ -116,7 +116,7 @@ class Tokens:
             i = self.next(i) if end is None else self.next(end)
 
     def contract(self, i):
-        """Marks the contract that begins at a token, and answers its last token; None where there is none."""
+        """Marks the contract that begins at a token, and returns its last token; None where there is none."""
         text, after = self.text(i), self.text(self.next(i))
         if self.kinds[i] == "word" and text == "ghost":
             return self.ghost(i)

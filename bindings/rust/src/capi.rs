@@ -77,7 +77,7 @@ fn setting(it: &Coordinate) -> (proved::Tag, i32) {
     (proved::Tag::new(&it.tag.to_be_bytes()), it.value)
 }
 
-/// Coordinates as the proved calls take them. For a font that can't be opened its fault is answered, whatever memory there is.
+/// Coordinates as the proved calls take them. For a font that can't be opened its fault is returned, whatever memory there is.
 fn settings(
     data: &[u8],
     index: u32,

@@ -1,4 +1,4 @@
-//! Memory: each request of each call is refused in turn. A call that answers a `Result` then answers `OutOfMemory`, keeps
+//! Memory: each request of each call is refused in turn. A call that returns a `Result` then returns `OutOfMemory`, keeps
 //! nothing and changes nothing, or it does without the memory; a call of 0.2.6 without a `Result` ends the process.
 
 mod heap;

@@ -36,7 +36,7 @@ fn each_character_has_its_glyph() {
     assert_eq!(shown[..], wanted.map(|(glyph, text)| Shown::new(glyph, text)));
     assert_eq!(shown.missing(), [11]);
     assert_eq!(glyphs_of(&font, 0, "").unwrap().into_vec(), []);
-    // (default ignorables belong to what is before them, or else behind them; controls have no entry)
+    // (default ignorables belong to what is before them, or else after them; controls have no entry)
     let shown = glyphs_of(&font, 0, "\u{feff}A\u{ad}\u{200b}\r\n\u{200e}B\t\u{200d}").unwrap();
     assert_eq!(shown[..], [Shown::new(1, "\u{feff}A\u{ad}\u{200b}"), Shown::new(2, "\u{200e}B")]);
     assert_eq!(shown.missing(), [9, 10, 15]);
@@ -247,7 +247,7 @@ fn a_sheet_has_the_objects_of_its_font() {
     for file in [&line, &grid] {
         assert!(file.starts_with(b"%PDF-1.7\n") && position(file, &own).is_some());
         assert!(position(file, b" /Resources << /Font << /F0 5 0 R >> >> ").is_some());
-        // The second "a" has the code of "A", so that its text stands beside it.
+        // The second "a" has the code of "A", so that its text is beside it.
         assert!(position(file, b"/Span << /ActualText <FEFF0061> >> BDC\n").is_some());
     }
     let is_grid = |file: &[u8]| position(file, b"[0 0 595 842]").is_some();

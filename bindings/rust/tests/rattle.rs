@@ -1,4 +1,4 @@
-//! The stand-in for Rattle's library, by itself: what it answers, and that a refused request for memory is an error which
+//! The stand-in for Rattle's library, by itself: what it returns, and that a refused request for memory is an error which
 //! leaves a list, a text or a map as it was.
 
 #![allow(clippy::deprecated_cfg_attr)]
@@ -463,7 +463,7 @@ mod program {
         }
     }
 
-    /// What notes how many bytes are asked for at once, and gives at most so many, of so many.
+    /// Notes how many bytes are asked for at once, and gives up to .1 of these, up to .2 in all.
     struct Noted<'a>(&'a RefCell<std::vec::Vec<usize>>, usize, usize);
 
     impl Read for Noted<'_> {
@@ -570,7 +570,7 @@ mod program {
             let mut out = Steps(std::vec![Ok(3), step, step, step], std::vec![]);
             let mut writer = BufWriter::new(Global, Lent(&mut out)).unwrap();
             writer.write_all(&bytes(8190)).unwrap();
-            // Neither what doesn't fit in behind it is taken, nor what is as long as the buffer.
+            // Neither what doesn't fit in after it is taken, nor what is as long as the buffer.
             assert_eq!(writer.write(b"xyz").unwrap_err().kind(), kind);
             assert_eq!(writer.write(&bytes(9000)).unwrap_err().kind(), kind);
             assert_eq!(writer.flush().unwrap_err().kind(), kind);

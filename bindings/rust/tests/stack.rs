@@ -8,7 +8,7 @@ use made::{file, words};
 use std::thread;
 use subsetter::{subset_with_variations, Error, GlyphRemapper, Tag};
 
-/// A font of so many glyphs with an axis. Each is a composite of the next one, but for the last, which is empty.
+/// A font of `count` glyphs with an axis. Each is a composite of the next one, but for the last, which is empty.
 fn nested(count: u16) -> Vec<u8> {
     let (end, zeros) = (usize::from(count) - 1, vec![0; 2 * usize::from(count)]);
     let composites = (1..count).map(|next| words(&[0xffff, 0, 0, 0, 0, 2, next, 0]));

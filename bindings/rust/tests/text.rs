@@ -30,7 +30,7 @@ fn runs_are_shown_as_worked_by_hand() {
     let font = made("made.ttf");
     let options = TextOptions::new().own_glyphs(false);
     let mut text = Text::new(&font, 0, &[], &options).unwrap();
-    // A ligature, a pair drawn nearer by 100 (from 1841 on, not 1890), and a B whose 0.67 thousandths come behind it.
+    // A ligature, a pair drawn nearer by 100 (from 1841 on, not 1890), and a B whose 0.67 thousandths come after it.
     let line =
         [item(1, Some("A"), 1366), item(5, Some("fi"), 1139), item(1, Some("A"), 1266), item(2, Some("B"), 1366)];
     let run = text.run(&line, LeftToRight, 12_000).unwrap();

@@ -60,7 +60,7 @@ def real(line, text):
 
 def operand(line, word, labels, formats):
     """A number of a DICT: `28:` and `29:` in front are the byte of a form that isn't the shortest; with a point or `E`, or
-    behind `real:`, it is a real."""
+    after `real:`, it is a real."""
     if word.startswith("hex:"):
         return bytes.fromhex(word[4:])
     if word.startswith("real:") or REAL.fullmatch(word):
@@ -88,7 +88,7 @@ def dictionary(line, labels, formats):
 
 def charstring(line, labels, formats):
     """A line `charstring`: numbers and operators in their order. `28:` in front of a number is that form, `255:` a number of 16.16
-    bits, `mask:` the bytes behind a mask, `hex:` what is none of them."""
+    bits, `mask:` the bytes after a mask, `hex:` what is none of them."""
     made = b""
     for word in fields.repeated(line, line.words[1:]):
         front, sign, rest = word.rpartition(":")

@@ -8,7 +8,7 @@ from reading import Line
 STATUS = ["DONE", "UNKNOWN_KIND", "MALFORMED_FONT", "UNIMPLEMENTED", "SUBSET_ERROR", "OVERFLOW_ERROR", "CFF_ERROR", "OUT_OF_MEMORY",
           "BUFFER_TOO_SMALL", "NO_DEPTH", "UNKNOWN_OPTION", "NOT_PERMITTED", "INVALID_TEXT", "NO_CMAP", "BITMAPS_ALONE"]
 DROP = {"hinting": 1, "names": 2, "glyph_names": 4}
-# What a row has behind its name, each with what it is where the line doesn't give it (None: the line has to).
+# What a row has after its name, each with what it is where the line doesn't give it (None: the line has to).
 SUBSET, LIMITS, BOUND = ["font", "face", "glyphs"], ["tokens", "depth"], ["most"]
 NEW, EMBEDDED = ["status", "new"], ["status", "new", "cids", "widths"]
 ROWS = {"subset": SUBSET + NEW, "limits": SUBSET + LIMITS + NEW, "options": SUBSET + LIMITS + ["drop"] + NEW,

@@ -1,7 +1,7 @@
 //! Many answers of the crate as numbers, to be compared with those on another machine: platforms LIST
 //!
 //! LIST has a line `FACE FILE` for each font. The program prints a line for each, with five numbers: of the whole font, and of four
-//! sets of damaged copies. A number is FNV-1a of the fonts, CIDs, widths and error texts that the calls answer.
+//! sets of damaged copies. A number is FNV-1a of the fonts, CIDs, widths and error texts that the calls return.
 
 use std::{env, fs};
 use subsetter::{embed, embed_with_options, embed_with_variations, subset, subset_with_options};
@@ -83,7 +83,7 @@ impl Sum {
         }
     }
 
-    /// The answers for a font of so many glyphs: in some faces at coordinates, and by options for the first face.
+    /// The answers for a font: in some faces at coordinates, and by options for the first face.
     fn add_answers(&mut self, data: &[u8], faces: &[u32], lists: &[Vec<u16>], choice: u64) {
         let at = [(Tag::new(b"wght"), 650.5), (Tag::new(b"slnt"), -7.25), (Tag::new(b"opsz"), 20.0)];
         for face in faces {

@@ -33,7 +33,7 @@ pub struct FontChoices(proved::FontOptions);
 pub use crate::proved::pdf_text::Column;
 pub use crate::proved::text_glyphs::Entry;
 
-/// 0 stands for the first, 1 for the second.
+/// 0 means the first, 1 the second.
 fn first_or_second<T>(word: u32, first: T, second: T) -> Option<T> {
     match word {
         0 => Some(first),
@@ -42,7 +42,7 @@ fn first_or_second<T>(word: u32, first: T, second: T) -> Option<T> {
     }
 }
 
-/// The tag of two words with three letters each, the first in the higher bits; two words of 0 stand for none.
+/// The tag of two words with three letters each, the first in the higher bits; two words of 0 mean none.
 fn tag_of(words: [u32; 2]) -> Option<Option<proved::SubsetTag>> {
     if words == [0, 0] {
         return Some(None);
@@ -55,7 +55,7 @@ fn tag_of(words: [u32; 2]) -> Option<Option<proved::SubsetTag>> {
 }
 
 impl FontChoices {
-    /// The choices of the words behind those of `subsetter_options`: program, codes, direction, bounds, CIDSet, rights, and the
+    /// The choices of the words after those of `subsetter_options`: program, codes, direction, bounds, CIDSet, rights, and the
     /// two of the tag. None where one isn't known.
     pub fn new(limits: &super::Choices, words: [u32; 8]) -> Option<Self> {
         let [program, codes, direction, bounds, cid_set, rights, front, back] = words;
@@ -318,7 +318,7 @@ fn parted(font: proved::PdfFont) -> Result<(FontLists, FontNumbers), Error> {
     Ok((lists, numbers))
 }
 
-/// All that a PDF has of a font. For a font that can't be opened its fault is answered, whatever memory there is.
+/// All that a PDF has of a font. For a font that can't be opened its fault is returned, whatever memory there is.
 ///
 /// # Errors
 ///

@@ -1,5 +1,5 @@
 //! Room for what Rust's `std` asks for by itself. Where `std` is refused it, the process ends; so as much is asked for before,
-//! by a call that answers, and is given back for `std` to take.
+//! by a call that can fail, and given back for `std` to take.
 
 use crate::rattle::io::{ErrorKind, Result};
 use std::sync::Mutex;
@@ -7,7 +7,7 @@ use std::sync::Mutex;
 /// Bytes that are given back with their value.
 type Room = ::alloc::vec::Vec<u8>;
 
-/// Room for so many bytes.
+/// Room for `bytes` bytes.
 fn take(bytes: usize) -> Result<Room> {
     let mut room = Room::new();
     room.try_reserve_exact(bytes)
@@ -15,12 +15,12 @@ fn take(bytes: usize) -> Result<Room> {
     Ok(room)
 }
 
-/// `OutOfMemory` where there is no room for so many bytes now.
+/// `OutOfMemory` where there is no room for `bytes` bytes now.
 pub fn ask(bytes: usize) -> Result<()> {
     take(bytes).map(drop)
 }
 
-/// The names of so many bytes for which `std` asks for room; a shorter one it copies to the stack (since Rust 1.67, or so).
+/// From this length on `std` asks for room for a name; a shorter one it copies to the stack (since about Rust 1.67).
 const LONG_NAME: usize = 384;
 
 /// Whether `std` asks for room for a name.
@@ -28,7 +28,7 @@ pub fn is_long(name: &str) -> bool {
     name.len() >= LONG_NAME
 }
 
-/// `OutOfMemory` where there is no room for a long name as the system wants it: with a zero behind.
+/// `OutOfMemory` where there is no room for a long name as the system wants it: with a final zero.
 pub fn ask_for_name(name: &str) -> Result<()> {
     if !is_long(name) {
         return Ok(());

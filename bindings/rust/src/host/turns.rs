@@ -75,8 +75,8 @@ mod tests {
     /// How long something is waited for. What holds comes at once, so that this is over in a test that fails alone.
     const LATE: Duration = Duration::from_secs(120);
 
-    /// Runs a test that has so many turns, in a thread, so that it fails where no turn comes back, and demands them back. Then there
-    /// are none.
+    /// Runs a test that has `count` turns, in a thread, so that it fails where no turn comes back, and demands them back. Then
+    /// there are none.
     fn with_turns(count: usize, test: impl FnOnce() + Send + 'static) {
         let _alone = ALONE.lock().unwrap_or_else(PoisonError::into_inner);
         set(count);

@@ -15,7 +15,7 @@ use std::vec::Vec;
 /// How many items a thread takes at a time. Fewer are no work for a second thread.
 const AT_ONCE: usize = 16;
 
-/// The requests of a file, and how far each is, found in so many threads.
+/// The requests of a file, and how far each is, found in `count` threads.
 pub fn requests_in(alloc: Global, file: &[u8], count: usize) -> Result<Batch, AllocError> {
     let lines = lines_of(alloc, file)?;
     let kept = AtomicUsize::new(0);
@@ -44,8 +44,8 @@ pub fn requests_in(alloc: Global, file: &[u8], count: usize) -> Result<Batch, Al
     Ok(batch)
 }
 
-/// What a call makes of each item, in the order of the items. So many threads, of which this is one, take some
-/// items after others; where the system has no thread left, those that there are do all.
+/// What a call makes of each item, in the order of the items. `count` threads, of which this is one, take some
+/// items after others; where the system has no thread left, the others do all.
 fn in_threads<T: Sync, U: Send>(
     items: &[T],
     count: usize,

@@ -5,7 +5,7 @@ use crate::rattle::alloc::Global;
 use crate::{library, Error, Limits, Tag};
 use alloc::vec::Vec;
 
-/// Advances of glyphs, in the font's units: what [`advances`] answers.
+/// Advances of glyphs, in the font's units: what [`advances`] returns.
 #[derive(Debug, Clone, Eq, PartialEq, Hash)]
 pub struct Advances {
     /// How many units the em has, which isn't 0.

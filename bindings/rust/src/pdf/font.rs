@@ -7,7 +7,7 @@ use crate::{Error, Tag};
 use alloc::vec::Vec;
 use core::{fmt, str};
 
-/// All that a PDF has of a font for the glyphs in use: what [`pdf_font`](super::pdf_font) answers.
+/// All that a PDF has of a font for the glyphs in use: what [`pdf_font`](super::pdf_font) returns.
 ///
 /// An entry is a glyph in use with its text, as the call was given them.
 pub struct PdfFont {

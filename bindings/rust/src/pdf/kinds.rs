@@ -93,7 +93,7 @@ impl fmt::Display for GlyphKind {
     }
 }
 
-/// All kinds of pictures of a glyph: what [`kinds_of`] answers. The last is `Outline` or `Empty`.
+/// All kinds of pictures of a glyph: what [`kinds_of`] returns. The last is `Outline` or `Empty`.
 #[derive(Debug, Copy, Clone, Eq, PartialEq, Hash)]
 pub struct GlyphKinds(u32);
 

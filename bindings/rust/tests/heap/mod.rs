@@ -23,7 +23,7 @@ struct Heap;
 #[global_allocator]
 static HEAP: Heap = Heap;
 
-/// Notes a request, and answers whether it is refused.
+/// Notes a request, and returns whether it is refused.
 fn is_refused(bytes: usize) -> bool {
     let (mut first, count) = ASKED.with(Cell::get);
     if let Some(one) = first.get_mut(count) {
@@ -51,8 +51,7 @@ fn hold(at: *mut u8, more: usize, less: usize) -> *mut u8 {
     at
 }
 
-// SAFETY: each call is the system's, or answers that there is no memory. What is noted is in cells without a destructor, which
-// take no memory.
+// SAFETY: each call is the system's, or returns null. What is noted is in cells without a destructor, which take no memory.
 unsafe impl GlobalAlloc for Heap {
     unsafe fn alloc(&self, layout: Layout) -> *mut u8 {
         if is_refused(layout.size()) {
@@ -74,7 +73,7 @@ unsafe impl GlobalAlloc for Heap {
     }
 }
 
-/// What a call answers where each request for memory but the first so many is refused, and whether one was.
+/// What a call returns where all requests for memory after `requests` are refused, and whether one was.
 pub fn with<T>(requests: usize, call: impl FnOnce() -> T) -> (T, bool) {
     REFUSED.with(|refused| refused.set(false));
     GRANTED.with(|granted| granted.set(requests));
@@ -83,7 +82,7 @@ pub fn with<T>(requests: usize, call: impl FnOnce() -> T) -> (T, bool) {
     (answer, REFUSED.with(Cell::get))
 }
 
-/// What a call answers where the request after so many is refused, and those behind it are granted.
+/// What a call returns where the request after `requests` is refused, and all after it are granted.
 pub fn with_one_refused<T>(requests: usize, call: impl FnOnce() -> T) -> (T, bool) {
     ONCE.with(|once| once.set(true));
     let answer = with(requests, call);
@@ -91,7 +90,7 @@ pub fn with_one_refused<T>(requests: usize, call: impl FnOnce() -> T) -> (T, boo
     answer
 }
 
-/// What a call answers, and how many bytes each of its requests is for (of the first eight).
+/// What a call returns, and how many bytes each of its requests is for (of the first eight).
 pub fn asked_by<T>(call: impl FnOnce() -> T) -> (T, Vec<usize>) {
     ASKED.with(|asked| asked.set(([0; 8], 0)));
     let answer = call();

@@ -1,5 +1,5 @@
 //! Files, standard streams, arguments and errors as the program's stand-in has them, each call by itself. The tests run in a
-//! process of their own, one behind the other: a call that doesn't ask for the memory that `std` requests next ends it.
+//! process of their own, one after the other: a call that doesn't ask for the memory that `std` requests next ends it.
 
 use crate::heap::{asked_by, held, with};
 use crate::host::streams::prepare;
@@ -56,7 +56,7 @@ impl Folder {
         std::format!("{}/{}", self.0.display(), name)
     }
 
-    /// A file's name of so many bytes, as further strokes change nothing.
+    /// A file's name of `len` bytes: further strokes change nothing.
     fn long(&self, name: &str, len: usize) -> String {
         let folder = self.0.to_str().unwrap();
         let strokes = "/".repeat(len - folder.len() - name.len());
@@ -488,7 +488,7 @@ fn arguments_are_those_of_the_process() {
     assert_eq!(failed(with(0, prepare).0), REFUSED);
     let (_, asked) = asked_by(|| env::args(&HostRuntime));
     let of_each = std::mem::size_of::<OsString>() + 32;
-    // (each has a zero behind)
+    // (each has a final zero)
     let all: usize = args.iter().map(|it| it.len() + 1 + of_each).sum();
     assert!(asked[0] >= 1024, "{:?}", asked);
     let is_shown = Path::new("/proc/self/cmdline").exists();
