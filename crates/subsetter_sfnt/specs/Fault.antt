@@ -8,7 +8,7 @@ use Rattle.subsetter_sfnt.specs.Read.{Font, kind_at, collection_entry, header_of
 pub data HasOpeningFault (font : Font) : Error → Type 0 where
   -- the first word is missing or names no kind
   no_kind : kind_at font.bytes 0 ≡ None → HasOpeningFault font UnknownKind
-  -- a collection without the entry of the index
+  -- a collection whose bytes end before the entry of the index
   no_entry : kind_at font.bytes 0 ≡ Some Collection → collection_entry font ≡ None → HasOpeningFault font MalformedFont
   -- the entry points past the end
   entry_outside : (at : ℕ) → kind_at font.bytes 0 ≡ Some Collection → collection_entry font ≡ Some at

@@ -34,7 +34,8 @@ kind_of word =
 abbrev pub kind_at : List ℕ → ℕ → Option FontKind
 kind_at bytes at = option_and_then kind_of (number bytes at 4)
 
--- in a collection, the entry that says where the font of the index begins
+-- in a collection, the four bytes that say where the font of the index begins (TTCHeader.tableDirectoryOffsets);
+-- numFonts isn't looked at
 abbrev pub collection_entry : Font → Option ℕ
 collection_entry font = number font.bytes (12 + 4 * font.index) 4
 

@@ -16,7 +16,7 @@ pub record IsPromisedAt {X : Type 0} (file : X → List ℕ) (bound : Option ℕ
   pub exact : IfOk result (λ x. IsAnswerAt tokens depth font settings glyphs (file x))
   -- and has no more bytes than it may have
   pub within : IfOk result (λ x. IsWithin bound (file x))
-  -- what is refused has a fault with that error, or the bound is set and every answer passes it
+  -- what is refused wants memory, or has a fault with that error, or the bound is set and every answer passes it
   pub err : IfErr result
       (λ e. (e ≡ OutOfMemory) ⊎ ((order : List ℕ) × HasFaultAt bound tokens depth font settings glyphs order e))
   -- and, unless memory ran out, there is no answer within these limits

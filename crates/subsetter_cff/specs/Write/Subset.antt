@@ -13,7 +13,7 @@ use Rattle.subsetter_cff.specs.Read.Entries.Operators.{copyright_operator, notic
 use Rattle.subsetter_cff.specs.Read.Entries.Operators.{font_box_operator, subroutines_operator}
 use Rattle.subsetter_cff.specs.Write.Laying.ReadsAs.{adobe_identity}
 
--- both are there, and equal
+-- both can be read, and give the same; of what a dictionary may leave out, that can be that it is left out
 pub record Keeps {A : Type 0} (source copy : Option A) : Type 0 where
   pub what : A
   pub source_is : source ≡ Some what

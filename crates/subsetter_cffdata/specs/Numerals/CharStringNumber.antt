@@ -55,7 +55,7 @@ charstring_number_at bytes = option_map (λ x. (as_number x.0, x.1)) (number_at 
 abbrev pub written_short : ℕ → List ℕ
 written_short bits = 28 ∷ bits / 256 ∷ bits % 256 ∷ []
 
--- a number's bytes, in the shortest form
+-- a number's bytes: an integer in its shortest form, a Fixed always in five bytes
 unfoldable pub written : CharStringNumber → List ℕ
 written (Integer (pos n)) =
     if nat_lt n 108 then (n + 139) ∷ []

@@ -65,7 +65,8 @@ rows t =
     ∷ record { tag = codes "name"; bytes = t.name } ∷ record { tag = codes "post"; bytes = t.post }
     ∷ record { tag = codes "prep"; bytes = t.prep } ∷ []
 
--- the tables of every font that a source has; hhea is there only with hmtx
+-- of which tables that all fonts share there is one in the source: only whether each is there counts, not its bytes;
+-- hhea goes with hmtx
 abbrev pub shared_in : (List ℕ → Option (List ℕ)) → FontTables
 shared_in find = record {
   cff = None;

@@ -205,7 +205,8 @@ run library depth (suc tokens) said s =
 abbrev pub start : List ℕ → State
 start charstring = record { rests = charstring ∷ []; registers = record { operands = []; stems = 0; mask_len = 0 } }
 
--- how the run of a glyph's own charstring ends, with at most `tokens` tokens and `depth` callers
+-- how the run of a glyph's own charstring ends, with at most `tokens` tokens, and at most `depth` charstrings under way
+-- at once, its own among them
 unfoldable pub outcome : Library → ℕ → ℕ → List ℕ → Outcome
 outcome library tokens depth charstring = run library depth tokens [] (start charstring)
 

@@ -111,8 +111,8 @@ name_bytes records storage =
 
 -- ---- what a subset promises
 
--- the kept names of a table of version 0, in order, and their distinct strings in the order of first use, right after
--- the records
+-- the kept names of a table of version 0, in order, each with its string (`strings` has one for each), and right after
+-- the records the distinct strings in the order of first use
 pub record HasKeptNames (source new : List ℕ) : Type 0 where
   pub names : List Name
   pub strings : List (List ℕ)

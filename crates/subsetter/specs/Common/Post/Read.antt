@@ -83,7 +83,8 @@ post_bytes header ns = header ++ to_be_bytes w16 (length ns) ++ index_bytes 0 ns
 
 -- ---- what a subset promises
 
--- the header is the source's, and each glyph of the order has its name in the source, both there
+-- the header is the source's, and each glyph of the order has its name in the source, both there; `name i` is the name
+-- of the glyph at place i
 pub record HasGlyphNames (source new order : List ℕ) : Type 0 where
   pub header : List ℕ
   pub source_header : range source 0 32 ≡ Some header

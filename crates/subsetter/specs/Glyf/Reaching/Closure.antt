@@ -80,7 +80,8 @@ pub data StopsClosure (t : Outlines) (glyphs : List ℕ) (most : ℕ) : Error �
   all_reached : ((g : ℕ) → g < 65536 → IsReachableBy (outline_in t) glyphs g) → StopsClosure t glyphs most OverflowError
   too_long : AreLonger t.hinting (outline_in t) glyphs most → StopsClosure t glyphs most OverflowError
 
--- which list is found from an order, the given glyphs that are still to be followed, and the components that wait
+-- `Finds t found left waiting order`: with the given glyphs `left` to be followed (from the last one on), the
+-- components `waiting` (the last one first) and the glyphs `order` found so far, `found` is the list in the end
 pub data Finds (t : Outlines) (found : List ℕ) : List ℕ → List ℕ → List ℕ → Type 0 where
   -- no glyph is left to be followed, and none waits
   all_found : {left waiting order : List ℕ} → left ≡ [] → waiting ≡ [] → order ≡ found
