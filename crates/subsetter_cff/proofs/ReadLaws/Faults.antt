@@ -13,7 +13,7 @@ use Rattle.subsetter_cff.specs.Read.Cff.{Cff, past_header, name_index, string_in
 use Rattle.subsetter_cff.specs.Read.FdArray.FontDicts.{font_dicts, font_dict_select}
 use Rattle.subsetter_cff.specs.Read.Entries.OperandDemands.{top_demands, font_dict_demands}
 use Rattle.subsetter_cff.specs.Read.Opened.{check, all_meet, all_lead, sound_font_dicts, opened_cid, opened_parts, opened}
-use Rattle.subsetter_cff.specs.Read.Fault.{HasFrontFault, short, other_version, bad_names, bad_strings, bad_subroutines, no_top_dict, HasTopFault, wrong_operands, no_char_strings, empty_char_strings, no_font_dicts, no_select, bad_font_dict, bad_private, HasOpeningFault, in_front, in_top}
+use Rattle.subsetter_cff.specs.Read.Fault.{HasFrontFault, short, other_version, bad_names, bad_strings, bad_subroutines, no_top_dict, HasTopFault, wrong_operands, no_char_strings, empty_char_strings, no_font_dicts, no_select, bad_font_dict, bad_private, HasCffOpeningFault, in_front, in_top}
 use Rattle.subsetter_cff.proofs.ReadLaws.Results.{some_of}
 use Rattle.subsetter_cff.proofs.ReadLaws.Refusals.{bind_err, none_of, failed, none_or, not_both, here, there}
 use Rattle.subsetter_cff.proofs.ReadLaws.EntriesLaws.EntryFaults.{all_wrong, all_nowhere}
@@ -112,23 +112,23 @@ top_refused cff e h =
       ]
     ]
 
-parts_refused : (bytes : List ℕ) (b : ℕ) (e : Error) → first_number bytes ≡ Some b → eqb b 1 ≡ true → opened_parts bytes ≡ Err e → HasOpeningFault bytes e
+parts_refused : (bytes : List ℕ) (b : ℕ) (e : Error) → first_number bytes ≡ Some b → eqb b 1 ≡ true → opened_parts bytes ≡ Err e → HasCffOpeningFault bytes e
 unfolding opened_parts
 parts_refused bytes b e is one h =
     elim (bind_err (ok_or (cff_parts bytes) MalformedFont) _ e h) [
-      | inl none ↦ (let n = none_of (cff_parts bytes) MalformedFont e none in subst (HasOpeningFault bytes) n.1 (in_front (parts_none bytes b is one n.0)))
+      | inl none ↦ (let n = none_of (cff_parts bytes) MalformedFont e none in subst (HasCffOpeningFault bytes) n.1 (in_front (parts_none bytes b is one n.0)))
       | inr (cff, (cff_is, more)) ↦ in_top cff (some_of (cff_parts bytes) MalformedFont cff cff_is) (top_refused cff e more)
     ]
 
 -- what can't be opened has a fault of the name that is answered
-pub opening_refused : (bytes : List ℕ) (e : Error) → opened bytes ≡ Err e → HasOpeningFault bytes e
+pub opening_refused : (bytes : List ℕ) (e : Error) → opened bytes ≡ Err e → HasCffOpeningFault bytes e
 unfolding opened
 opening_refused bytes e h =
     elim (bind_err (ok_or (first_number bytes) MalformedFont) _ e h) [
-      | inl none ↦ (let n = none_of (first_number bytes) MalformedFont e none in subst (HasOpeningFault bytes) n.1 (in_front (no_version bytes n.0)))
+      | inl none ↦ (let n = none_of (first_number bytes) MalformedFont e none in subst (HasCffOpeningFault bytes) n.1 (in_front (no_version bytes n.0)))
       | inr (b, (b_is, more)) ↦ (let is = some_of (first_number bytes) MalformedFont b b_is in
           elim (failed (eqb b 1) CFFError e (opened_parts bytes) more) [
-            | inl other ↦ subst (HasOpeningFault bytes) other.1 (in_front (other_version b is (eqb-false b 1 other.0)))
+            | inl other ↦ subst (HasCffOpeningFault bytes) other.1 (in_front (other_version b is (eqb-false b 1 other.0)))
             | inr one ↦ parts_refused bytes b e is one.0 one.1
           ])
     ]

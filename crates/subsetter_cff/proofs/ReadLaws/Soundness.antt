@@ -12,7 +12,7 @@ use Rattle.subsetter_base.specs.Bytes.{first_number}
 use Rattle.subsetter_cff.specs.Read.FdArray.FontDicts.{font_dicts, font_dict_select}
 use Rattle.subsetter_cff.specs.Read.Entries.OperandDemands.{top_demands, font_dict_demands}
 use Rattle.subsetter_cff.specs.Read.Opened.{all_meet, all_lead, sound_font_dicts, opened_cid, opened_parts, opened}
-use Rattle.subsetter_cff.specs.Read.Fault.{HasFrontFault, short, other_version, bad_names, bad_tops, bad_strings, bad_subroutines, no_top_dict, HasTopFault, wrong_operands, no_char_strings, empty_char_strings, no_font_dicts, no_select, bad_font_dict, bad_private, in_front, in_top, HasOpeningFault}
+use Rattle.subsetter_cff.specs.Read.Fault.{HasFrontFault, short, other_version, bad_names, bad_tops, bad_strings, bad_subroutines, no_top_dict, HasTopFault, wrong_operands, no_char_strings, empty_char_strings, no_font_dicts, no_select, bad_font_dict, bad_private, in_front, in_top, HasCffOpeningFault}
 use Rattle.subsetter_cff.proofs.ReadLaws.EntriesLaws.Holding.{both}
 use Rattle.subsetter_cff.proofs.ReadLaws.Results.{bind_ok, some_of, passed}
 use Rattle.subsetter_cffdata.proofs.Options.{step, when}
@@ -150,7 +150,7 @@ was_opened bytes cff e =
     }
 
 -- where a source is opened, it has none of the faults that are found while it is opened
-pub opened_is_sound : (bytes : List ℕ) (cff : Cff) (e : Error) → opened bytes ≡ Ok cff → HasOpeningFault bytes e → ⊥
+pub opened_is_sound : (bytes : List ℕ) (cff : Cff) (e : Error) → opened bytes ≡ Ok cff → HasCffOpeningFault bytes e → ⊥
 opened_is_sound bytes cff e opened_ok (in_front fault) = let w = was_opened bytes cff opened_ok in no_front_fault bytes e (front_is_read bytes w.cff w.cff_is) fault
 opened_is_sound bytes cff e opened_ok (in_top c is fault) =
     let w = was_opened bytes cff opened_ok in

@@ -112,6 +112,6 @@ pub data HasStringFault (cff : Cff) : Error → Type 0 where
   bad_font_name : NamesNoString cff.strings font_name_operator cff.top → HasStringFault cff SubsetError
 
 -- the faults of a table that can't be opened
-pub data HasOpeningFault (bytes : List ℕ) : Error → Type 0 where
-  in_front : {e : Error} → HasFrontFault bytes e → HasOpeningFault bytes e
-  in_top : {e : Error} (cff : Cff) → cff_parts bytes ≡ Some cff → HasTopFault cff e → HasOpeningFault bytes e
+pub data HasCffOpeningFault (bytes : List ℕ) : Error → Type 0 where
+  in_front : {e : Error} → HasFrontFault bytes e → HasCffOpeningFault bytes e
+  in_top : {e : Error} (cff : Cff) → cff_parts bytes ≡ Some cff → HasTopFault cff e → HasCffOpeningFault bytes e

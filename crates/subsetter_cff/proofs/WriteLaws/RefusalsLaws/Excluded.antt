@@ -21,7 +21,7 @@ use Rattle.subsetter_cff.specs.Read.Opened.{opened}
 use Rattle.subsetter_cff.specs.Write.NewDicts.WrittenNumbers.{any_long, entry_numbers, font_dict_numbers}
 use Rattle.subsetter_cff.specs.Write.Plain.{KeptGlyph, kept_glyph, used_numbers, parts_for, parts_of, cff_subset}
 use Rattle.subsetter_cff.specs.Read.Fault.{HasGlyphFault, no_number, no_font_dict, no_char_string, stops, bad_name, HasStringFault, bad_copyright, bad_notice, bad_font_name}
-use Rattle.subsetter_cff.specs.Write.Refusals.LimitFault.{IsLaidOut, HasLimitFault, many_font_dicts, long_matrix, long_box, long_own_matrix, long_private, large_index, large_offset, dict_numbers, written_indexes, written_offsets}
+use Rattle.subsetter_cff.specs.Write.Refusals.LimitFault.{AreDrafted, HasLimitFault, many_font_dicts, long_matrix, long_box, long_own_matrix, long_private, large_index, large_offset, dict_numbers, written_indexes, written_offsets}
 use Rattle.subsetter_cff.specs.Write.Refusals.CffFault.{HasCffFault, in_opening, in_glyph, in_strings, in_limits, AnsweredExcludes}
 use Rattle.subsetter_cff.proofs.ReadLaws.Results.{bind_ok, same_Ok}
 use Rattle.subsetter_cff.proofs.ReadLaws.EntriesLaws.EntrySound.{clash, contradiction}
@@ -104,7 +104,7 @@ module _ (cff : Cff) (tokens depth : ℕ) (glyphs : List ℕ) (p : Parts) (ok : 
       let same : own_entries made.private_dict ≡ es = same_Some _ _ (rw made.private_dict_is at is) in
       subst (λ xs. any_long (entry_numbers xs) ≡ false) (made.private ∙ same) (short_back made.font_dict.matrix (entry_numbers made.font_dict.private) (dict_short g inside))
 
-  same_parts : (q : Parts) → IsLaidOut cff tokens depth glyphs q → q ≡ p
+  same_parts : (q : Parts) → AreDrafted cff tokens depth glyphs q → q ≡ p
   same_parts q laid =
       let same : laid.kept ≡ answer.kept = same_Ok _ _ (sym laid.kept_are ∙ answer.kept_are) in
       same_Ok _ _ (sym laid.parts_are ∙ ap (parts_for cff) same ∙ answer.made)

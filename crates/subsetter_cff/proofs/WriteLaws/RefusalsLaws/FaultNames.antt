@@ -4,7 +4,7 @@ use Rattle.subsetter_base.specs.declared.error.Error.{Error}
 use Rattle.subsetter_base.specs.declared.error.Error.TheVariants.{UnknownKind, MalformedFont, Unimplemented, SubsetError, OverflowError, CFFError, OutOfMemory}
 use Rattle.subsetter_cff.specs.Read.Cff.{Cff}
 use Rattle.subsetter_cff.specs.Read.GlyphTrace.{library}
-use Rattle.subsetter_cff.specs.Read.Fault.{HasFrontFault, short, other_version, bad_names, bad_tops, bad_strings, bad_subroutines, no_top_dict, HasTopFault, wrong_operands, no_char_strings, empty_char_strings, no_font_dicts, no_select, bad_font_dict, bad_private, HasGlyphFault, no_number, no_font_dict, no_char_string, stops, bad_name, HasStringFault, bad_copyright, bad_notice, bad_font_name, HasOpeningFault, in_front, in_top}
+use Rattle.subsetter_cff.specs.Read.Fault.{HasFrontFault, short, other_version, bad_names, bad_tops, bad_strings, bad_subroutines, no_top_dict, HasTopFault, wrong_operands, no_char_strings, empty_char_strings, no_font_dicts, no_select, bad_font_dict, bad_private, HasGlyphFault, no_number, no_font_dict, no_char_string, stops, bad_name, HasStringFault, bad_copyright, bad_notice, bad_font_name, HasCffOpeningFault, in_front, in_top}
 use Rattle.subsetter_cff.specs.Write.Refusals.LimitFault.{HasLimitFault, many_font_dicts, long_matrix, long_box, long_own_matrix, long_private, large_index, large_offset}
 use Rattle.subsetter_cff.specs.Write.Refusals.CffFault.{in_opening, in_glyph, in_strings, in_limits, IsCffError, FaultIsNamed}
 use Rattle.subsetter_cff.proofs.WriteLaws.GlyphsLaws.RunErrors.{IsRunError, run_error}
@@ -36,7 +36,7 @@ top_named cff _ (no_select cid none) = tt
 top_named cff _ (bad_font_dict dicts dict cid are inside wrong) = tt
 top_named cff _ (bad_private dicts dict cid are inside wrong) = tt
 
-opening_named : (bytes : List ℕ) (e : Error) → HasOpeningFault bytes e → IsCffError e
+opening_named : (bytes : List ℕ) (e : Error) → HasCffOpeningFault bytes e → IsCffError e
 opening_named bytes e (in_front f) = front_named bytes e f
 opening_named bytes e (in_top cff is f) = top_named cff e f
 

@@ -19,7 +19,7 @@ use Rattle.subsetter_cff.specs.Write.Made.{new_matrix}
 use Rattle.subsetter_cff.specs.Read.Entries.OperandDemands.{so_many, top_demands}
 use Rattle.subsetter_cff.specs.Write.NewDicts.WrittenNumbers.{any_long, entry_numbers, font_dict_numbers, written_numbers}
 use Rattle.subsetter_cff.specs.Write.Plain.{KeptGlyph, kept_glyphs, used_numbers, new_font_dicts, parts_for, limited}
-use Rattle.subsetter_cff.specs.Write.Refusals.LimitFault.{IsLaidOut, HasLimitFault, many_font_dicts, long_matrix, long_box, long_own_matrix, long_private, large_index, large_offset}
+use Rattle.subsetter_cff.specs.Write.Refusals.LimitFault.{AreDrafted, HasLimitFault, many_font_dicts, long_matrix, long_box, long_own_matrix, long_private, large_index, large_offset}
 use Rattle.subsetter_cff.proofs.ReadLaws.Results.{same_Ok}
 use Rattle.subsetter_cff.proofs.ReadLaws.Refusals.{failed}
 use Rattle.subsetter_cff.proofs.WriteLaws.GlyphsLaws.KeptSteps.{AllZero, zeros, used_of_zeros, glyph_steps}
@@ -120,7 +120,7 @@ pub limit_stands : (cff : Cff) (tokens depth : ℕ) (glyphs : List ℕ) (kept : 
 unfolding limited
 limit_stands cff tokens depth glyphs kept p e sound are made h =
     let F = HasLimitFault cff tokens depth glyphs in
-    let laid : IsLaidOut cff tokens depth glyphs p = record { kept = kept; kept_are = are; parts_are = made } in
+    let laid : AreDrafted cff tokens depth glyphs p = record { kept = kept; kept_are = are; parts_are = made } in
     elim (failed (cond (any_long (written_numbers p)) false true) OverflowError e _ h) [
       | inl over ↦ subst F over.1 (long_stands cff tokens depth glyphs kept p sound are made (not_false (any_long (written_numbers p)) over.0))
       | inr h2 ↦ elim (failed (ltb (length (concat p.char_strings) + 1) (2 ^ 32)) OverflowError e _ h2.1) [

@@ -4,13 +4,13 @@ use Rattle.subsetter_base.specs.declared.error.Error.{Error}
 use Rattle.subsetter_base.specs.declared.error.Error.TheVariants.{UnknownKind, MalformedFont, Unimplemented}
 use Rattle.subsetter_base.specs.declared.error.Error.TheVariants.{SubsetError, OverflowError, CFFError, OutOfMemory}
 use Rattle.subsetter_cff.specs.Read.Cff.{Cff, cff_parts}
-use Rattle.subsetter_cff.specs.Read.Fault.{HasOpeningFault, HasGlyphFault, HasStringFault}
+use Rattle.subsetter_cff.specs.Read.Fault.{HasCffOpeningFault, HasGlyphFault, HasStringFault}
 use Rattle.subsetter_cff.specs.Write.Refusals.LimitFault.{HasLimitFault}
 use Rattle.subsetter_cff.specs.Write.Plain.{cff_subset}
 
 pub data HasCffFault (bytes : List ℕ) (tokens depth : ℕ) (glyphs : List ℕ) : Error → Type 0 where
   -- the front, the top dict, and what it leads to
-  in_opening : {e : Error} → HasOpeningFault bytes e → HasCffFault bytes tokens depth glyphs e
+  in_opening : {e : Error} → HasCffOpeningFault bytes e → HasCffFault bytes tokens depth glyphs e
   -- a kept glyph
   in_glyph : {e : Error} (cff : Cff) (g : ℕ) → cff_parts bytes ≡ Some cff → Contains glyphs g
       → HasGlyphFault cff tokens depth g e

@@ -34,7 +34,7 @@ dict_numbers cff [] = []
 dict_numbers cff (g ∷ gs) = with_found (dict_number cff g) (dict_numbers cff gs)
 
 -- the parts that are laid out for a subset, before their sizes are judged
-pub record IsLaidOut (cff : Cff) (tokens depth : ℕ) (glyphs : List ℕ) (p : Parts) : Type 0 where
+pub record AreDrafted (cff : Cff) (tokens depth : ℕ) (glyphs : List ℕ) (p : Parts) : Type 0 where
   pub kept : List KeptGlyph
   pub kept_are : kept_glyphs cff tokens depth glyphs ≡ Ok kept
   pub parts_are : parts_for cff kept ≡ Ok p
@@ -75,8 +75,8 @@ pub data HasLimitFault (cff : Cff) (tokens depth : ℕ) (glyphs : List ℕ) : Er
       → any_long (entry_numbers es) ≡ true
       → HasLimitFault cff tokens depth glyphs OverflowError
   -- the data of an INDEX, or an offset or private length, is too large
-  large_index : (p : Parts) (items : List (List ℕ)) → IsLaidOut cff tokens depth glyphs p
+  large_index : (p : Parts) (items : List (List ℕ)) → AreDrafted cff tokens depth glyphs p
       → Contains (written_indexes p) items → 2 ^ 32 ≤ length (concat items) + 1
       → HasLimitFault cff tokens depth glyphs OverflowError
-  large_offset : (p : Parts) (n : ℕ) → IsLaidOut cff tokens depth glyphs p → Contains (written_offsets p) n → 2 ^ 31 ≤ n
+  large_offset : (p : Parts) (n : ℕ) → AreDrafted cff tokens depth glyphs p → Contains (written_offsets p) n → 2 ^ 31 ≤ n
       → HasLimitFault cff tokens depth glyphs OverflowError
