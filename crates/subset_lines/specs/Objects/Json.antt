@@ -1,8 +1,8 @@
 -- The same as one JSON object (RFC 8259).
 use Rattle.std.specs.Prelude.{ℕ, List, [], ◌∷◌, ◌++◌, drop, map, Option, Some, None, codes, decimal}
 use Rattle.subsetter_base.specs.Indexes.{index_of}
-use Rattle.subset_lines.specs.Faces.Axes.{shown}
-use Rattle.subset_lines.specs.Objects.Quoted.{quoted}
+use Rattle.plain_text.specs.Characters.{shown}
+use Rattle.plain_text.specs.Quoted.{quoted}
 use Rattle.subset_lines.specs.Text.{Numbers, first_character, first_name}
 
 -- the member that has a character's number

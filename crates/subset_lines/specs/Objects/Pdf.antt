@@ -1,7 +1,7 @@
 -- What a JSON object says of a PDF.
 use Rattle.std.specs.Prelude.{ℕ, List, ◌++◌, codes, decimal}
 use Rattle.subset_lines.specs.Objects.Json.{array_of}
-use Rattle.subset_lines.specs.Objects.Quoted.{quoted}
+use Rattle.plain_text.specs.Quoted.{quoted}
 
 -- the name of its font
 abbrev pub name_member : List ℕ → List ℕ

@@ -6,9 +6,8 @@ ghost use Rattle.subset_lines.specs.Objects.Json.{character_member, number_or_nu
 ghost use Rattle.subset_lines.specs.View.{numbers_view};
 
 use crate::entry::{Numbering, name_at, take_first};
-use crate::objects::quoted::write_shown;
 use crate::plain::flush;
-use plain_text::{Unwritten, write_text};
+use plain_text::{Unwritten, write_shown, write_text};
 use std::alloc::Global;
 use std::io::Write;
 use subsetter_base::GlyphRemapper;

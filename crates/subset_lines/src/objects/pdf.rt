@@ -5,8 +5,7 @@ ghost use Rattle.std.specs.Io.KnownBytes.{Appends};
 ghost use Rattle.subset_lines.specs.Objects.Json.{array_of, numbers_from};
 ghost use Rattle.subset_lines.specs.Objects.Pdf.{name_member, pdf_member, pdf_open};
 
-use crate::objects::quoted::write_quoted;
-use plain_text::{Unwritten, write_count, write_text};
+use plain_text::{Unwritten, write_count, write_quoted, write_text};
 use std::alloc::Global;
 use std::io::Write;
 
