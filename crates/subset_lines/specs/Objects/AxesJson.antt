@@ -33,7 +33,8 @@ instance_object axes names bytes =
 
 abbrev pub instance_objects : List ℕ → List Axis → List ℕ → List (List ℕ) → List ℕ
 instance_objects before axes names [] = []
-instance_objects before axes names (record_bytes ∷ more) = (before ++ instance_object axes names record_bytes) ++ instance_objects (codes ",") axes names more
+instance_objects before axes names (record_bytes ∷ more) =
+    (before ++ instance_object axes names record_bytes) ++ instance_objects (codes ",") axes names more
 
 abbrev pub axes_json : Outlines → Bool → List Axis → List ℕ → List (List ℕ) → List ℕ
 axes_json outlines is_variable axes names records =

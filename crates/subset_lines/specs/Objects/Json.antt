@@ -21,13 +21,17 @@ name_member [] = []
 name_member (b ∷ name) = codes ",\"name\":" ++ quoted (map shown (b ∷ name))
 
 -- the object of a glyph
-abbrev pub object_of : Option ℕ → List ℕ → ℕ → Option ℕ → List ℕ
-object_of character name old new = codes "{" ++ character_member character ++ (codes "\"old\":" ++ decimal old ++ codes ",\"new\":" ++ number_or_null new) ++ name_member name ++ codes "}"
+unfoldable pub object_of : Option ℕ → List ℕ → ℕ → Option ℕ → List ℕ
+object_of character name old new =
+    codes "{" ++ character_member character ++ (codes "\"old\":" ++ decimal old)
+    ++ codes ",\"new\":" ++ number_or_null new ++ name_member name ++ codes "}"
 
 -- the objects of glyphs, in order, with a text before the first and a comma between each two
 abbrev pub objects : List ℕ → List ℕ → List (Option ℕ) → List (List ℕ) → List ℕ → List ℕ
 objects before order characters names [] = []
-objects before order characters names (old ∷ glyphs) = (before ++ object_of (first_character characters) (first_name names) old (index_of order old)) ++ objects (codes ",") order (drop 1 characters) (drop 1 names) glyphs
+objects before order characters names (old ∷ glyphs) =
+    (before ++ object_of (first_character characters) (first_name names) old (index_of order old))
+    ++ objects (codes ",") order (drop 1 characters) (drop 1 names) glyphs
 
 -- the member that has the widths, whose text an empty one isn't
 abbrev pub widths_member : List ℕ → List ℕ
