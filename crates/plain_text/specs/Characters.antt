@@ -21,3 +21,7 @@ is_plain c = not (is_control c || (is_separator c || is_direction c))
 -- for the others there is U+FFFD
 abbrev pub plain : ℕ → ℕ
 plain c = if is_plain c then c else 0xFFFD
+
+-- a byte as it is shown: a printable one of ASCII, and `?` for another
+abbrev pub shown : ℕ → ℕ
+shown b = if nat_le 32 b && nat_lt b 127 then b else 63

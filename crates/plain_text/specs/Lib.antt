@@ -1,1 +1,4 @@
 pub mod Characters
+pub mod Fixed
+pub mod Pieces
+pub mod Quoted

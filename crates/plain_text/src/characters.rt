@@ -2,7 +2,7 @@
 
 ghost use Rattle.std.specs.Prelude.{◌≡◌, map, IfOk, string_bytes};
 ghost use Rattle.std.specs.Str.{chars, encode_utf8_all};
-ghost use Rattle.plain_text.specs.Characters.{is_control, is_separator, is_direction, is_plain, plain};
+ghost use Rattle.plain_text.specs.Characters.{is_control, is_separator, is_direction, is_plain, plain, shown};
 
 use std::alloc::{AllocError, Global};
 
@@ -50,4 +50,11 @@ pub fn plain_text(alloc: Global, text: &str) -> Result<String, AllocError>
     ensures { IfOk result (λ made. string_bytes made ≡ encode_utf8_all (map plain (chars text.now))) }
 {
     text.chars().map(plain).collect(alloc)
+}
+
+/// A byte as it is shown: a printable one of ASCII, and `?` for another.
+pub fn shown(byte: u8) -> u8
+    ensures { result ≡ shown byte }
+{
+    if byte >= 32 && byte < 127 { byte } else { b'?' }
 }

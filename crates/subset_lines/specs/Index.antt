@@ -1,6 +1,6 @@
 -- What is noted of a face that a file doesn't have: it has one font, which is taken.
 use Rattle.std.specs.Prelude.{ℕ, List, [], ◌++◌, Option, Some, None, codes, decimal}
-use Rattle.subset_lines.specs.Objects.Quoted.{quoted}
+use Rattle.plain_text.specs.Quoted.{quoted}
 
 -- `face 3 is taken as face 0: the file has no other`
 unfoldable pub index_text : ℕ → List ℕ

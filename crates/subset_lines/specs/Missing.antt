@@ -1,6 +1,6 @@
 -- What is noted of characters that a font has no glyph for.
 use Rattle.std.specs.Prelude.{ℕ, nat_lt, if◌then◌else◌, List, [], ◌∷◌, ◌++◌, take, length, codes}
-use Rattle.subset_lines.specs.Objects.Quoted.{quoted}
+use Rattle.plain_text.specs.Quoted.{quoted}
 use Rattle.subset_lines.specs.Text.{four_digits}
 
 -- `U+2603`

@@ -2,11 +2,11 @@
 use Rattle.std.specs.Prelude.{ℕ, ℤ, List, [], ◌∷◌, ◌++◌, map, Option, codes}
 use Rattle.subsetter_base.specs.declared.tag.Tag.{Tag}
 use Rattle.subsetter_variation.specs.declared.locations.axes.Axis.{Axis}
-use Rattle.subset_lines.specs.Faces.Axes.{shown}
-use Rattle.subset_lines.specs.Fixed.{fixed_text}
+use Rattle.plain_text.specs.Characters.{shown}
+use Rattle.plain_text.specs.Fixed.{fixed_text}
 use Rattle.subset_lines.specs.Index.{index_line, index_string}
 use Rattle.subset_lines.specs.Missing.{missing_line, missing_string}
-use Rattle.subset_lines.specs.Objects.Quoted.{quoted}
+use Rattle.plain_text.specs.Quoted.{quoted}
 use Rattle.subset_lines.specs.declared.notes.Note.{Note}
 use Rattle.subset_lines.specs.declared.notes.Note.TheVariants.{NoAxis, Clamped}
 

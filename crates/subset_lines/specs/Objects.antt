@@ -3,4 +3,3 @@ pub mod AxesJson
 pub mod Json
 pub mod Members
 pub mod Pdf
-pub mod Quoted

@@ -2,11 +2,10 @@
 
 ghost use Rattle.std.specs.Prelude.{◌≡◌, ◌++◌, [], OnOk, IfOk};
 ghost use Rattle.std.specs.Io.KnownBytes.{Appends};
-ghost use Rattle.subset_lines.specs.Objects.Quoted.{quoted};
+ghost use Rattle.plain_text.specs.Quoted.{quoted};
 ghost use Rattle.subset_lines.specs.Index.{index_text, index_line, index_string};
 
-use crate::objects::quoted::write_quoted;
-use plain_text::{Unwritten, write_text};
+use plain_text::{Unwritten, write_quoted, write_text};
 use std::alloc::Global;
 use std::io::Write;
 

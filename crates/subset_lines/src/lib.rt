@@ -11,7 +11,6 @@
 
 mod entry;
 mod faces;
-mod fixed;
 mod index;
 mod missing;
 mod notes;

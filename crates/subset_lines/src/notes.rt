@@ -2,17 +2,15 @@
 
 ghost use Rattle.std.specs.Prelude.{◌≡◌, ◌++◌, [], OnOk, IfOk, codes, map};
 ghost use Rattle.std.specs.Io.KnownBytes.{Appends};
-ghost use Rattle.subset_lines.specs.Faces.Axes.{shown};
-ghost use Rattle.subset_lines.specs.Fixed.{fixed_text};
+ghost use Rattle.plain_text.specs.Characters.{shown};
+ghost use Rattle.plain_text.specs.Fixed.{fixed_text};
 ghost use Rattle.subset_lines.specs.Notes.{no_axis_text, setting_text, clamped_text, note_text, range_text, ranges_text, axes_note, note_lines, notes_text, all_text, note_strings, coordinate_strings, comma_after, comma_after_both, all_strings, notes_array};
-ghost use Rattle.subset_lines.specs.Objects.Quoted.{quoted};
+ghost use Rattle.plain_text.specs.Quoted.{quoted};
 
 use crate::faces::axes::write_tag;
-use crate::fixed::write_labelled;
 use crate::index::{write_index_line, write_index_string};
 use crate::missing::{write_missing_line, write_missing_string};
-use crate::objects::quoted::write_quoted;
-use plain_text::{Unwritten, write_text};
+use plain_text::{Unwritten, write_labelled, write_quoted, write_text};
 use std::alloc::Global;
 use std::io::Write;
 use subsetter_base::Tag;

@@ -4,4 +4,3 @@ pub(crate) mod axes_json;
 pub(crate) mod json;
 pub(crate) mod members;
 pub(crate) mod pdf;
-pub(crate) mod quoted;

@@ -1,20 +1,17 @@
 -- The lines of the outlines of a font, of its axes, and of its named instances (OpenType, "fvar").
-use Rattle.std.specs.Prelude.{ℕ, zero, suc, ◌+◌, ◌*◌, ◌==◌, ◌&&◌, nat_lt, nat_le, Bool, if◌then◌else◌, List, [], ◌∷◌}
-use Rattle.std.specs.Prelude.{◌++◌, map, drop, Option, Some, None, codes, ℤ}
+use Rattle.std.specs.Prelude.{ℕ, zero, suc, ◌+◌, ◌*◌, ◌==◌, nat_lt, Bool, if◌then◌else◌, List, [], ◌∷◌, ◌++◌, map, drop}
+use Rattle.std.specs.Prelude.{Option, Some, None, codes, ℤ}
 use Rattle.std.specs.Int.{w32, cast_signed}
 use Rattle.std.specs.Option.{option_map, option_and_then}
 use Rattle.subsetter_base.specs.Bytes.{range, number}
 use Rattle.subsetter_variation.specs.declared.locations.axes.Axis.{Axis}
-use Rattle.subset_lines.specs.Fixed.{fixed_text}
+use Rattle.plain_text.specs.Characters.{shown}
+use Rattle.plain_text.specs.Fixed.{fixed_text}
 use Rattle.subset_lines.specs.Faces.Outlines.{outlines_line}
 use Rattle.subset_lines.specs.Faces.Names.{name_of, after_instance}
 use Rattle.subset_lines.specs.declared.faces.outlines.Outlines.{Outlines}
 
 -- ---- axes
-
--- a byte of a tag: a printable one of ASCII, and `?` for another
-abbrev pub shown : ℕ → ℕ
-shown b = if nat_le 32 b && nat_lt b 127 then b else 63
 
 -- a coordinate after a blank
 unfoldable pub after_blank : ℤ → List ℕ

@@ -3,11 +3,11 @@ use Rattle.std.specs.Prelude.{ℕ, ◌/◌, ◌%◌, ◌==◌, not, Bool, true, 
 use Rattle.std.specs.Prelude.{codes, decimal}
 use Rattle.std.specs.Option.{option_copied}
 use Rattle.subsetter_base.specs.declared.tag.Tag.{Tag}
-use Rattle.subset_lines.specs.Faces.Axes.{shown}
+use Rattle.plain_text.specs.Characters.{shown}
 use Rattle.subset_lines.specs.Faces.Outlines.{outlines_line, outlines_members}
 use Rattle.subset_lines.specs.Faces.Pictures.{pictures_line, pictures_member}
 use Rattle.subset_lines.specs.Objects.Json.{number_or_null}
-use Rattle.subset_lines.specs.Objects.Quoted.{quoted}
+use Rattle.plain_text.specs.Quoted.{quoted}
 use Rattle.subset_lines.specs.declared.faces.info.face.Info.{Info}
 
 -- ---- what its maker permits (OpenType, "OS/2", "fsType")

@@ -3,10 +3,15 @@ use Rattle.std.specs.Prelude.{ℕ, List, [], ◌∷◌, ◌++◌, map, drop, cod
 use Rattle.subsetter_base.specs.Bytes.{number}
 use Rattle.subsetter_base.specs.declared.tag.Tag.{Tag}
 use Rattle.subsetter_variation.specs.declared.locations.axes.Axis.{Axis}
-use Rattle.subset_lines.specs.Faces.Axes.{shown, coordinate_text}
-use Rattle.subset_lines.specs.Objects.AxesJson.{setting_member}
+use Rattle.plain_text.specs.Characters.{shown}
+use Rattle.subset_lines.specs.Faces.Axes.{coordinate_text}
+use Rattle.plain_text.specs.Quoted.{quoted}
 use Rattle.subset_lines.specs.declared.faces.settings.SettingForm.{SettingForm}
 use Rattle.subset_lines.specs.declared.faces.settings.SettingForm.TheVariants.{Line, Member}
+
+-- an axis with the coordinate of four bytes
+abbrev pub setting_member : Tag → List ℕ → List ℕ
+setting_member tag bytes = quoted (map shown tag.0) ++ codes ":" ++ coordinate_text (number bytes 0 4)
 
 -- an axis with the coordinate that four bytes say, after a text: `wght=650`, or a member of an object
 abbrev pub setting_by : SettingForm → List ℕ → Tag → List ℕ → List ℕ

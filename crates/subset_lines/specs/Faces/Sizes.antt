@@ -1,10 +1,10 @@
 -- The tables of a font before and after, with their sizes in bytes.
 use Rattle.std.specs.Prelude.{ℕ, List, [], ◌∷◌, ◌++◌, map, Option, Some, None, codes, decimal}
 use Rattle.subsetter_base.specs.declared.tag.Tag.{Tag}
-use Rattle.subset_lines.specs.Faces.Axes.{shown}
+use Rattle.plain_text.specs.Characters.{shown}
+use Rattle.plain_text.specs.Quoted.{quoted}
 use Rattle.subset_lines.specs.Objects.Json.{number_or_null}
 use Rattle.subset_lines.specs.declared.faces.sizes.TableSize.{TableSize}
-use Rattle.subset_lines.specs.Objects.AxesJson.{tag_open}
 
 abbrev pub size_or_none : Option ℕ → List ℕ
 size_or_none None = codes "none"
@@ -32,6 +32,9 @@ abbrev pub sizes_text : List TableSize → ℕ → ℕ → List ℕ
 sizes_text tables old new = table_lines tables ++ font_line old new
 
 -- ---- as members of a JSON object
+
+abbrev pub tag_open : Tag → List ℕ
+tag_open tag = codes "{\"tag\":" ++ quoted (map shown tag.0)
 
 abbrev pub sizes_close : TableSize → List ℕ
 sizes_close t = (codes ",\"old\":" ++ number_or_null t.old) ++ (codes ",\"new\":" ++ number_or_null t.new) ++ codes "}"

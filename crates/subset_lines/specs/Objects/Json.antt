@@ -1,8 +1,8 @@
 -- The same as one JSON object (RFC 8259).
 use Rattle.std.specs.Prelude.{ℕ, List, [], ◌∷◌, ◌++◌, drop, map, Option, Some, None, codes, decimal}
 use Rattle.subsetter_base.specs.Indexes.{index_of}
-use Rattle.subset_lines.specs.Faces.Axes.{shown}
-use Rattle.subset_lines.specs.Objects.Quoted.{quoted}
+use Rattle.plain_text.specs.Characters.{shown}
+use Rattle.plain_text.specs.Quoted.{quoted}
 use Rattle.subset_lines.specs.Text.{Numbers, first_character, first_name}
 
 -- the member that has a character's number
@@ -22,10 +22,10 @@ name_member [] = []
 name_member (b ∷ name) = codes ",\"name\":" ++ quoted (map shown (b ∷ name))
 
 -- the object of a glyph
-abbrev pub object_of : Option ℕ → List ℕ → ℕ → Option ℕ → List ℕ
+unfoldable pub object_of : Option ℕ → List ℕ → ℕ → Option ℕ → List ℕ
 object_of character name old new =
-    codes "{" ++ character_member character
-    ++ (codes "\"old\":" ++ decimal old ++ codes ",\"new\":" ++ number_or_null new) ++ name_member name ++ codes "}"
+    codes "{" ++ character_member character ++ (codes "\"old\":" ++ decimal old)
+    ++ codes ",\"new\":" ++ number_or_null new ++ name_member name ++ codes "}"
 
 -- the objects of glyphs, in order, with a text before the first and a comma between each two
 abbrev pub objects : List ℕ → List ℕ → List (Option ℕ) → List (List ℕ) → List ℕ → List ℕ

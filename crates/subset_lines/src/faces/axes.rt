@@ -6,16 +6,17 @@ ghost use Rattle.std.specs.Option.{ok_or};
 ghost use Rattle.subsetter_base.specs.Gives.{Gives};
 ghost use Rattle.subsetter_base.specs.declared.error.Error.TheVariants.{MalformedFont, OutOfMemory};
 ghost use Rattle.subsetter_variation.specs.Locations.Axes.{axes};
-ghost use Rattle.subset_lines.specs.Faces.Axes.{shown, after_blank, numbers_text, axis_line, axis_lines, records_at, instances_of, instances, coordinate_text, settings_text, instance_line, instance_lines, text_of};
-ghost use Rattle.subset_lines.specs.Fixed.{fixed_text};
+ghost use Rattle.subset_lines.specs.Faces.Axes.{after_blank, numbers_text, axis_line, axis_lines, records_at, instances_of, instances, coordinate_text, settings_text, instance_line, instance_lines, text_of};
+ghost use Rattle.plain_text.specs.Characters.{shown};
+ghost use Rattle.plain_text.specs.Fixed.{fixed_text};
 ghost use Rattle.subsetter_base.specs.Bytes.{number};
 
 use crate::faces::names::{NameTable, write_after};
 use crate::faces::outlines::{Outlines, write_outlines};
 use crate::faces::settings::{SettingForm, write_each};
-use crate::fixed::write_fixed;
 use crate::plain::flush;
-use plain_text::{Unwritten, write_text};
+use plain_text::characters::shown;
+use plain_text::{Unwritten, write_fixed, write_text};
 use std::alloc::Global;
 use std::io::Write;
 use subsetter_base::read::{Reader, after_four};
@@ -113,13 +114,6 @@ pub fn read_axes<'a>(alloc: Global, fvar: &'a [u8], names: &'a [u8]) -> Result<F
 }
 
 // ---- writing
-
-/// A byte as it is shown: a printable one of ASCII, and `?` for another.
-pub fn shown(byte: u8) -> u8
-    ensures { result ≡ shown byte }
-{
-    if byte >= 32 && byte < 127 { byte } else { b'?' }
-}
 
 /// The bytes of a tag, each as it is shown.
 pub fn tag_bytes(tag: Tag) -> [u8; 4]

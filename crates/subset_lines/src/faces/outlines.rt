@@ -4,8 +4,7 @@ ghost use Rattle.std.specs.Prelude.{◌≡◌, OnOk};
 ghost use Rattle.std.specs.Io.KnownBytes.{Appends};
 ghost use Rattle.subset_lines.specs.Faces.Outlines.{outlines_name, outlines_end, outlines_line, variable_member, outlines_members};
 
-use crate::objects::quoted::write_quoted;
-use plain_text::{Unwritten, write_text};
+use plain_text::{Unwritten, write_quoted, write_text};
 use std::io::Write;
 
 /// What the outlines of a face are.

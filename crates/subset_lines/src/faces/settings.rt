@@ -2,14 +2,13 @@
 
 ghost use Rattle.std.specs.Prelude.{◌≡◌, ◌++◌, [], OnOk, codes, map};
 ghost use Rattle.std.specs.Io.KnownBytes.{Appends};
-ghost use Rattle.subset_lines.specs.Faces.Axes.{shown, coordinate_text};
-ghost use Rattle.subset_lines.specs.Faces.Settings.{setting_by, settings_by};
-ghost use Rattle.subset_lines.specs.Objects.AxesJson.{setting_member};
+ghost use Rattle.plain_text.specs.Characters.{shown};
+ghost use Rattle.subset_lines.specs.Faces.Axes.{coordinate_text};
+ghost use Rattle.subset_lines.specs.Faces.Settings.{setting_member, setting_by, settings_by};
 ghost use Rattle.subsetter_base.specs.Bytes.{number};
 
 use crate::faces::axes::{tag_bytes, write_coordinate, write_tag};
-use crate::objects::quoted::write_quoted;
-use plain_text::{Unwritten, write_text};
+use plain_text::{Unwritten, write_quoted, write_text};
 use std::io::Write;
 use subsetter_base::Tag;
 use subsetter_base::read::after_four;

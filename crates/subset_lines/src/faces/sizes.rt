@@ -2,15 +2,13 @@
 
 ghost use Rattle.std.specs.Prelude.{◌≡◌, ◌++◌, [], OnOk, IfOk, codes, decimal, map};
 ghost use Rattle.std.specs.Io.KnownBytes.{Appends};
-ghost use Rattle.subset_lines.specs.Faces.Axes.{shown};
-ghost use Rattle.subset_lines.specs.Objects.Quoted.{quoted};
+ghost use Rattle.plain_text.specs.Characters.{shown};
+ghost use Rattle.plain_text.specs.Quoted.{quoted};
 ghost use Rattle.subset_lines.specs.Objects.Json.{number_or_null};
-ghost use Rattle.subset_lines.specs.Faces.Sizes.{size_or_none, table_front, change_text, sizes_close, tables_open, table_line, table_lines, font_line, sizes_text, table_object, table_objects, sizes_member, tables_member};
-ghost use Rattle.subset_lines.specs.Objects.AxesJson.{tag_open};
+ghost use Rattle.subset_lines.specs.Faces.Sizes.{tag_open, size_or_none, table_front, change_text, sizes_close, tables_open, table_line, table_lines, font_line, sizes_text, table_object, table_objects, sizes_member, tables_member};
 
 use crate::faces::axes::{tag_bytes, write_tag};
-use crate::objects::quoted::write_quoted;
-use plain_text::{Unwritten, write_count, write_text};
+use plain_text::{Unwritten, write_count, write_quoted, write_text};
 use std::alloc::Global;
 use std::io::Write;
 use subsetter_base::Tag;

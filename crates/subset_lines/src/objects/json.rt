@@ -2,19 +2,17 @@
 
 ghost use Rattle.std.specs.Prelude.{◌≡◌, ◌++◌, [], map, OnOk, IfOk, codes, decimal};
 ghost use Rattle.std.specs.Io.KnownBytes.{Appends};
-ghost use Rattle.subset_lines.specs.Objects.Json.{character_member, number_or_null, name_member, object_of, objects, widths_member, glyphs_member, json_of, numbers_from, array_of};
+ghost use Rattle.subset_lines.specs.Objects.Json.{character_member, number_or_null, name_member, object_of, objects, widths_member, json_of, numbers_from, array_of};
 ghost use Rattle.subset_lines.specs.View.{numbers_view};
 
 use crate::entry::{Numbering, name_at, take_first};
-use crate::objects::quoted::write_shown;
 use crate::plain::flush;
-use plain_text::{Unwritten, write_text};
+use plain_text::{Unwritten, Written, write_count, write_decimal, write_shown, write_text};
 use std::alloc::Global;
 use std::io::Write;
-use subsetter_base::GlyphRemapper;
 
 /// Writes the member that has a character's number, if there is a character.
-fn write_character<W: Write>(character: Option<char>, out: &mut W) -> Result<(), Unwritten>
+fn write_character<W: Write>(character: Option<char>, out: &mut W) -> Written
     ensures { OnOk result (Appends (W.contents out.old) (W.contents out.new) (character_member character)) }
 {
     let Some(character) = character else {
@@ -28,32 +26,18 @@ fn write_character<W: Write>(character: Option<char>, out: &mut W) -> Result<(),
 }
 
 /// Writes a new number, if there is one.
-fn write_new<W: Write>(new: Option<u16>, out: &mut W) -> Result<(), Unwritten>
+fn write_new<W: Write>(new: Option<u16>, out: &mut W) -> Written
     ensures { OnOk result (Appends (W.contents out.old) (W.contents out.new) (number_or_null new)) }
 {
-    let Some(new) = new else {
-        return write_text(b"null", out);
-    };
-    if write!(out, "{new}").is_err() {
-        return Err(Unwritten);
+    match new {
+        Some(new) => write_decimal(u64::from(new), out),
+        None => write_text(b"null", out),
     }
-    Ok(())
-}
-
-/// Writes the two members that have a glyph's numbers.
-#[tactic(auto, using(plain_text::proofs::Written::both))]
-fn write_old<W: Write>(old: u16, new: Option<u16>, out: &mut W) -> Result<(), Unwritten>
-    ensures { OnOk result (Appends (W.contents out.old) (W.contents out.new) (codes "\"old\":" ++ decimal old ++ codes ",\"new\":" ++ number_or_null new)) }
-{
-    if write!(out, "\"old\":{old},\"new\":").is_err() {
-        return Err(Unwritten);
-    }
-    write_new(new, out)
 }
 
 /// Writes the member that has a glyph's name, unless it is empty.
 #[tactic(auto, using(plain_text::proofs::Written::both))]
-fn write_name<W: Write>(name: &[u8], out: &mut W) -> Result<(), Unwritten>
+fn write_name<W: Write>(name: &[u8], out: &mut W) -> Written
     ensures { OnOk result (Appends (W.contents out.old) (W.contents out.new) (name_member name.now)) }
 {
     if name.is_empty() {
@@ -63,65 +47,48 @@ fn write_name<W: Write>(name: &[u8], out: &mut W) -> Result<(), Unwritten>
     write_shown(name, out)
 }
 
-/// Writes the object of a glyph, after a text.
-#[tactic(auto, using(plain_text::proofs::Written::both))]
+/// Writes the object of a glyph.
+#[tactic(auto, using(plain_text::proofs::Written::both), unfolding(crate::specs::Objects::Json::object_of))]
 fn write_object<W: Write>(
-    before: &[u8],
     character: Option<char>,
     name: &[u8],
     old: u16,
     new: Option<u16>,
     out: &mut W,
-) -> Result<(), Unwritten>
-    ensures { OnOk result (Appends (W.contents out.old) (W.contents out.new) (before.now ++ object_of character name.now old new)) }
+) -> Written
+    ensures { OnOk result (Appends (W.contents out.old) (W.contents out.new) (object_of character name.now old new)) }
 {
-    write_text(before, out)?;
     write_text(b"{", out)?;
     write_character(character, out)?;
-    write_old(old, new, out)?;
+    write_count(b"\"old\":", u64::from(old), out)?;
+    write_text(b",\"new\":", out)?;
+    write_new(new, out)?;
     write_name(name, out)?;
     write_text(b"}", out)
 }
 
-/// Writes the objects of glyphs, by characters and names as far as there are any.
+/// Writes the objects of the glyphs, by characters and names as far as there are any.
 #[tactic(auto, using(plain_text::proofs::Written::at_first, plain_text::proofs::Written::after_part, plain_text::proofs::Written::at_last))]
-fn write_each<W: Write>(
-    mapper: &GlyphRemapper,
-    characters: &[Option<char>],
-    names: &[&[u8]],
-    glyphs: &[u16],
-    out: &mut W,
-) -> Result<(), Unwritten>
-    ensures { OnOk result (Appends (W.contents out.old) (W.contents out.new) (objects [] mapper.now characters.now (map (λ name. name.now) names.now) glyphs.now)) }
+fn write_entries<W: Write>(numbering: &Numbering<'_>, out: &mut W) -> Written
+    ensures { OnOk result (Appends (W.contents out.old) (W.contents out.new) (objects [] numbering.now.mapper.now numbering.now.characters.now (map (λ name. name.now) numbering.now.names.now) numbering.now.glyphs.now)) }
 {
-    let mut characters = characters;
+    let (mapper, names, glyphs) = (numbering.mapper, numbering.names, numbering.glyphs);
+    let mut characters = numbering.characters;
     let mut before = b"".as_slice();
     for index in 0..glyphs.len() {
         let (character, others) = take_first(characters);
         let (name, glyph) = (name_at(names, index), glyphs[index]);
-        write_object(before, character, name, glyph, mapper.get(glyph), out)?;
+        write_text(before, out)?;
+        write_object(character, name, glyph, mapper.get(glyph), out)?;
         characters = others;
         before = b",".as_slice();
     }
     Ok(())
 }
 
-/// Writes the objects of the glyphs.
-fn write_entries<W: Write>(numbering: &Numbering<'_>, out: &mut W) -> Result<(), Unwritten>
-    ensures { OnOk result (Appends (W.contents out.old) (W.contents out.new) (objects [] numbering.now.mapper.now numbering.now.characters.now (map (λ name. name.now) numbering.now.names.now) numbering.now.glyphs.now)) }
-{
-    write_each(
-        numbering.mapper,
-        numbering.characters,
-        numbering.names,
-        numbering.glyphs,
-        out,
-    )
-}
-
 /// Writes the member that has the widths, unless their text is empty.
 #[tactic(auto, using(plain_text::proofs::Written::both))]
-fn write_widths<W: Write>(text: &[u8], out: &mut W) -> Result<(), Unwritten>
+fn write_widths<W: Write>(text: &[u8], out: &mut W) -> Written
     ensures { OnOk result (Appends (W.contents out.old) (W.contents out.new) (widths_member text.now)) }
 {
     if text.is_empty() {
@@ -131,79 +98,34 @@ fn write_widths<W: Write>(text: &[u8], out: &mut W) -> Result<(), Unwritten>
     write_text(text, out)
 }
 
-/// Writes the objects of the glyphs between two texts.
-#[tactic(auto, using(plain_text::proofs::Written::both))]
-fn write_between<W: Write>(
-    front: &[u8],
-    numbering: &Numbering<'_>,
-    following: &[u8],
-    out: &mut W,
-) -> Result<(), Unwritten>
-    ensures { OnOk result (Appends (W.contents out.old) (W.contents out.new) (front.now ++ objects [] numbering.now.mapper.now numbering.now.characters.now (map (λ name. name.now) numbering.now.names.now) numbering.now.glyphs.now ++ following.now)) }
-{
-    write_text(front, out)?;
-    write_entries(numbering, out)?;
-    write_text(following, out)
-}
-
-/// Writes the member that has the glyphs, and what opens the object.
-fn write_glyphs<W: Write>(numbering: &Numbering<'_>, out: &mut W) -> Result<(), Unwritten>
-    ensures { OnOk result (Appends (W.contents out.old) (W.contents out.new) (glyphs_member (numbers_view numbering.now))) }
-{
-    write_between(b"{\"glyphs\":[", numbering, b"]", out)
-}
-
-/// Writes the object.
-#[tactic(auto, using(plain_text::proofs::Written::both))]
-fn write_members<W: Write>(
-    numbering: &Numbering<'_>,
-    text: &[u8],
-    members: &[u8],
-    out: &mut W,
-) -> Result<(), Unwritten>
-    ensures { OnOk result (Appends (W.contents out.old) (W.contents out.new) (json_of (numbers_view numbering.now) text.now members.now)) }
-{
-    write_glyphs(numbering, out)?;
-    write_widths(text, out)?;
-    write_text(members, out)?;
-    write_text(b"}\n", out)
-}
-
 /// Writes the new numbers of the glyphs as one JSON object, with the text of an array of widths, unless it is empty, and the
 /// text of further members. Then it passes on what the writer keeps back.
-#[tactic(auto, using(plain_text::proofs::Written::flushed))]
+#[tactic(auto, using(plain_text::proofs::Written::both, plain_text::proofs::Written::flushed))]
 pub fn write_json<W: Write>(
     numbering: &Numbering<'_>,
     text: &[u8],
     members: &[u8],
     out: &mut W,
-) -> Result<(), Unwritten>
+) -> Written
     ensures { OnOk result (Appends (W.contents out.old) (W.contents out.new) (json_of (numbers_view numbering.now) text.now members.now)) }
 {
-    write_members(numbering, text, members, out)?;
+    write_text(b"{\"glyphs\":[", out)?;
+    write_entries(numbering, out)?;
+    write_text(b"]", out)?;
+    write_widths(text, out)?;
+    write_text(members, out)?;
+    write_text(b"}\n", out)?;
     flush(out)
-}
-
-/// Writes a number after a text.
-#[tactic(auto, using(plain_text::proofs::Written::both))]
-fn write_number<W: Write>(before: &[u8], number: u32, out: &mut W) -> Result<(), Unwritten>
-    ensures { OnOk result (Appends (W.contents out.old) (W.contents out.new) (before.now ++ decimal number)) }
-{
-    write_text(before, out)?;
-    if write!(out, "{number}").is_err() {
-        return Err(Unwritten);
-    }
-    Ok(())
 }
 
 /// Writes numbers with a comma between each two.
 #[tactic(auto, using(plain_text::proofs::Written::at_first, plain_text::proofs::Written::after_part, plain_text::proofs::Written::at_last))]
-fn write_numbers<W: Write>(numbers: &[u32], out: &mut W) -> Result<(), Unwritten>
+fn write_numbers<W: Write>(numbers: &[u32], out: &mut W) -> Written
     ensures { OnOk result (Appends (W.contents out.old) (W.contents out.new) (numbers_from [] numbers.now)) }
 {
     let mut before = b"".as_slice();
     for number in numbers {
-        write_number(before, *number, out)?;
+        write_count(before, u64::from(*number), out)?;
         before = b",".as_slice();
     }
     Ok(())
@@ -211,7 +133,7 @@ fn write_numbers<W: Write>(numbers: &[u32], out: &mut W) -> Result<(), Unwritten
 
 /// Writes an array of numbers.
 #[tactic(auto, using(plain_text::proofs::Written::both))]
-fn write_array<W: Write>(numbers: &[u32], out: &mut W) -> Result<(), Unwritten>
+fn write_array<W: Write>(numbers: &[u32], out: &mut W) -> Written
     ensures { OnOk result (Appends (W.contents out.old) (W.contents out.new) (array_of numbers.now)) }
 {
     write_text(b"[", out)?;

@@ -2,17 +2,16 @@
 
 ghost use Rattle.std.specs.Prelude.{◌≡◌, ◌++◌, [], OnOk, IfOk, codes, decimal};
 ghost use Rattle.std.specs.Io.KnownBytes.{Appends};
-ghost use Rattle.subset_lines.specs.Objects.Json.{array_of, numbers_from};
-ghost use Rattle.subset_lines.specs.Objects.Pdf.{name_member, pdf_member, pdf_open};
+ghost use Rattle.subset_lines.specs.Objects.Json.{numbers_from};
+ghost use Rattle.subset_lines.specs.Objects.Pdf.{pdf_member};
 
-use crate::objects::quoted::write_quoted;
-use plain_text::{Unwritten, write_count, write_text};
+use plain_text::{Piece, Unwritten, Written, write_count, write_pieces, write_text};
 use std::alloc::Global;
 use std::io::Write;
 
 /// Writes codes with a comma between each two.
 #[tactic(auto, using(plain_text::proofs::Written::at_first, plain_text::proofs::Written::after_part, plain_text::proofs::Written::at_last))]
-fn write_codes<W: Write>(numbers: &[u16], out: &mut W) -> Result<(), Unwritten>
+fn write_codes<W: Write>(numbers: &[u16], out: &mut W) -> Written
     ensures { OnOk result (Appends (W.contents out.old) (W.contents out.new) (numbers_from [] numbers.now)) }
 {
     let mut before = b"".as_slice();
@@ -23,48 +22,23 @@ fn write_codes<W: Write>(numbers: &[u16], out: &mut W) -> Result<(), Unwritten>
     Ok(())
 }
 
-/// Writes an array of codes.
-#[tactic(auto, using(plain_text::proofs::Written::both))]
-fn write_array<W: Write>(numbers: &[u16], out: &mut W) -> Result<(), Unwritten>
-    ensures { OnOk result (Appends (W.contents out.old) (W.contents out.new) (array_of numbers.now)) }
-{
-    write_text(b"[", out)?;
-    write_codes(numbers, out)?;
-    write_text(b"]", out)
-}
-
-/// Writes the name of the font.
-#[tactic(auto, using(plain_text::proofs::Written::both))]
-fn write_name<W: Write>(name: &[u8], out: &mut W) -> Result<(), Unwritten>
-    ensures { OnOk result (Appends (W.contents out.old) (W.contents out.new) (name_member name.now)) }
-{
-    write_text(b",\"font\":", out)?;
-    write_quoted(name, out)
-}
-
-/// Writes what opens the member: the bytes of the PDF, and the name of its font.
-#[tactic(auto, using(plain_text::proofs::Written::both))]
-fn write_open<W: Write>(size: u64, name: &[u8], out: &mut W) -> Result<(), Unwritten>
-    ensures { OnOk result (Appends (W.contents out.old) (W.contents out.new) (pdf_open size name.now)) }
-{
-    write_count(b",\"pdf\":{\"size\":", size, out)?;
-    write_name(name, out)
-}
-
 /// Writes the member.
 #[tactic(auto, using(plain_text::proofs::Written::both))]
-fn write_member<W: Write>(
-    size: u64,
-    name: &[u8],
-    numbers: &[u16],
-    out: &mut W,
-) -> Result<(), Unwritten>
+fn write_member<W: Write>(size: u64, name: &[u8], numbers: &[u16], out: &mut W) -> Written
     ensures { OnOk result (Appends (W.contents out.old) (W.contents out.new) (pdf_member size name.now numbers.now)) }
 {
-    write_open(size, name, out)?;
-    write_text(b",\"codes\":", out)?;
-    write_array(numbers, out)?;
-    write_text(b"}", out)
+    write_pieces(
+        &[
+            Piece::Text(b",\"pdf\":{\"size\":"),
+            Piece::Number(size),
+            Piece::Text(b",\"font\":"),
+            Piece::Quoted(name),
+            Piece::Text(b",\"codes\":["),
+        ],
+        out,
+    )?;
+    write_codes(numbers, out)?;
+    write_text(b"]}", out)
 }
 
 /// The text of the member `"pdf"` of a JSON object, with a comma before it: the bytes of the PDF, the name of its font, and

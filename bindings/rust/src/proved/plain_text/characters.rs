@@ -38,3 +38,12 @@ pub fn plain(character: char) -> char {
 pub fn plain_text(alloc: Global, text: &str) -> Result<String, AllocError> {
     text.chars().map(plain).collect_with(alloc)
 }
+
+/// A byte as it is shown: a printable one of ASCII, and `?` for another.
+pub fn shown(byte: u8) -> u8 {
+    if byte >= 32 && byte < 127 {
+        byte
+    } else {
+        b'?'
+    }
+}

@@ -7,8 +7,11 @@ use crate::rattle::io::Write;
 #[derive(Debug)]
 pub struct Unwritten;
 
+/// What a function that writes returns.
+pub type Written = Result<(), Unwritten>;
+
 /// Writes a text.
-pub fn write_text<W: Write>(text: &[u8], out: &mut W) -> Result<(), Unwritten> {
+pub fn write_text<W: Write>(text: &[u8], out: &mut W) -> Written {
     if out.write_all(text).is_err() {
         return Err(Unwritten);
     }
@@ -16,7 +19,7 @@ pub fn write_text<W: Write>(text: &[u8], out: &mut W) -> Result<(), Unwritten> {
 }
 
 /// Writes a number.
-pub fn write_decimal<W: Write>(number: u64, out: &mut W) -> Result<(), Unwritten> {
+pub fn write_decimal<W: Write>(number: u64, out: &mut W) -> Written {
     if write!(out, "{number}").is_err() {
         return Err(Unwritten);
     }
@@ -24,7 +27,7 @@ pub fn write_decimal<W: Write>(number: u64, out: &mut W) -> Result<(), Unwritten
 }
 
 /// Writes a number after a text.
-pub fn write_count<W: Write>(label: &[u8], number: u64, out: &mut W) -> Result<(), Unwritten> {
+pub fn write_count<W: Write>(label: &[u8], number: u64, out: &mut W) -> Written {
     write_text(label, out)?;
     write_decimal(number, out)
 }

@@ -3,8 +3,7 @@
 
 use crate::rattle::prelude::Vec;
 
-use crate::proved::plain_text::{write_text, Unwritten};
-use crate::proved::subset_lines::objects::quoted::write_quoted;
+use crate::proved::plain_text::{write_quoted, write_text, Unwritten};
 use crate::rattle::alloc::Global;
 use crate::rattle::io::Write;
 

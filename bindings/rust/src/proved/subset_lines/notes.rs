@@ -3,12 +3,10 @@
 
 use crate::rattle::prelude::Vec;
 
-use crate::proved::plain_text::{write_text, Unwritten};
+use crate::proved::plain_text::{write_labelled, write_quoted, write_text, Unwritten};
 use crate::proved::subset_lines::faces::axes::write_tag;
-use crate::proved::subset_lines::fixed::write_labelled;
 use crate::proved::subset_lines::index::{write_index_line, write_index_string};
 use crate::proved::subset_lines::missing::{write_missing_line, write_missing_string};
-use crate::proved::subset_lines::objects::quoted::write_quoted;
 use crate::proved::subsetter_base::Tag;
 use crate::proved::subsetter_variation::locations::axes::Axis;
 use crate::rattle::alloc::Global;

@@ -5,4 +5,3 @@ pub(crate) mod axes_json;
 pub(crate) mod json;
 pub(crate) mod members;
 pub(crate) mod pdf;
-pub(crate) mod quoted;

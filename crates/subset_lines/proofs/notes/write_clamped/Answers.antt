@@ -3,7 +3,7 @@ use Rattle.std.proofs.lemmas.Int.{to_z-of_z}
 use Rattle.std.specs.Prelude.{codes}
 use Rattle.std.specs.Io.KnownBytes.{Appends}
 use mir.Val.{SFits}
-use Rattle.subset_lines.specs.Fixed.{fixed_text}
+use Rattle.plain_text.specs.Fixed.{fixed_text}
 use Rattle.subset_lines.specs.Notes.{setting_text}
 use Rattle.plain_text.proofs.Written.{then}
 use Rattle.subset_lines.proofs.notes.write_clamped.Goals as goal

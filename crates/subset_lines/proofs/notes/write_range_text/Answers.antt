@@ -3,8 +3,8 @@ use Rattle.std.proofs.lemmas.Int.{to_z-of_z}
 use Rattle.std.specs.Prelude.{codes}
 use Rattle.std.specs.Io.KnownBytes.{Appends}
 use mir.Val.{SFits}
-use Rattle.subset_lines.specs.Faces.Axes.{shown}
-use Rattle.subset_lines.specs.Fixed.{fixed_text}
+use Rattle.plain_text.specs.Characters.{shown}
+use Rattle.plain_text.specs.Fixed.{fixed_text}
 use Rattle.plain_text.proofs.Written.{both, then}
 use Rattle.subset_lines.proofs.notes.write_range_text.Goals as goal
 

@@ -3,16 +3,15 @@
 ghost use Rattle.std.specs.Prelude.{◌++◌, [], OnOk, map};
 ghost use Rattle.std.specs.Io.KnownBytes.{Appends};
 ghost use Rattle.std.specs.Option.{option_copied};
-ghost use Rattle.subset_lines.specs.Objects.Quoted.{quoted};
+ghost use Rattle.plain_text.specs.Quoted.{quoted};
 ghost use Rattle.subset_lines.specs.Faces.Info.{strings, string_or_null, table_object, table_objects, counts_members, refusal_members, tables_member, info_members, info_json};
 
 use crate::faces::axes::tag_bytes;
 use crate::faces::info::face::{Info, permission_words};
 use crate::faces::outlines::write_outlines_members;
 use crate::faces::pictures::write_pictures_member;
-use crate::objects::quoted::write_quoted;
 use crate::plain::flush;
-use plain_text::{Unwritten, write_text};
+use plain_text::{Unwritten, write_quoted, write_text};
 use std::alloc::Global;
 use std::io::Write;
 use subsetter_base::Tag;

@@ -78,5 +78,6 @@ pub data HasLimitFault (cff : Cff) (tokens depth : ℕ) (glyphs : List ℕ) : Er
   large_index : (p : Parts) (items : List (List ℕ)) → AreDrafted cff tokens depth glyphs p
       → Contains (written_indexes p) items → 2 ^ 32 ≤ length (concat items) + 1
       → HasLimitFault cff tokens depth glyphs OverflowError
-  large_offset : (p : Parts) (n : ℕ) → AreDrafted cff tokens depth glyphs p → Contains (written_offsets p) n → 2 ^ 31 ≤ n
+  large_offset : (p : Parts) (n : ℕ) → AreDrafted cff tokens depth glyphs p → Contains (written_offsets p) n
+      → 2 ^ 31 ≤ n
       → HasLimitFault cff tokens depth glyphs OverflowError

@@ -3,11 +3,11 @@
 
 use crate::rattle::prelude::{Cast, Vec};
 
-use crate::proved::plain_text::{write_text, Unwritten};
+use crate::proved::plain_text::characters::shown;
+use crate::proved::plain_text::{write_fixed, write_text, Unwritten};
 use crate::proved::subset_lines::faces::names::{write_after, NameTable};
 use crate::proved::subset_lines::faces::outlines::{write_outlines, Outlines};
 use crate::proved::subset_lines::faces::settings::{write_each, SettingForm};
-use crate::proved::subset_lines::fixed::write_fixed;
 use crate::proved::subset_lines::plain::flush;
 use crate::proved::subsetter_base::read::{after_four, Reader};
 use crate::proved::subsetter_base::{Error, Tag};
@@ -96,15 +96,6 @@ pub fn read_axes<'a>(
 }
 
 // ---- writing
-
-/// A byte as it is shown: a printable one of ASCII, and `?` for another.
-pub fn shown(byte: u8) -> u8 {
-    if byte >= 32 && byte < 127 {
-        byte
-    } else {
-        b'?'
-    }
-}
 
 /// The bytes of a tag, each as it is shown.
 pub fn tag_bytes(tag: Tag) -> [u8; 4] {

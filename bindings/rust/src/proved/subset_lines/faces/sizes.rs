@@ -3,9 +3,8 @@
 
 use crate::rattle::prelude::Vec;
 
-use crate::proved::plain_text::{write_count, write_text, Unwritten};
+use crate::proved::plain_text::{write_count, write_quoted, write_text, Unwritten};
 use crate::proved::subset_lines::faces::axes::{tag_bytes, write_tag};
-use crate::proved::subset_lines::objects::quoted::write_quoted;
 use crate::proved::subsetter_base::Tag;
 use crate::rattle::alloc::Global;
 use crate::rattle::io::Write;

@@ -3,64 +3,46 @@
 
 use crate::rattle::prelude::Vec;
 
-use crate::proved::plain_text::{write_text, Unwritten};
-use crate::proved::subset_lines::faces::axes::{tag_bytes, FontAxes};
+use crate::proved::plain_text::{
+    write_pieces, write_quoted, write_text, Piece, Unwritten, Written,
+};
+use crate::proved::subset_lines::faces::axes::FontAxes;
 use crate::proved::subset_lines::faces::names::write_units;
 use crate::proved::subset_lines::faces::outlines::{write_outlines_members, Outlines};
 use crate::proved::subset_lines::faces::settings::{write_each, SettingForm};
-use crate::proved::subset_lines::fixed::write_labelled;
-use crate::proved::subset_lines::objects::quoted::write_quoted;
 use crate::proved::subset_lines::plain::flush;
 use crate::proved::subsetter_base::read::after_four;
-use crate::proved::subsetter_base::Tag;
 use crate::proved::subsetter_variation::locations::axes::Axis;
 use crate::rattle::alloc::Global;
 use crate::rattle::io::Write;
 
-/// Writes the tag of an axis, which opens its object.
-fn write_tag_open<W: Write>(tag: Tag, out: &mut W) -> Result<(), Unwritten> {
-    write_text(b"{\"tag\":", out)?;
-    write_quoted(&tag_bytes(tag), out)
-}
-
-/// Writes the coordinates of an axis, which close its object.
-fn write_axis_numbers<W: Write>(axis: &Axis, out: &mut W) -> Result<(), Unwritten> {
-    write_labelled(b",\"least\":", axis.minimum, out)?;
-    write_labelled(b",\"default\":", axis.default, out)?;
-    write_greatest(axis.maximum, out)
-}
-
-/// Writes the last of these.
-fn write_greatest<W: Write>(value: i32, out: &mut W) -> Result<(), Unwritten> {
-    write_labelled(b",\"greatest\":", value, out)?;
-    write_text(b"}", out)
-}
-
 /// Writes the object of an axis.
-fn write_axis_object<W: Write>(axis: &Axis, out: &mut W) -> Result<(), Unwritten> {
-    write_tag_open(axis.tag, out)?;
-    write_axis_numbers(axis, out)
-}
-
-/// Writes the object of an axis, after a text.
-fn write_axis<W: Write>(before: &[u8], axis: &Axis, out: &mut W) -> Result<(), Unwritten> {
-    write_text(before, out)?;
-    write_axis_object(axis, out)
+fn write_axis<W: Write>(axis: &Axis, out: &mut W) -> Written {
+    write_pieces(
+        &[
+            Piece::Text(b"{\"tag\":"),
+            Piece::Shown(axis.tag.get()),
+            Piece::Text(b",\"least\":"),
+            Piece::Fixed(axis.minimum),
+            Piece::Text(b",\"default\":"),
+            Piece::Fixed(axis.default),
+            Piece::Text(b",\"greatest\":"),
+            Piece::Fixed(axis.maximum),
+            Piece::Text(b"}"),
+        ],
+        out,
+    )
 }
 
 /// Writes the objects of axes.
-fn write_axis_objects<W: Write>(axes: &[Axis], out: &mut W) -> Result<(), Unwritten> {
+fn write_axis_objects<W: Write>(axes: &[Axis], out: &mut W) -> Written {
     let mut before = b"".as_slice();
     for axis in axes {
-        write_axis(before, axis, out)?;
+        write_text(before, out)?;
+        write_axis(axis, out)?;
         before = b",".as_slice();
     }
     Ok(())
-}
-
-/// Writes each axis with its coordinate.
-fn write_settings<W: Write>(axes: &[Axis], bytes: &[u8], out: &mut W) -> Result<(), Unwritten> {
-    write_each(SettingForm::Member, axes, bytes, out)
 }
 
 /// The text of a name.
@@ -71,92 +53,36 @@ pub fn text_of_name(alloc: Global, bytes: &[u8]) -> Result<Vec<u8>, Unwritten> {
 }
 
 /// Writes a name as a string, or `null`.
-fn write_name<W: Write>(alloc: Global, name: Option<&[u8]>, out: &mut W) -> Result<(), Unwritten> {
-    let bytes = match name {
-        Some(bytes) => bytes,
-        _ => {
-            return write_text(b"null", out);
-        }
-    };
-    let text = text_of_name(alloc, bytes)?;
-    write_quoted(&text, out)
-}
-
-/// Writes the name of a named instance, which opens its object.
-fn write_instance_name<W: Write>(
-    alloc: Global,
-    name: Option<&[u8]>,
-    out: &mut W,
-) -> Result<(), Unwritten> {
-    write_text(b"{\"name\":", out)?;
-    write_name(alloc, name, out)
-}
-
-/// Writes its coordinates, which close the object.
-fn write_instance_settings<W: Write>(
-    axes: &[Axis],
-    bytes: &[u8],
-    out: &mut W,
-) -> Result<(), Unwritten> {
-    write_text(b",\"coordinates\":{", out)?;
-    write_settings(axes, bytes, out)?;
-    write_text(b"}}", out)
+fn write_name<W: Write>(alloc: Global, name: Option<&[u8]>, out: &mut W) -> Written {
+    match name {
+        Some(bytes) => write_quoted(&text_of_name(alloc, bytes)?, out),
+        None => write_text(b"null", out),
+    }
 }
 
 /// Writes the object of a named instance.
-fn write_instance_object<W: Write>(
-    alloc: Global,
-    all: &FontAxes<'_>,
-    bytes: &[u8],
-    out: &mut W,
-) -> Result<(), Unwritten> {
-    write_instance_name(alloc, all.names.of_instance(bytes), out)?;
-    write_instance_settings(&all.axes, after_four(bytes), out)
-}
-
-/// Writes the same after a text.
 fn write_instance<W: Write>(
     alloc: Global,
-    before: &[u8],
     all: &FontAxes<'_>,
     bytes: &[u8],
     out: &mut W,
-) -> Result<(), Unwritten> {
-    write_text(before, out)?;
-    write_instance_object(alloc, all, bytes, out)
+) -> Written {
+    write_text(b"{\"name\":", out)?;
+    write_name(alloc, all.names.of_instance(bytes), out)?;
+    write_text(b",\"coordinates\":{", out)?;
+    write_each(SettingForm::Member, &all.axes, after_four(bytes), out)?;
+    write_text(b"}}", out)
 }
 
 /// Writes the objects of named instances.
-fn write_instances<W: Write>(
-    alloc: Global,
-    all: &FontAxes<'_>,
-    records: &[&[u8]],
-    out: &mut W,
-) -> Result<(), Unwritten> {
+fn write_instances<W: Write>(alloc: Global, all: &FontAxes<'_>, out: &mut W) -> Written {
     let mut before = b"".as_slice();
-    for bytes in records {
-        write_instance(alloc, before, all, bytes, out)?;
+    for bytes in &all.instances {
+        write_text(before, out)?;
+        write_instance(alloc, all, bytes, out)?;
         before = b",".as_slice();
     }
     Ok(())
-}
-
-/// Writes the member of the axes.
-fn write_axes_member<W: Write>(axes: &[Axis], out: &mut W) -> Result<(), Unwritten> {
-    write_text(b",\"axes\":[", out)?;
-    write_axis_objects(axes, out)?;
-    write_text(b"],", out)
-}
-
-/// Writes the member of the named instances, which closes the object.
-fn write_instances_member<W: Write>(
-    alloc: Global,
-    all: &FontAxes<'_>,
-    out: &mut W,
-) -> Result<(), Unwritten> {
-    write_text(b"\"instances\":[", out)?;
-    write_instances(alloc, all, &all.instances, out)?;
-    write_text(b"]}\n", out)
 }
 
 /// Writes the outlines, the axes and the named instances as one JSON object. Then it passes on what the writer keeps back.
@@ -166,9 +92,12 @@ pub fn write_axes_json<W: Write>(
     is_variable: bool,
     all: &FontAxes<'_>,
     out: &mut W,
-) -> Result<(), Unwritten> {
+) -> Written {
     write_outlines_members(outlines, is_variable, out)?;
-    write_axes_member(&all.axes, out)?;
-    write_instances_member(alloc, all, out)?;
+    write_text(b",\"axes\":[", out)?;
+    write_axis_objects(&all.axes, out)?;
+    write_text(b"],\"instances\":[", out)?;
+    write_instances(alloc, all, out)?;
+    write_text(b"]}\n", out)?;
     flush(out)
 }

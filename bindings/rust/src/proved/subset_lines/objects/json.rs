@@ -3,16 +3,16 @@
 
 use crate::rattle::prelude::Vec;
 
-use crate::proved::plain_text::{write_text, Unwritten};
+use crate::proved::plain_text::{
+    write_count, write_decimal, write_shown, write_text, Unwritten, Written,
+};
 use crate::proved::subset_lines::entry::{name_at, take_first, Numbering};
-use crate::proved::subset_lines::objects::quoted::write_shown;
 use crate::proved::subset_lines::plain::flush;
-use crate::proved::subsetter_base::GlyphRemapper;
 use crate::rattle::alloc::Global;
 use crate::rattle::io::Write;
 
 /// Writes the member that has a character's number, if there is a character.
-fn write_character<W: Write>(character: Option<char>, out: &mut W) -> Result<(), Unwritten> {
+fn write_character<W: Write>(character: Option<char>, out: &mut W) -> Written {
     let character = match character {
         Some(character) => character,
         _ => {
@@ -27,29 +27,15 @@ fn write_character<W: Write>(character: Option<char>, out: &mut W) -> Result<(),
 }
 
 /// Writes a new number, if there is one.
-fn write_new<W: Write>(new: Option<u16>, out: &mut W) -> Result<(), Unwritten> {
-    let new = match new {
-        Some(new) => new,
-        _ => {
-            return write_text(b"null", out);
-        }
-    };
-    if write!(out, "{new}").is_err() {
-        return Err(Unwritten);
+fn write_new<W: Write>(new: Option<u16>, out: &mut W) -> Written {
+    match new {
+        Some(new) => write_decimal(u64::from(new), out),
+        None => write_text(b"null", out),
     }
-    Ok(())
-}
-
-/// Writes the two members that have a glyph's numbers.
-fn write_old<W: Write>(old: u16, new: Option<u16>, out: &mut W) -> Result<(), Unwritten> {
-    if write!(out, "\"old\":{old},\"new\":").is_err() {
-        return Err(Unwritten);
-    }
-    write_new(new, out)
 }
 
 /// Writes the member that has a glyph's name, unless it is empty.
-fn write_name<W: Write>(name: &[u8], out: &mut W) -> Result<(), Unwritten> {
+fn write_name<W: Write>(name: &[u8], out: &mut W) -> Written {
     if name.is_empty() {
         return Ok(());
     }
@@ -57,91 +43,46 @@ fn write_name<W: Write>(name: &[u8], out: &mut W) -> Result<(), Unwritten> {
     write_shown(name, out)
 }
 
-/// Writes the object of a glyph, after a text.
+/// Writes the object of a glyph.
 fn write_object<W: Write>(
-    before: &[u8],
     character: Option<char>,
     name: &[u8],
     old: u16,
     new: Option<u16>,
     out: &mut W,
-) -> Result<(), Unwritten> {
-    write_text(before, out)?;
+) -> Written {
     write_text(b"{", out)?;
     write_character(character, out)?;
-    write_old(old, new, out)?;
+    write_count(b"\"old\":", u64::from(old), out)?;
+    write_text(b",\"new\":", out)?;
+    write_new(new, out)?;
     write_name(name, out)?;
     write_text(b"}", out)
 }
 
-/// Writes the objects of glyphs, by characters and names as far as there are any.
-fn write_each<W: Write>(
-    mapper: &GlyphRemapper,
-    characters: &[Option<char>],
-    names: &[&[u8]],
-    glyphs: &[u16],
-    out: &mut W,
-) -> Result<(), Unwritten> {
-    let mut characters = characters;
+/// Writes the objects of the glyphs, by characters and names as far as there are any.
+fn write_entries<W: Write>(numbering: &Numbering<'_>, out: &mut W) -> Written {
+    let (mapper, names, glyphs) = (numbering.mapper, numbering.names, numbering.glyphs);
+    let mut characters = numbering.characters;
     let mut before = b"".as_slice();
     for index in 0..glyphs.len() {
         let (character, others) = take_first(characters);
         let (name, glyph) = (name_at(names, index), glyphs[index]);
-        write_object(before, character, name, glyph, mapper.get(glyph), out)?;
+        write_text(before, out)?;
+        write_object(character, name, glyph, mapper.get(glyph), out)?;
         characters = others;
         before = b",".as_slice();
     }
     Ok(())
 }
 
-/// Writes the objects of the glyphs.
-fn write_entries<W: Write>(numbering: &Numbering<'_>, out: &mut W) -> Result<(), Unwritten> {
-    write_each(
-        numbering.mapper,
-        numbering.characters,
-        numbering.names,
-        numbering.glyphs,
-        out,
-    )
-}
-
 /// Writes the member that has the widths, unless their text is empty.
-fn write_widths<W: Write>(text: &[u8], out: &mut W) -> Result<(), Unwritten> {
+fn write_widths<W: Write>(text: &[u8], out: &mut W) -> Written {
     if text.is_empty() {
         return Ok(());
     }
     write_text(b",\"widths\":", out)?;
     write_text(text, out)
-}
-
-/// Writes the objects of the glyphs between two texts.
-fn write_between<W: Write>(
-    front: &[u8],
-    numbering: &Numbering<'_>,
-    following: &[u8],
-    out: &mut W,
-) -> Result<(), Unwritten> {
-    write_text(front, out)?;
-    write_entries(numbering, out)?;
-    write_text(following, out)
-}
-
-/// Writes the member that has the glyphs, and what opens the object.
-fn write_glyphs<W: Write>(numbering: &Numbering<'_>, out: &mut W) -> Result<(), Unwritten> {
-    write_between(b"{\"glyphs\":[", numbering, b"]", out)
-}
-
-/// Writes the object.
-fn write_members<W: Write>(
-    numbering: &Numbering<'_>,
-    text: &[u8],
-    members: &[u8],
-    out: &mut W,
-) -> Result<(), Unwritten> {
-    write_glyphs(numbering, out)?;
-    write_widths(text, out)?;
-    write_text(members, out)?;
-    write_text(b"}\n", out)
 }
 
 /// Writes the new numbers of the glyphs as one JSON object, with the text of an array of widths, unless it is empty, and the
@@ -151,32 +92,28 @@ pub fn write_json<W: Write>(
     text: &[u8],
     members: &[u8],
     out: &mut W,
-) -> Result<(), Unwritten> {
-    write_members(numbering, text, members, out)?;
+) -> Written {
+    write_text(b"{\"glyphs\":[", out)?;
+    write_entries(numbering, out)?;
+    write_text(b"]", out)?;
+    write_widths(text, out)?;
+    write_text(members, out)?;
+    write_text(b"}\n", out)?;
     flush(out)
 }
 
-/// Writes a number after a text.
-fn write_number<W: Write>(before: &[u8], number: u32, out: &mut W) -> Result<(), Unwritten> {
-    write_text(before, out)?;
-    if write!(out, "{number}").is_err() {
-        return Err(Unwritten);
-    }
-    Ok(())
-}
-
 /// Writes numbers with a comma between each two.
-fn write_numbers<W: Write>(numbers: &[u32], out: &mut W) -> Result<(), Unwritten> {
+fn write_numbers<W: Write>(numbers: &[u32], out: &mut W) -> Written {
     let mut before = b"".as_slice();
     for number in numbers {
-        write_number(before, *number, out)?;
+        write_count(before, u64::from(*number), out)?;
         before = b",".as_slice();
     }
     Ok(())
 }
 
 /// Writes an array of numbers.
-fn write_array<W: Write>(numbers: &[u32], out: &mut W) -> Result<(), Unwritten> {
+fn write_array<W: Write>(numbers: &[u32], out: &mut W) -> Written {
     write_text(b"[", out)?;
     write_numbers(numbers, out)?;
     write_text(b"]", out)

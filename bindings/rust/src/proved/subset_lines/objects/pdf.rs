@@ -3,13 +3,12 @@
 
 use crate::rattle::prelude::Vec;
 
-use crate::proved::plain_text::{write_count, write_text, Unwritten};
-use crate::proved::subset_lines::objects::quoted::write_quoted;
+use crate::proved::plain_text::{write_count, write_pieces, write_text, Piece, Unwritten, Written};
 use crate::rattle::alloc::Global;
 use crate::rattle::io::Write;
 
 /// Writes codes with a comma between each two.
-fn write_codes<W: Write>(numbers: &[u16], out: &mut W) -> Result<(), Unwritten> {
+fn write_codes<W: Write>(numbers: &[u16], out: &mut W) -> Written {
     let mut before = b"".as_slice();
     for number in numbers {
         write_count(before, u64::from(*number), out)?;
@@ -18,36 +17,20 @@ fn write_codes<W: Write>(numbers: &[u16], out: &mut W) -> Result<(), Unwritten> 
     Ok(())
 }
 
-/// Writes an array of codes.
-fn write_array<W: Write>(numbers: &[u16], out: &mut W) -> Result<(), Unwritten> {
-    write_text(b"[", out)?;
-    write_codes(numbers, out)?;
-    write_text(b"]", out)
-}
-
-/// Writes the name of the font.
-fn write_name<W: Write>(name: &[u8], out: &mut W) -> Result<(), Unwritten> {
-    write_text(b",\"font\":", out)?;
-    write_quoted(name, out)
-}
-
-/// Writes what opens the member: the bytes of the PDF, and the name of its font.
-fn write_open<W: Write>(size: u64, name: &[u8], out: &mut W) -> Result<(), Unwritten> {
-    write_count(b",\"pdf\":{\"size\":", size, out)?;
-    write_name(name, out)
-}
-
 /// Writes the member.
-fn write_member<W: Write>(
-    size: u64,
-    name: &[u8],
-    numbers: &[u16],
-    out: &mut W,
-) -> Result<(), Unwritten> {
-    write_open(size, name, out)?;
-    write_text(b",\"codes\":", out)?;
-    write_array(numbers, out)?;
-    write_text(b"}", out)
+fn write_member<W: Write>(size: u64, name: &[u8], numbers: &[u16], out: &mut W) -> Written {
+    write_pieces(
+        &[
+            Piece::Text(b",\"pdf\":{\"size\":"),
+            Piece::Number(size),
+            Piece::Text(b",\"font\":"),
+            Piece::Quoted(name),
+            Piece::Text(b",\"codes\":["),
+        ],
+        out,
+    )?;
+    write_codes(numbers, out)?;
+    write_text(b"]}", out)
 }
 
 /// The text of the member `"pdf"` of a JSON object, with a comma before it: the bytes of the PDF, the name of its font, and

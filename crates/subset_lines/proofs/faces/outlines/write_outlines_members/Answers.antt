@@ -2,7 +2,7 @@ use Rattle.std.proofs.Common.{◌++◌, subst}
 use Rattle.std.specs.Prelude.{codes}
 use Rattle.std.specs.Io.KnownBytes.{Appends}
 use Rattle.subset_lines.specs.Faces.Outlines.{outlines_name, variable_member}
-use Rattle.subset_lines.specs.Objects.Quoted.{quoted}
+use Rattle.plain_text.specs.Quoted.{quoted}
 use Rattle.plain_text.proofs.Written.{then}
 use Rattle.subset_lines.proofs.faces.outlines.write_outlines_members.Goals as goal
 

@@ -2,13 +2,13 @@
 
 ghost use Rattle.std.specs.Prelude.{◌≡◌, ◌≤◌, ◌<◌, ◌^◌, ◌++◌, OnOk};
 ghost use Rattle.std.specs.Io.KnownBytes.{Appends};
-ghost use Rattle.subset_lines.specs.Fixed.{padded, fraction, hundred_thousandths, size_text, sign_text, fixed_text};
+ghost use Rattle.plain_text.specs.Fixed.{padded, fraction, hundred_thousandths, size_text, sign_text, fixed_text};
 
-use plain_text::{Unwritten, write_text};
+use crate::text::{Unwritten, Written, write_text};
 use std::io::Write;
 
 /// Writes 100000ths, with as many digits as they need.
-fn write_fraction<W: Write>(n: u32, out: &mut W) -> Result<(), Unwritten>
+fn write_fraction<W: Write>(n: u32, out: &mut W) -> Written
     ensures { OnOk result (Appends (W.contents out.old) (W.contents out.new) (fraction n)) }
 {
     if n == 0 {
@@ -36,8 +36,8 @@ fn hundred_thousandths(n: u32) -> u32
 }
 
 /// Writes a number of 65536ths.
-#[tactic(auto, using(plain_text::proofs::Written::both))]
-fn write_size<W: Write>(n: u32, out: &mut W) -> Result<(), Unwritten>
+#[tactic(auto, using(crate::proofs::Written::both))]
+fn write_size<W: Write>(n: u32, out: &mut W) -> Written
     ensures { OnOk result (Appends (W.contents out.old) (W.contents out.new) (size_text n)) }
 {
     if write!(out, "{}", n / 65_536).is_err() {
@@ -47,7 +47,7 @@ fn write_size<W: Write>(n: u32, out: &mut W) -> Result<(), Unwritten>
 }
 
 /// Writes the minus of a number below 0.
-fn write_sign<W: Write>(value: i32, out: &mut W) -> Result<(), Unwritten>
+fn write_sign<W: Write>(value: i32, out: &mut W) -> Written
     ensures { OnOk result (Appends (W.contents out.old) (W.contents out.new) (sign_text value)) }
 {
     if value < 0 {
@@ -57,8 +57,8 @@ fn write_sign<W: Write>(value: i32, out: &mut W) -> Result<(), Unwritten>
 }
 
 /// Writes a coordinate of 65536ths.
-#[tactic(auto, using(plain_text::proofs::Written::both))]
-pub fn write_fixed<W: Write>(value: i32, out: &mut W) -> Result<(), Unwritten>
+#[tactic(auto, using(crate::proofs::Written::both))]
+pub fn write_fixed<W: Write>(value: i32, out: &mut W) -> Written
     ensures { OnOk result (Appends (W.contents out.old) (W.contents out.new) (fixed_text value)) }
 {
     write_sign(value, out)?;
@@ -66,8 +66,8 @@ pub fn write_fixed<W: Write>(value: i32, out: &mut W) -> Result<(), Unwritten>
 }
 
 /// Writes a coordinate after a text.
-#[tactic(auto, using(plain_text::proofs::Written::both))]
-pub fn write_labelled<W: Write>(label: &[u8], value: i32, out: &mut W) -> Result<(), Unwritten>
+#[tactic(auto, using(crate::proofs::Written::both))]
+pub fn write_labelled<W: Write>(label: &[u8], value: i32, out: &mut W) -> Written
     ensures { OnOk result (Appends (W.contents out.old) (W.contents out.new) (label.now ++ fixed_text value)) }
 {
     write_text(label, out)?;
