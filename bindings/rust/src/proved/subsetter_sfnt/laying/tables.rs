@@ -32,7 +32,6 @@ impl<'a> TableBytes for &'a [u8] {
 }
 
 /// The tables that a new font can have, whichever its kind of outlines is, each if it is there.
-#[derive(Clone, Copy)]
 pub struct FontTables<T> {
     pub cff: Option<T>,
     pub cvt: Option<T>,
@@ -69,18 +68,32 @@ pub fn in_order<T: TableBytes>(
     alloc: Global,
     tables: FontTables<T>,
 ) -> Result<Vec<NewTable<T>>, Error> {
+    let FontTables {
+        cff,
+        cvt,
+        fpgm,
+        glyf,
+        head,
+        hhea,
+        hmtx,
+        loca,
+        maxp,
+        name,
+        post,
+        prep,
+    } = tables;
     let mut list = Vec::with_capacity(alloc, 12)?;
-    push(&mut list, Tag::CFF, tables.cff);
-    push(&mut list, Tag::CVT, tables.cvt);
-    push(&mut list, Tag::FPGM, tables.fpgm);
-    push(&mut list, Tag::GLYF, tables.glyf);
-    push(&mut list, Tag::HEAD, tables.head);
-    push(&mut list, Tag::HHEA, tables.hhea);
-    push(&mut list, Tag::HMTX, tables.hmtx);
-    push(&mut list, Tag::LOCA, tables.loca);
-    push(&mut list, Tag::MAXP, tables.maxp);
-    push(&mut list, Tag::NAME, tables.name);
-    push(&mut list, Tag::POST, tables.post);
-    push(&mut list, Tag::PREP, tables.prep);
+    push(&mut list, Tag::CFF, cff);
+    push(&mut list, Tag::CVT, cvt);
+    push(&mut list, Tag::FPGM, fpgm);
+    push(&mut list, Tag::GLYF, glyf);
+    push(&mut list, Tag::HEAD, head);
+    push(&mut list, Tag::HHEA, hhea);
+    push(&mut list, Tag::HMTX, hmtx);
+    push(&mut list, Tag::LOCA, loca);
+    push(&mut list, Tag::MAXP, maxp);
+    push(&mut list, Tag::NAME, name);
+    push(&mut list, Tag::POST, post);
+    push(&mut list, Tag::PREP, prep);
     Ok(list)
 }
