@@ -196,6 +196,7 @@ def test_jobs_words(fonts_room):
                  "--batch requests --jobs", "--batch requests --jobs 2 --quiet", "--jobs 2 --batch requests --quiet", "--batch --jobs 2 requests", "--jobs --batch 2 requests", "--jobs 2 simple out 0 2"):
         status, out, err = run(line.split(" "), fonts_room)
         assert (status, out) == (2, b"") and err.startswith(USAGE.encode() + b"\n") and err.count(b"\n") == 3 and b"from 1 to 64" not in err, line
+    assert err == f"{USAGE}\n--jobs goes with --batch FILE alone\nexpected: --batch FILE --jobs N\n".encode()
     assert not (fonts_room / "six-0").exists() and not (fonts_room / "out").exists()
     for number in ("1", "2", "64", "01", "0064"):
         status, out, _ = run(["--jobs", number, "--batch", "requests"], fonts_room)
