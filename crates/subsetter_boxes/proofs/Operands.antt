@@ -1,5 +1,5 @@
 -- Operands that are within 2^45, one by one and those after some; and too few operands draw nothing.
-use Rattle.std.proofs.Common.{◌≡◌, ℕ, ℤ, pos, negsuc, ◌≤◌, ◌<◌, ◌-◌, ◌^◌, true, List, [], ◌∷◌, All, length, take, drop, get_or, FitsSigned, w64, to_z, of_z, unsigned_abs, Option, Some, refl, sym, ap, subst, arith, length-drop}
+use Rattle.std.proofs.Common.{◌≡◌, ℕ, ℤ, pos, negsuc, ◌≤◌, ◌<◌, ◌-◌, ◌^◌, true, List, [], ◌∷◌, All, length, take, drop, get_or, FitsSigned, w64, to_z, of_z, unsigned_abs, Some, refl, sym, ap, subst, arith, length-drop}
 use Rattle.std.proofs.lemmas.Int.{ints, to_z-of_z}
 use Rattle.std.proofs.lemmas.List.Elements.{All-drop, All-take}
 use Rattle.subsetter_blend.specs.Drawn.{curves, horizontal_curves, vertical_curves, odd_horizontal, odd_vertical}
