@@ -1,6 +1,6 @@
 -- The edges of boxes have 16 bits.
 use Rattle.std.proofs.Common.{◌≡◌, ℕ, ℤ, pos, negsuc, Bool, true, false, cond, FitsSigned, w16, List, [], ◌∷◌, length, map, Option, Some, None, refl, subst, arith}
-use Rattle.std.specs.Prelude.{if◌then◌else◌, IfSome}
+use Rattle.std.specs.Prelude.{if◌then◌else◌}
 use Rattle.std.specs.Int.{int_max, int_min}
 use Rattle.std.specs.List.{AllByRecursion, fold}
 use Rattle.std.specs.Option.{option_and_then}
@@ -12,7 +12,7 @@ use Rattle.subsetter_blend.specs.declared.writing.placing.Position.{Position}
 use Rattle.subsetter_blend.specs.Runs.Number.{is_within, whole}
 use Rattle.subsetter_blend.specs.Writing.Placed.{is_short}
 use Rattle.subsetter_boxes.specs.CharstringBox.{in_units, point_box, points, least, outline, outline_box, after_width, before_endchar, charstring_box}
-use Rattle.subsetter_boxes.specs.Joined.{around, joined, least_box, font_box}
+use Rattle.subsetter_boxes.specs.Joined.{joined, least_box, font_box}
 
 -- a box whose edges have 16 bits
 pub record IsShortBox (b : Bounds) : Type 0 where

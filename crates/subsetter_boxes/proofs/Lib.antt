@@ -4,6 +4,8 @@ mod Edges
 pub mod Fitting
 mod Followed
 mod Fronts
+mod Lines
+mod Operands
 mod Runs
 mod Shapes
 mod Turns

@@ -3,7 +3,7 @@ use Rattle.std.proofs.Common.{◌≡◌, ℕ, zero, suc, ◌+◌, ◌<◌, ◌�
 use Rattle.std.specs.Prelude.{IsSome}
 use Rattle.std.specs.Option.{option_or}
 use Rattle.std.proofs.lemmas.Bool.{cases_eq, cases_lt, eq-eqb, ne_eqb}
-use Rattle.std.proofs.lemmas.List.{get_or-set_same, get_or-set_other, map-append}
+use Rattle.std.proofs.lemmas.List.{append-nil, append_assoc, drop_more, get_or-set_same, get_or-set_other, map-append}
 use Rattle.std.proofs.lemmas.List.Elements.{All-append}
 use Rattle.std.specs.Prelude.{All}
 use Rattle.pdf_text.specs.Cmaps.Encoding.{IsPair, Pair}
@@ -133,3 +133,32 @@ zipped_end zero (k ∷ ks) [] h = refl
 zipped_end (suc i) (k ∷ ks) [] h = zipped_nil (drop i ks)
 zipped_end zero (k ∷ ks) (d ∷ ds) h = absurd (omega (arith, h))
 zipped_end (suc i) (k ∷ ks) (d ∷ ds) h = zipped_end i ks ds (omega (arith, h))
+
+-- ---- one CID of the table more
+
+pair_read : (ts : List (Option ℕ)) (front : List Pair) (k : ℕ) (m all : List Pair) → k < length ts → pair_of k (get_or ts k None) ≡ m → front ++ table_pairs k (drop k ts) ≡ all
+    → (front ++ m) ++ table_pairs (k + 1) (drop (k + 1) ts) ≡ all
+pair_read ts front k m all lt is h =
+    let others : List Pair = table_pairs (k + 1) (drop (k + 1) ts) in
+    append_assoc front m others
+    ∙ ap (λ (l : List Pair). front ++ (l ++ others)) (sym is)
+    ∙ sym (ap (λ (l : List (Option ℕ)). front ++ table_pairs k l) (drop_more ts k None lt))
+    ∙ h
+
+pub pair_put : (ts : List (Option ℕ)) (ps after : List CidOfCode) (p : CidOfCode) (k n : ℕ) (all : List Pair) → after ≡ ps ++ p ∷ [] → k < length ts → get_or ts k None ≡ Some n
+    → pair_view p ≡ record { code = k; cid = n } → pairs_view ps ++ table_pairs k (drop k ts) ≡ all → pairs_view after ++ table_pairs (k + 1) (drop (k + 1) ts) ≡ all
+pair_put ts ps after p k n all is lt here view h =
+    let others : List Pair = table_pairs (k + 1) (drop (k + 1) ts) in
+    ap (λ (l : List CidOfCode). pairs_view l ++ others) is
+    ∙ ap (λ (l : List Pair). l ++ others) (map-append pair_view ps (p ∷ []))
+    ∙ pair_read ts (pairs_view ps) k (pair_view p ∷ []) all lt (ap (pair_of k) here ∙ sym (ap (λ (q : Pair). q ∷ []) view)) h
+
+no_cid : (o : Option ℕ) → ((n : ℕ) → o ≡ Some n → ⊥) → o ≡ None
+no_cid None h = refl
+no_cid (Some n) h = absurd (h n refl)
+
+pub pair_left : (ts : List (Option ℕ)) (front : List Pair) (k : ℕ) (all : List Pair) → k < length ts → ((n : ℕ) → get_or ts k None ≡ Some n → ⊥) → front ++ table_pairs k (drop k ts) ≡ all
+    → front ++ table_pairs (k + 1) (drop (k + 1) ts) ≡ all
+pair_left ts front k all lt none h =
+    let others : List Pair = table_pairs (k + 1) (drop (k + 1) ts) in
+    sym (ap (λ (l : List Pair). l ++ others) (append-nil front)) ∙ pair_read ts front k [] all lt (ap (pair_of k) (no_cid (get_or ts k None) none)) h

@@ -1,7 +1,7 @@
 -- A table of texts that is filled from lines, and the lines that it has.
-use Rattle.std.proofs.Common.{◌≡◌, ℕ, zero, suc, ◌+◌, ◌<◌, ◌≤◌, cond, List, [], ◌∷◌, ◌++◌, length, get_or, set, replicate, refl, sym, ap, subst, ◌∙◌, inl, inr, arith}
+use Rattle.std.proofs.Common.{◌≡◌, ℕ, zero, suc, ◌+◌, ◌<◌, ◌≤◌, cond, List, [], ◌∷◌, ◌++◌, length, get_or, set, drop, replicate, refl, sym, ap, subst, ◌∙◌, inl, inr, arith}
 use Rattle.std.proofs.lemmas.Bool.{cases_eq, cases_lt, eq-eqb, ne_eqb}
-use Rattle.std.proofs.lemmas.List.{get_or-map, get_or-set_same, get_or-set_other, length-map, map-append, map-set}
+use Rattle.std.proofs.lemmas.List.{append-nil, append_assoc, drop_more, get_or-map, get_or-set_same, get_or-set_other, length-map, map-append, map-set}
 use Rattle.std.proofs.lemmas.List.Elements.{All-append}
 use Rattle.std.specs.Borrow.{Bor}
 use Rattle.std.specs.Prelude.{All}
@@ -159,3 +159,28 @@ written_at ts m code is lt none k rest =
 -- what is empty in the table is so in its view
 pub empty_at : (ts : List (Bor (List ℕ))) (c : ℕ) (d : Bor (List ℕ)) → c < length ts → length (get_or ts c d).now ≡ 0 → length (get_or (views ts) c []) ≡ 0
 empty_at ts c d lt none = ap length (get_or-map (λ (t : Bor (List ℕ)). t.now) ts c d [] lt) ∙ none
+
+-- ---- one text of the table more
+
+line_read : (ts : List (Bor (List ℕ))) (front : List Line) (k : ℕ) (d : Bor (List ℕ)) (m all : List Line) → k < length ts → line_of k (get_or ts k d).now ≡ m → front ++ table_lines k (views (drop k ts)) ≡ all
+    → (front ++ m) ++ table_lines (k + 1) (views (drop (k + 1) ts)) ≡ all
+line_read ts front k d m all lt is h =
+    let others : List Line = table_lines (k + 1) (views (drop (k + 1) ts)) in
+    append_assoc front m others
+    ∙ ap (λ (l : List Line). front ++ (l ++ others)) (sym is)
+    ∙ sym (ap (λ (l : List (Bor (List ℕ))). front ++ table_lines k (views l)) (drop_more ts k d lt))
+    ∙ h
+
+pub line_put : (ts : List (Bor (List ℕ))) (ls after : List Mapping) (m : Mapping) (k : ℕ) (d : Bor (List ℕ)) (all : List Line) → after ≡ ls ++ m ∷ [] → k < length ts → 0 < length (get_or ts k d).now
+    → line_view m ≡ record { code = k; units = (get_or ts k d).now } → lines_view ls ++ table_lines k (views (drop k ts)) ≡ all → lines_view after ++ table_lines (k + 1) (views (drop (k + 1) ts)) ≡ all
+line_put ts ls after m k d all is lt some view h =
+    let others : List Line = table_lines (k + 1) (views (drop (k + 1) ts)) in
+    ap (λ (l : List Mapping). lines_view l ++ others) is
+    ∙ ap (λ (l : List Line). l ++ others) (map-append line_view ls (m ∷ []))
+    ∙ line_read ts (lines_view ls) k d (line_view m ∷ []) all lt (line_is k (get_or ts k d).now some ∙ sym (ap (λ (l : Line). l ∷ []) view)) h
+
+pub line_left : (ts : List (Bor (List ℕ))) (front : List Line) (k : ℕ) (d : Bor (List ℕ)) (all : List Line) → k < length ts → length (get_or ts k d).now ≡ 0 → front ++ table_lines k (views (drop k ts)) ≡ all
+    → front ++ table_lines (k + 1) (views (drop (k + 1) ts)) ≡ all
+line_left ts front k d all lt none h =
+    let others : List Line = table_lines (k + 1) (views (drop (k + 1) ts)) in
+    sym (ap (λ (l : List Line). l ++ others) (append-nil front)) ∙ line_read ts front k d [] all lt (line_none k (get_or ts k d).now none) h

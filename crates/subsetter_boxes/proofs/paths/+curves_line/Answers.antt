@@ -1,7 +1,8 @@
-use Rattle.std.proofs.Common.{ℤ, List, FitsSigned, w64, get_or, pos, ap, ◌∙◌, rules}
+use Rattle.std.proofs.Common.{arith, ℤ, List, FitsSigned, w64, get_or, pos, ap, ◌∙◌, rules}
 use Rattle.std.proofs.lemmas.Int.{to_z-of_z}
 use Rattle.subsetter_blend.specs.Drawn.{curves_line}
 use Rattle.subsetter_boxes.specs.Traced.{traced}
+use Rattle.subsetter_boxes.proofs.Operands.{fewer, operand, operands_after}
 use Rattle.subsetter_boxes.proofs.Walks.{curves_line_go, curves_line_lost, rest_all}
 use Rattle.subsetter_boxes.proofs.paths.+curves_line.Goals as goal
 
@@ -24,3 +25,29 @@ returns-in_err-curve-in-len6-up-clause-value t c =
     let f4 : FitsSigned w64 (get_or c.args.operands.now 4 (pos 0)) = search rules in
     let f5 : FitsSigned w64 (get_or c.args.operands.now 5 (pos 0)) = search rules in
     rw c.from_residual.ensures (curves_line_lost c.args.pen c.args.operands.now c.in-len6-up.len_at_least (simp to_z-of_z at c.in_err-curve-in-len6-up.ensures.value))
+
+pub curve-requires-clause-dxa : goal.curve-requires-clause-dxa
+curve-requires-clause-dxa t c = operand c.args.operands.now 0 c.requires.within (omega (arith, c.in-len6-up.len_at_least))
+
+pub curve-requires-clause-dya : goal.curve-requires-clause-dya
+curve-requires-clause-dya t c = operand c.args.operands.now 1 c.requires.within (omega (arith, c.in-len6-up.len_at_least))
+
+pub curve-requires-clause-dxb : goal.curve-requires-clause-dxb
+curve-requires-clause-dxb t c = operand c.args.operands.now 2 c.requires.within (omega (arith, c.in-len6-up.len_at_least))
+
+pub curve-requires-clause-dyb : goal.curve-requires-clause-dyb
+curve-requires-clause-dyb t c = operand c.args.operands.now 3 c.requires.within (omega (arith, c.in-len6-up.len_at_least))
+
+pub curve-requires-clause-dxc : goal.curve-requires-clause-dxc
+curve-requires-clause-dxc t c = operand c.args.operands.now 4 c.requires.within (omega (arith, c.in-len6-up.len_at_least))
+
+pub curve-requires-clause-dyc : goal.curve-requires-clause-dyc
+curve-requires-clause-dyc t c = operand c.args.operands.now 5 c.requires.within (omega (arith, c.in-len6-up.len_at_least))
+
+pub curves_line-requires : goal.curves_line-requires
+curves_line-requires t c =
+    let xs : List ℤ = c.args.operands.now in
+    (omega (arith, fewer 6 xs (omega arith) c.in-len6-up.len_at_least, c.decreases), (c.in_ok-curve-in-len6-up.ensures.held, operands_after 6 xs c.requires.within))
+
+pub returns-in_err-curve-in-len6-up-clause-held : goal.returns-in_err-curve-in-len6-up-clause-held
+returns-in_err-curve-in-len6-up-clause-held t c = rw c.from_residual.ensures tt

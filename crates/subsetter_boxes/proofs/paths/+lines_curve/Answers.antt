@@ -2,6 +2,7 @@ use Rattle.std.proofs.Common.{arith, ℤ, List, FitsSigned, w64, get_or, pos, ap
 use Rattle.std.proofs.lemmas.Int.{to_z-of_z}
 use Rattle.subsetter_blend.specs.Drawn.{lines_curve}
 use Rattle.subsetter_boxes.specs.Traced.{traced}
+use Rattle.subsetter_boxes.proofs.Operands.{fewer, operand, operands_after}
 use Rattle.subsetter_boxes.proofs.Walks.{lines_curve_go, rest_all}
 use Rattle.subsetter_boxes.proofs.paths.+lines_curve.Goals as goal
 
@@ -10,3 +11,17 @@ returns-in_ok-go-in-len2-up-clause-value t c =
     let f0 : FitsSigned w64 (get_or c.args.operands.now 0 (pos 0)) = search rules in
     let f1 : FitsSigned w64 (get_or c.args.operands.now 1 (pos 0)) = search rules in
     lines_curve_go c.args.pen c.in_ok-go-in-len2-up.field-0 c.args.operands.now c.lines_curve.result c.in-len2-up.len_at_least (λ e. omega (arith, e)) (simp to_z-of_z at c.in_ok-go-in-len2-up.ensures.value) (simp to_z-of_z at c.in_ok-go-in-len2-up.ensures.at) (c.lines_curve.ensures.value ∙ ap (λ (l : List ℤ). traced (lines_curve c.in_ok-go-in-len2-up.field-0.at l) c.in_ok-go-in-len2-up.field-0) (rest_all 2 c.args.operands.now))
+
+pub go-requires-clause-dx : goal.go-requires-clause-dx
+go-requires-clause-dx t c = operand c.args.operands.now 0 c.requires.within (omega (arith, c.in-len2-up.len_at_least))
+
+pub go-requires-clause-dy : goal.go-requires-clause-dy
+go-requires-clause-dy t c = operand c.args.operands.now 1 c.requires.within (omega (arith, c.in-len2-up.len_at_least))
+
+pub lines_curve-requires : goal.lines_curve-requires
+lines_curve-requires t c =
+    let xs : List ℤ = c.args.operands.now in
+    (omega (arith, fewer 2 xs (omega arith) c.in-len2-up.len_at_least, c.decreases), (c.in_ok-go-in-len2-up.ensures.held, operands_after 2 xs c.requires.within))
+
+pub returns-in_err-go-in-len2-up-clause-held : goal.returns-in_err-go-in-len2-up-clause-held
+returns-in_err-go-in-len2-up-clause-held t c = rw c.from_residual.ensures tt
