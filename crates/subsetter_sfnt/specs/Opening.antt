@@ -14,7 +14,9 @@ use Rattle.subsetter_sfnt.specs.Read.{Font, table_in}
 
 -- the kind of the outlines, among the tables that a look-up finds
 unfoldable pub outlines_by : (List ℕ → Option (List ℕ)) → Result Outlines Error
-outlines_by find = if is_some (find (codes "glyf")) then Ok TrueType else (if is_some (find (codes "CFF ")) then Ok Cff else (if is_some (find (codes "CFF2")) then Ok Cff2 else Err UnknownKind))
+outlines_by find =
+    if is_some (find (codes "glyf")) then Ok TrueType else (if is_some (find (codes "CFF ")) then Ok Cff else
+    (if is_some (find (codes "CFF2")) then Ok Cff2 else Err UnknownKind))
 
 -- what opening finds: the bytes of the directory's records, and the kind of the outlines
 unfoldable pub opened_as : Font → Result (List ℕ × Outlines) Error

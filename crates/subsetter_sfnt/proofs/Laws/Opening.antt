@@ -1,6 +1,7 @@
 -- What opening finds, by its steps.
 use Rattle.std.proofs.Common.{◌≡◌, ℕ, Bool, true, false, cond, List, Option, Some, None, Result, Ok, Err, refl, sym, ap, subst, ◌∙◌, ◌⊎◌, inl, inr}
-use Rattle.std.specs.Prelude.{codes, is_some}
+use Rattle.std.specs.Prelude.{codes, is_some, IsSome}
+use Rattle.std.specs.Option.{option_and_then}
 use Rattle.subsetter_base.specs.Bytes.{◌>>=◌, IsBytes}
 use Rattle.subsetter_base.specs.declared.error.Error.{Error}
 use Rattle.subsetter_base.specs.declared.error.Error.TheVariants.{UnknownKind, Unimplemented}
@@ -9,13 +10,16 @@ use Rattle.subsetter_sfnt.specs.declared.extras.Extras.{Extras}
 use Rattle.subsetter_sfnt.specs.declared.face.Face.{Face}
 use Rattle.subsetter_sfnt.specs.declared.flavor.FontFlavor.{FontFlavor}
 use Rattle.subsetter_sfnt.specs.declared.flavor.FontFlavor.TheVariants as flavors
+use Rattle.subsetter_sfnt.specs.declared.opening.Opened.{Opened}
 use Rattle.subsetter_sfnt.specs.declared.opening.Outlines.{Outlines}
 use Rattle.subsetter_sfnt.specs.declared.opening.Outlines.TheVariants.{TrueType, Cff, Cff2}
+use Rattle.subsetter_sfnt.specs.Fault.{HasOpeningFault}
+use Rattle.subsetter_sfnt.proofs.Laws.Fault.{opened_refused, opened_records, flavored_refused, opened_clean}
 use Rattle.subsetter_sfnt.specs.Extras.{requested, by_hinting, by_names, by_glyph_names}
 use Rattle.subsetter_sfnt.specs.FontAt.{font_at}
-use Rattle.subsetter_sfnt.specs.Opening.{outlines_by, opened_as, flavor_of, IsOpened}
+use Rattle.subsetter_sfnt.specs.Opening.{outlines_by, opened_as, flavor_of, font_opened, IsOpened}
 use Rattle.subsetter_sfnt.specs.Plain.{opened, flavored}
-use Rattle.subsetter_sfnt.specs.Read.{Font, table_in}
+use Rattle.subsetter_sfnt.specs.Read.{Font, stored, table_in}
 
 -- ---- the steps
 
@@ -142,3 +146,73 @@ module _ (bytes : List ℕ) (index : ℕ) (extras : Extras) (face : Face) (here 
 
   pub is_refused : (e : Error) → SeenBy (Err e) → opened_as (font_at bytes index extras) ≡ Err e
   is_refused e seen = not_found (font_at bytes index extras) face.records.now e read (moved (Err e) seen)
+
+-- ---- faults
+
+-- a font that isn't opened has a fault of that name
+pub refused : (font : Font) (e : Error) → opened_as font ≡ Err e → HasOpeningFault font e
+refused font e h = elim (by_fault font e h) [ inl o ↦ opened_refused font e o | inr r ↦ flavored_refused font r.0 e r.1 (unflavored_of font.extras (table_in font.bytes r.0) e r.2) ]
+
+module _ (font : Font) (records : List ℕ) (outlines : Outlines) (h : opened_as font ≡ Ok (records, outlines)) where
+  pub flavored_as : flavored (requested font.extras (table_in font.bytes records)) ≡ flavor_of outlines
+  flavored_as = flavored_of font.extras (table_in font.bytes records) outlines (by_steps font records outlines h).1
+
+  pub cff2_refused : outlines ≡ Cff2 → HasOpeningFault font Unimplemented
+  cff2_refused is = flavored_refused font records Unimplemented (by_steps font records outlines h).0 (flavored_as ∙ ap flavor_of is)
+
+  -- with outlines that a file can be written with it has none
+  pub has_none : (flavor : FontFlavor) → flavor_of outlines ≡ Ok flavor → (e : Error) → HasOpeningFault font e → ⊥
+  has_none flavor is e f = opened_clean font records flavor e (by_steps font records outlines h).0 (flavored_as ∙ is) f
+
+-- ---- the tables of outlines
+
+kind_truetype : (glyf cff cff2 : Option (List ℕ)) → kind_by glyf cff cff2 ≡ Ok TrueType → IsSome glyf
+kind_truetype (Some a) cff cff2 h = refl
+kind_truetype None (Some b) cff2 h = absurd cc
+kind_truetype None None (Some c) h = absurd cc
+kind_truetype None None None h = absurd cc
+
+kind_cff : (glyf cff cff2 : Option (List ℕ)) → kind_by glyf cff cff2 ≡ Ok Cff → (glyf ≡ None) × IsSome cff
+kind_cff (Some a) cff cff2 h = absurd cc
+kind_cff None (Some b) cff2 h = (refl, refl)
+kind_cff None None (Some c) h = absurd cc
+kind_cff None None None h = absurd cc
+
+kind_cff2 : (glyf cff cff2 : Option (List ℕ)) → kind_by glyf cff cff2 ≡ Ok Cff2 → (glyf ≡ None) × (cff ≡ None) × IsSome cff2
+kind_cff2 (Some a) cff cff2 h = absurd cc
+kind_cff2 None (Some b) cff2 h = absurd cc
+kind_cff2 None None (Some c) h = (refl, refl, refl)
+kind_cff2 None None None h = absurd cc
+
+kind_none : (glyf cff cff2 : Option (List ℕ)) (e : Error) → kind_by glyf cff cff2 ≡ Err e → (glyf ≡ None) × (cff ≡ None) × (cff2 ≡ None)
+kind_none (Some a) cff cff2 e h = absurd cc
+kind_none None (Some b) cff2 e h = absurd cc
+kind_none None None (Some c) e h = absurd cc
+kind_none None None None e h = (refl, refl, refl)
+
+module _ (find : List ℕ → Option (List ℕ)) where
+  pub has_glyf : outlines_by find ≡ Ok TrueType → IsSome (find (codes "glyf"))
+  unfolding outlines_by
+  has_glyf h = kind_truetype (find (codes "glyf")) (find (codes "CFF ")) (find (codes "CFF2")) h
+
+  pub has_cff : outlines_by find ≡ Ok Cff → (find (codes "glyf") ≡ None) × IsSome (find (codes "CFF "))
+  unfolding outlines_by
+  has_cff h = kind_cff (find (codes "glyf")) (find (codes "CFF ")) (find (codes "CFF2")) h
+
+  pub has_cff2 : outlines_by find ≡ Ok Cff2 → (find (codes "glyf") ≡ None) × (find (codes "CFF ") ≡ None) × IsSome (find (codes "CFF2"))
+  unfolding outlines_by
+  has_cff2 h = kind_cff2 (find (codes "glyf")) (find (codes "CFF ")) (find (codes "CFF2")) h
+
+  pub lacks_all : (e : Error) → outlines_by find ≡ Err e → (find (codes "glyf") ≡ None) × (find (codes "CFF ") ≡ None) × (find (codes "CFF2") ≡ None)
+  unfolding outlines_by
+  lacks_all e h = kind_none (find (codes "glyf")) (find (codes "CFF ")) (find (codes "CFF2")) e h
+
+-- ---- the tables of a font that was opened
+
+pub find_is : (font : Font) (records : List ℕ) → opened font ≡ Ok records → table_in font.bytes records ≡ stored font
+find_is font records h =
+    let by : Option (List ℕ) → List ℕ → Option (List ℕ) = λ o tag. option_and_then (λ directory. table_in font.bytes directory tag) o in
+    ap by (sym (opened_records font records h))
+
+pub find_opened : (o : Opened) → IsOpened o → table_in o.face.«data».now o.face.records.now ≡ stored (font_opened o)
+find_opened o is = find_is (font_opened o) o.face.records.now (by_steps (font_opened o) o.face.records.now o.outlines is.finds).0
