@@ -13,6 +13,7 @@ use Rattle.subsetter_sfnt.specs.Fault.{HasOpeningFault}
 use Rattle.subsetter_sfnt.specs.Read.{Font}
 use Rattle.subsetter.specs.Fault.{HasFault, in_opening}
 use Rattle.subsetter.specs.Subset.{IsSubset}
+use Rattle.subsetter.proofs.Headline.{not_memory}
 use Rattle.subsetter.specs.Answer.{IsAnswer}
 use Rattle.subsetter.specs.Bound as bounds
 use Rattle.subsetter.specs.Bound.{IsWithin, HasFaultWithin, HasNoAnswerWithin}
@@ -81,6 +82,10 @@ module _ (bound : Option ℕ) (tokens depth : ℕ) (font : Font) (glyphs : List 
   mapper_final why (inl memory) = inl memory
   mapper_final why (inr (all_asked all)) = inr (λ e within a. a.clean OverflowError (in_numbering all))
   mapper_final why (inr (unopened fault)) = inr (λ e within a. a.clean why (in_subset (in_opening fault)))
+
+  -- the promise of a font that can't be opened
+  pub closed : (e : Error) → HasOpeningFault font e → IsEmbedPromised bound tokens depth font glyphs (Err e)
+  closed e f = refused bound tokens depth font glyphs e (mapper_refused e (inr (unopened f))) (mapper_final e (inr (unopened f))) (λ d g m. not_memory font e f m)
 
   pub subset_final : (mapper : List ℕ) (why : Error) → mapper ≡ numbering glyphs → (why ≡ OutOfMemory) ⊎ HasNoAnswerWithin bound tokens depth font mapper → IsFinal bound tokens depth font glyphs why
   subset_final mapper why m (inl memory) = inl memory

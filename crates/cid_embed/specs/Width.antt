@@ -1,6 +1,5 @@
 -- Widths of glyphs as a PDF has them: advances in thousandths of the em (OpenType, "head", "hhea" and "hmtx").
-use Rattle.std.specs.Prelude.{◌≡◌, ℕ, ◌+◌, ◌*◌, ◌/◌, List, codes, Option, Some, None}
-use Rattle.subsetter_base.specs.Bytes.{number}
+use Rattle.std.specs.Prelude.{◌≡◌, ℕ, ◌+◌, ◌*◌, ◌/◌, codes, Option, Some, None}
 use Rattle.subsetter_base.specs.declared.error.Error.{Error}
 use Rattle.subsetter_base.specs.declared.error.Error.TheVariants.{MalformedFont}
 use Rattle.subsetter_base.specs.Options.{◌>>=◌}

@@ -7,14 +7,14 @@ ghost use Rattle.subsetter_base.specs.declared.error.Error.{Error as SpecError};
 ghost use Rattle.subsetter_base.specs.declared.error.Error.TheVariants.{OutOfMemory};
 ghost use Rattle.subsetter_sfnt.specs.Extras.{all_extras};
 ghost use Rattle.subsetter_sfnt.specs.Fault.{HasOpeningFault};
+ghost use Rattle.subsetter_sfnt.specs.Opening.{IsOpened, font_opened};
 ghost use Rattle.subsetter.specs.Limits.{token_limit, depth_limit};
 ghost use Rattle.cid_embed.specs.Embed.{numbering, HasMapperFault, IsEmbedPromised};
 
 use crate::widths::read_widths;
 use std::alloc::Global;
-use subsetter::{
-    Error, Extras, GlyphRemapper, Limits, Options, check_opening, subset_with_options,
-};
+use subsetter::{Error, Extras, GlyphRemapper, Limits, Options, check_opening, subset_opened};
+use subsetter_sfnt::opening::{Opened, open};
 
 /// What a PDF writer needs of a font for the glyphs that it requests.
 #[derive(Debug, Drop)]
@@ -130,8 +130,51 @@ pub fn embed_with_options(
     ensures promise { IsEmbedPromised options.now.limits.bytes options.now.limits.tokens options.now.limits.depth (font_at «data».now index options.now.extras) glyphs.now result }
 {
     let mapper = mapper_for(alloc, data, index, glyphs, options.extras)?;
-    let font = subset_with_options(alloc, data, index, &mapper, options)?;
+    embed_numbered(alloc, data, index, &mapper, glyphs, options)
+}
+
+/// As `embed_with_options`, where the mapper of the glyphs is made.
+///
+/// # Errors
+///
+/// Those of `embed_with_options`, but for the first.
+pub fn embed_numbered(
+    alloc: Global,
+    data: &[u8],
+    index: u32,
+    mapper: &GlyphRemapper,
+    glyphs: &[u16],
+    options: &Options,
+) -> Result<Embedded, Error>
+    requires numbers { mapper.now ≡ numbering glyphs.now }
+    requires room { ¬ (HasAllAboveZero glyphs.now) }
+    // What is returned is the subset with CIDs and widths, what is refused has a fault of that name, or every answer passes the bound on bytes.
+    ensures promise { IsEmbedPromised options.now.limits.bytes options.now.limits.tokens options.now.limits.depth (font_at «data».now index options.now.extras) glyphs.now result }
+{
+    let opened = open(data, index, options.extras)?;
+    embed_opened(alloc, &opened, mapper, glyphs, &options.limits)
+}
+
+/// As `embed_numbered`, of a font that is opened.
+///
+/// # Errors
+///
+/// Those of `embed_numbered`.
+pub fn embed_opened(
+    alloc: Global,
+    opened: &Opened<'_>,
+    mapper: &GlyphRemapper,
+    glyphs: &[u16],
+    limits: &Limits,
+) -> Result<Embedded, Error>
+    requires opened { IsOpened opened.now }
+    requires numbers { mapper.now ≡ numbering glyphs.now }
+    requires room { ¬ (HasAllAboveZero glyphs.now) }
+    // What is returned is the subset with CIDs and widths, what is refused has a fault of that name, or every answer passes the bound on bytes.
+    ensures promise { IsEmbedPromised limits.now.bytes limits.now.tokens limits.now.depth (font_opened opened.now) glyphs.now result }
+{
+    let font = subset_opened(alloc, opened, mapper, limits)?;
     let widths = read_widths(alloc, &font, mapper.num_gids())?;
-    let cids = cids(alloc, &mapper, glyphs)?;
+    let cids = cids(alloc, mapper, glyphs)?;
     Ok(Embedded { font, cids, widths })
 }

@@ -20,7 +20,10 @@ mod shrinking;
 mod widths;
 
 pub use array::write_widths;
-pub use embedding::{Embedded, embed, embed_with_limits, embed_with_options, mapper_for};
+pub use embedding::{
+    Embedded, embed, embed_numbered, embed_opened, embed_with_limits, embed_with_options,
+    mapper_for,
+};
 pub use reader::Metrics;
 pub use shrinking::{shrink, shrink_font};
 pub use widths::all_widths;

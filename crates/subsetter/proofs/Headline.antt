@@ -20,12 +20,14 @@ use Rattle.subsetter_base.specs.Within.{GivesWithin, is_past, IsTooLong}
 use Rattle.std.proofs.lemmas.Bool.{ltb-false}
 use Rattle.subsetter_sfnt.specs.Extras.{requested}
 use Rattle.subsetter_sfnt.specs.Read.{Font, table, table_in, flavor}
+use Rattle.subsetter_sfnt.specs.Opening.{opened_as}
 use Rattle.subsetter_sfnt.specs.Plain.{opened, flavored}
 use Rattle.subsetter_sfnt.specs.Fault.{HasOpeningFault, no_kind, no_entry, entry_outside, no_face, nested, cut_directory, no_outlines, lone_cff2}
 use Rattle.subsetter.proofs.TruetypeLaws.Fault.{StandsWithin, has_fault, no_fault}
 use Rattle.subsetter.proofs.TruetypeLaws.Bound.{none_within}
 use Rattle.subsetter.proofs.CffLaws.Bound.{is_beyond}
 use Rattle.subsetter_sfnt.proofs.Laws.Fault.{opened_refused, opened_records, flavored_refused, opened_clean}
+use Rattle.subsetter_sfnt.proofs.Laws.Opening.{by_fault, unflavored_of}
 use Rattle.subsetter.proofs.TruetypeLaws.Subset.{is_subset}
 use Rattle.subsetter.proofs.CffLaws.Fault.{cff_has_fault, is_cff_subset}
 use Rattle.subsetter.proofs.TruetypeLaws.PlainAnswers.{gave_ok_within, gave_err_within}
@@ -160,11 +162,14 @@ module _ {X : Type 0} (file : X → List ℕ) (bound : Option ℕ) (tokens depth
   refusal : (e : Error) → HasOpeningFault font e → (e ≡ OutOfMemory) ⊎ StandsWithin bound tokens depth font glyphs e → (e ≡ OutOfMemory) ⊎ HasNoAnswerWithin bound tokens depth font glyphs → IsPromised file bound tokens depth font glyphs (Err e)
   refusal e fault stands none = record { exact = tt; within = tt; err = stands; no_answer = none; before_memory = λ d f k. not_memory font e fault (let is = k in cc) }
 
-  pub unopened : (e : Error) → opened font ≡ Err e → IsPromised file bound tokens depth font glyphs (Err e)
+  unopened : (e : Error) → opened font ≡ Err e → IsPromised file bound tokens depth font glyphs (Err e)
   unopened e h = refusal e (opened_refused font e h) (unopened_err bound tokens depth font glyphs e h) (unopened_no_answer bound tokens depth font glyphs e h)
 
   pub unflavored : (d : List ℕ) (e : Error) → opened font ≡ Ok d → flavored (requested font.extras (table_in font.bytes d)) ≡ Err e → IsPromised file bound tokens depth font glyphs (Err e)
   unflavored d e o h = refusal e (flavored_refused font d e o h) (unflavored_err bound tokens depth font glyphs d e o h) (unflavored_no_answer bound tokens depth font glyphs d e o h)
+
+  pub closed : (e : Error) → opened_as font ≡ Err e → IsPromised file bound tokens depth font glyphs (Err e)
+  closed e h = elim (by_fault font e h) [ inl o ↦ unopened e o | inr r ↦ unflavored r.0 e r.1 (unflavored_of font.extras (table_in font.bytes r.0) e r.2) ]
 
   module _ (d : List ℕ) (o : opened font ≡ Ok d) (bytes : IsBytes font.bytes) (first : slice_get glyphs 0 ≡ Some 0) (r : Result X Error) (fits : IfOk r (λ x. is_past bound (length (file x)) ≡ false)) where
     abbrev pub find : List ℕ → Option (List ℕ)

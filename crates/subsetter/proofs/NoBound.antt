@@ -1,5 +1,5 @@
 -- What is said within a bound, where none is set.
-use Rattle.std.proofs.Common.{◌≡◌, ℕ, List, None, refl}
+use Rattle.std.proofs.Common.{ℕ, List, None, refl}
 use Rattle.subsetter_base.specs.declared.error.Error.{Error}
 use Rattle.subsetter_base.proofs.Options.{some_not_none}
 use Rattle.subsetter_sfnt.specs.Read.{Font}

@@ -25,4 +25,6 @@ pub use choice::Options;
 pub use subsetter_base::{Error, GlyphRemapper, RemappedGids, Tag, TagLengthError};
 pub use subsetter_sfnt::extras::Extras;
 pub use subsetter_type2::limits::Limits;
-pub use subsetting::{check_opening, subset, subset_with_limits, subset_with_options};
+pub use subsetting::{
+    check_opening, subset, subset_opened, subset_with_limits, subset_with_options,
+};

@@ -8,6 +8,7 @@ ghost use Rattle.subsetter.specs.Cff.Plain.{cff_file};
 ghost use Rattle.subsetter_sfnt.specs.Read.{as_font};
 ghost use Rattle.subsetter_sfnt.specs.Extras.{all_extras};
 ghost use Rattle.subsetter_sfnt.specs.FontAt.{font_at, tables_of};
+ghost use Rattle.subsetter_sfnt.specs.Opening.{IsOpened, font_opened};
 ghost use Rattle.subsetter.specs.Glyf.BareOutlines.Instructions.{HasNoInstructions};
 ghost use Rattle.subsetter.specs.Truetype.Answered.{IsAnswered, IsRefused};
 ghost use Rattle.subsetter_sfnt.specs.Fault.{HasOpeningFault};
@@ -22,10 +23,10 @@ use std::alloc::Global;
 use subsetter_base::{Error, GlyphRemapper, Tag};
 use subsetter_sfnt::extras::Extras;
 use subsetter_sfnt::face::Face;
-use subsetter_sfnt::flavor::{FontFlavor, flavor};
+use subsetter_sfnt::flavor::FontFlavor;
 use subsetter_sfnt::laying::construct::finish;
 use subsetter_sfnt::laying::tables::in_order;
-use subsetter_sfnt::parse::parse;
+use subsetter_sfnt::opening::{Opened, Outlines, open};
 use subsetter_type2::limits::Limits;
 
 /// A subset of a TrueType font. Where `bytes` is given, it has at most that many.
@@ -187,14 +188,35 @@ pub fn subset_with_options(
     // Without hinting the new font has no instructions, read afresh.
     ensures bare { IfOk result (λ out. OnFalse options.now.extras.hinting (HasNoInstructions (as_font out.items))) }
 {
+    let opened = open(data, index, options.extras)?;
+    subset_opened(alloc, &opened, mapper, &options.limits)
+}
+
+/// As `subset_with_options`, of a font that is opened.
+///
+/// # Errors
+///
+/// Those of `subset_with_options`.
+pub fn subset_opened(
+    alloc: Global,
+    opened: &Opened<'_>,
+    mapper: &GlyphRemapper,
+    limits: &Limits,
+) -> Result<Vec<u8>, Error>
+    requires { IsOpened opened.now }
+    // What is returned is the subset, what is refused has a fault of that name, or every answer passes the bound on bytes.
+    ensures promise { IsPromised (λ v. v.items) limits.now.bytes limits.now.tokens limits.now.depth (font_opened opened.now) mapper.now result }
+    // Without hinting the new font has no instructions, read afresh.
+    ensures bare { IfOk result (λ out. OnFalse opened.now.face.extras.hinting (HasNoInstructions (as_font out.items))) }
+{
     // What `num_gids` says of the mapper, that glyph 0 comes first, is a premise of the proof.
     let _count = mapper.num_gids();
     // So is what `depth` says of the limits, that a glyph's own charstring is within them.
-    let _depth = options.limits.depth();
-    let face = parse(data, index, options.extras)?;
-    match flavor(&face)? {
-        FontFlavor::TrueType => subset_truetype(alloc, &face, options.limits.bytes(), mapper),
-        FontFlavor::Cff => subset_cff(alloc, &face, options.limits, mapper),
+    let _depth = limits.depth();
+    match opened.outlines {
+        Outlines::TrueType => subset_truetype(alloc, &opened.face, limits.bytes(), mapper),
+        Outlines::Cff => subset_cff(alloc, &opened.face, *limits, mapper),
+        Outlines::Cff2 => Err(Error::Unimplemented),
     }
 }
 
@@ -203,9 +225,7 @@ pub fn subset_with_options(
 ///
 /// # Errors
 ///
-/// - `UnknownKind`: the file doesn't begin with a known kind of font, or has none of `glyf`, `CFF ` and `CFF2`.
-/// - `MalformedFont`: the collection has no entry for `index`, that entry doesn't lead to the header of a single font, or
-///   the header or a record of the directory is cut.
+/// - Those of `open`.
 /// - `Unimplemented`: the outlines are those of `CFF2`.
 pub fn check_opening(data: &[u8], index: u32, extras: Extras) -> Result<(), Error>
     // A font that can be opened has no such fault.
@@ -213,7 +233,9 @@ pub fn check_opening(data: &[u8], index: u32, extras: Extras) -> Result<(), Erro
     // What can't be opened has a fault of that name.
     ensures err { IfErr result (λ e. HasOpeningFault (font_at «data».now index extras) e) }
 {
-    let face = parse(data, index, extras)?;
-    flavor(&face)?;
-    Ok(())
+    match open(data, index, extras)?.outlines {
+        Outlines::Cff2 => Err(Error::Unimplemented),
+        Outlines::TrueType => Ok(()),
+        Outlines::Cff => Ok(()),
+    }
 }

@@ -3,6 +3,7 @@ pub mod FieldsLaws
 pub mod LayingLaws
 pub mod Back
 pub mod Fault
+pub mod Opening
 pub mod Lookups
 pub mod Container
 pub mod Asked

@@ -2,6 +2,7 @@ pub mod Alone
 pub mod Extras
 pub mod Read
 pub mod Plain
+pub mod Opening
 pub mod Laying
 pub mod Container
 pub mod View

@@ -1,11 +1,11 @@
 -- Small facts that the laws share.
-use Rattle.std.proofs.Common.{◌≡◌, ℕ, ◌+◌, ◌-◌, ◌*◌, ◌%◌, ◌<◌, ◌≤◌, Bool, true, false, ◌&&◌, cond, List, [], ◌∷◌, ◌++◌, length, Option, Some, None, refl, sym, ap, ◌∙◌, arith}
+use Rattle.std.proofs.Common.{◌≡◌, ℕ, ◌-◌, ◌%◌, ◌<◌, Bool, true, false, ◌&&◌, cond, List, [], ◌∷◌, ◌++◌, length, Option, Some, refl, sym, ap, ◌∙◌, arith}
 use Rattle.std.specs.Prelude.{replicate, filter}
-use Rattle.std.specs.Option.{option_and_then, option_map}
+use Rattle.std.specs.Option.{option_and_then}
 use Rattle.std.proofs.lemmas.List.{append-nil}
-use Rattle.subsetter_base.specs.Bytes.{be, range, number, aligned}
+use Rattle.subsetter_base.specs.Bytes.{aligned}
 use Rattle.subsetter_sfnt.specs.Read.{Font}
-use Rattle.subsetter.specs.Glyf.Read.{Outlines, outlines, outline, outline_in, offset, entry_size}
+use Rattle.subsetter.specs.Glyf.Read.{outline}
 use Rattle.subsetter.specs.Glyf.BareOutlines.Bare.{glyph_parts}
 use Rattle.subsetter.specs.Glyf.Parts.{Parts, outline_parts}
 use Rattle.subsetter.specs.Truetype.Read.{HasGlyphCount}

@@ -1,18 +1,16 @@
 -- A font of which less is asked for: the tables that it still has, and what is made of them.
-use Rattle.std.proofs.Common.{◌≡◌, ℕ, Bool, true, false, ◌&&◌, ◌≤◌, cond, List, length, take, drop, Option, Some, None, Result, Ok, refl, sym, ap, subst, ◌∙◌, inl, inr, arith, ◌++◌}
+use Rattle.std.proofs.Common.{◌≡◌, ℕ, Bool, true, false, ◌&&◌, ◌≤◌, cond, List, length, take, drop, Option, Some, None, Ok, refl, sym, ap, subst, ◌∙◌, inl, inr, arith, ◌++◌}
 use Rattle.std.specs.Prelude.{codes, is_some}
 use Rattle.std.specs.Option.{option_and_then, option_map}
 use Rattle.std.specs.Str.{bytes_eq}
 use Rattle.std.specs.Int.{w32, to_be_bytes}
 use Rattle.std.proofs.lemmas.Bool.{le-leb, lt-leb, cases_lt}
 use Rattle.std.proofs.lemmas.List.{length-append, length-take-le, length-drop, take-take}
-use Rattle.subsetter_base.specs.declared.error.Error.{Error}
 use Rattle.subsetter_sfnt.specs.declared.face.FontKind.{FontKind}
 use Rattle.subsetter_sfnt.specs.declared.face.FontKind.TheVariants.{Collection, Single}
-use Rattle.subsetter_sfnt.specs.declared.flavor.FontFlavor.{FontFlavor}
 use Rattle.subsetter_sfnt.specs.declared.flavor.FontFlavor.TheVariants.{TrueType, Cff}
 use Rattle.subsetter_sfnt.specs.Extras.{without_glyph_names, by_hinting, by_names, by_glyph_names}
-use Rattle.subsetter_sfnt.specs.Read.{Font, kind_at, header_by_kind, header_offset, records_at, records, table_in, stored, table, flavor}
+use Rattle.subsetter_sfnt.specs.Read.{Font, kind_at, header_by_kind, header_offset, records_at, table_in, stored, table, flavor}
 use Rattle.subsetter.specs.Glyf.Read.{Outlines, outlines_in, outlines, outline_in}
 use Rattle.subsetter.specs.Glyf.Reaching.Reach.{IsGlyphOrder, IsGlyphOrderBy}
 use Rattle.subsetter.specs.Common.Name.Plain.{new_name, name_of}

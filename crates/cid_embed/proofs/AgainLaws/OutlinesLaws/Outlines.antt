@@ -1,5 +1,5 @@
 -- The outlines of a subset of a subset: numbers that are given twice, and padding that is written anyway.
-use Rattle.std.proofs.Common.{◌≡◌, ℕ, zero, suc, ◌+◌, ◌%◌, ◌^◌, ◌<◌, ltb, Bool, true, false, cond, List, [], ◌∷◌, ◌++◌, length, get_or, drop, Option, Some, Result, Ok, Err, refl, sym, ap, subst, ◌∙◌, arith}
+use Rattle.std.proofs.Common.{◌≡◌, ℕ, zero, suc, ◌+◌, ◌%◌, ◌^◌, ◌<◌, ltb, Bool, true, false, cond, List, [], ◌∷◌, ◌++◌, length, get_or, Option, Some, Result, Ok, Err, refl, sym, ap, subst, ◌∙◌, arith}
 use Rattle.std.specs.Prelude.{map}
 use Rattle.std.specs.Option.{option_map, ok_or}
 use Rattle.std.specs.List.{flat_map}
@@ -7,10 +7,9 @@ use Rattle.std.proofs.lemmas.List.{length-append}
 use Rattle.std.proofs.lemmas.List.Sums.{sum_by-cons}
 use Rattle.subsetter_base.specs.Bytes.{aligned, IsBytes, ◌>>=◌}
 use Rattle.subsetter_base.specs.declared.error.Error.TheVariants.{MalformedFont, OverflowError}
-use Rattle.subsetter_base.proofs.ByteLemmas.{IsBytes-drop}
 use Rattle.subsetter_base.proofs.Results.{bind_ok, done_is}
 use Rattle.subsetter.specs.Glyf.BareOutlines.Bare.{requested_parts}
-use Rattle.subsetter.specs.Glyf.Parts.{Component, Parts, Empty, Simple, Composite, outline_parts, parts_bytes, spelled, Chain}
+use Rattle.subsetter.specs.Glyf.Parts.{Component, Parts, Empty, Simple, Composite, outline_parts, parts_bytes, spelled}
 use Rattle.subsetter.specs.Glyf.Plain.{renumbered_component, renumbered, rewritten, kept, kept_all}
 use Rattle.subsetter_base.specs.Indexes.{new_index}
 use Rattle.subsetter.specs.Glyf.Read.{Outlines, outline_in}
@@ -19,7 +18,7 @@ use Rattle.subsetter_sfnt.specs.Fields.Loca.{offset_bytes}
 use Rattle.subsetter.specs.Glyf.Written.{even_size, is_long, glyf_bytes, loca_bytes}
 use Rattle.subsetter.specs.Truetype.Plain.{located}
 use Rattle.subsetter.proofs.GlyfLaws.Back.{length-even}
-use Rattle.subsetter.proofs.GlyfLaws.Parts.{padded-append, padded-nil, chain_is, chain-even, length-spelled}
+use Rattle.subsetter.proofs.GlyfLaws.Parts.{padded-append, padded-nil, chain-even, length-spelled}
 use Rattle.subsetter.proofs.GlyfLaws.ReachingLaws.Unfold.{EachGlyph, CanBeWritten, can_empty, can_simple, can_composite, asked_can, padded_parts, components_of}
 use Rattle.cid_embed.proofs.AgainLaws.Basics.{padded_twice}
 

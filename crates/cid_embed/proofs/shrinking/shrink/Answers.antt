@@ -1,7 +1,6 @@
 use Rattle.std.proofs.Common.{◌≡◌, ℕ, ◌⊎◌, List, length, None, subst}
 use Rattle.std.specs.Prelude.{IfOk, IfErr}
 use Rattle.subsetter_base.specs.Bytes.{IsBytes}
-use Rattle.subsetter_base.specs.declared.error.Error.{Error}
 use Rattle.subsetter_base.specs.declared.error.Error.TheVariants.{OutOfMemory}
 use Rattle.subsetter_cff.specs.Write.Again.{AreAll}
 use Rattle.subsetter.specs.Limits.{token_limit, depth_limit}

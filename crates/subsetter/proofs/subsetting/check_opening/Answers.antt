@@ -1,34 +1,36 @@
-use Rattle.std.proofs.Common.{◌≡◌, List, ℕ, Result, Ok, Err, sym, ap, ◌∙◌}
+use Rattle.std.proofs.Common.{sym, ap, subst}
 use Rattle.std.proofs.lemmas.Result.{err_from_is_err_and}
-use Rattle.subsetter_base.specs.declared.error.Error.{Error}
-use Rattle.subsetter_sfnt.specs.declared.extras.Extras.{Extras}
-use Rattle.subsetter_sfnt.specs.declared.flavor.FontFlavor.{FontFlavor}
-use Rattle.subsetter_sfnt.specs.Extras.{requested}
-use Rattle.subsetter_sfnt.specs.Read.{Font, table_in}
-use Rattle.subsetter_sfnt.specs.Plain.{flavored}
-use Rattle.subsetter_sfnt.proofs.Laws.Fault.{opened_refused, flavored_refused, opened_clean}
+use Rattle.subsetter_base.specs.declared.error.Error.TheVariants.{Unimplemented}
+use Rattle.subsetter_sfnt.specs.declared.flavor.FontFlavor.TheVariants.{TrueType, Cff}
+use Rattle.subsetter_sfnt.specs.FontAt.{font_at}
+use Rattle.subsetter_sfnt.specs.Opening.{flavor_of, font_opened}
+use Rattle.subsetter_sfnt.specs.Fault.{HasOpeningFault}
+use Rattle.subsetter_sfnt.specs.Read.{Font}
+use Rattle.subsetter_sfnt.proofs.Laws.Opening.{refused, cff2_refused, has_none}
 use Rattle.subsetter.proofs.subsetting.check_opening.Goals as goal
 
--- the kind of the outlines of the file's own bytes
-same_flavor : (seen bytes records : List ℕ) (x y : Extras) (r : Result FontFlavor Error) → seen ≡ bytes → x ≡ y → r ≡ flavored (requested x (table_in seen records)) → flavored (requested y (table_in bytes records)) ≡ r
-same_flavor seen bytes records x y r e f h =
-    ap (λ (b : List ℕ). flavored (requested y (table_in b records))) (sym e) ∙ ap (λ (z : Extras). flavored (requested z (table_in seen records))) (sym f) ∙ sym h
-
-pub returns-in_err-face-clause-err : goal.returns-in_err-face-clause-err
-returns-in_err-face-clause-err c =
-    let font : Font = record { bytes = c.args.«data».now; index = c.args.index; extras = c.args.extras } in
+pub returns-in_err-open-clause-err : goal.returns-in_err-open-clause-err
+returns-in_err-open-clause-err c =
     let p = err_from_is_err_and c.from_residual.result c.from_residual.ensures.1 in
-    rw (p.1, p.2) (opened_refused font c.in_err-face.field-0.0 c.in_err-face.ensures.err)
+    rw (p.1, p.2) (refused (font_at c.args.«data».now c.args.index c.args.extras) c.in_err-open.field-0.0 c.in_err-open.ensures.err)
 
-pub returns-in_err-flavor-clause-err : goal.returns-in_err-flavor-clause-err
-returns-in_err-flavor-clause-err c =
-    let font : Font = record { bytes = c.args.«data».now; index = c.args.index; extras = c.args.extras } in
-    let p = err_from_is_err_and c.from_residual-in_err-flavor.result c.from_residual-in_err-flavor.ensures.1 in
-    let f = same_flavor c.in_ok-face.face.«data».now c.args.«data».now c.in_ok-face.face.records.now c.in_ok-face.face.extras c.args.extras (Err c.in_err-flavor.field-0.0) c.in_ok-face.ensures.ok.0 c.in_ok-face.ensures.extras c.in_err-flavor.ensures in
-    rw (p.1, p.2) (flavored_refused font c.in_ok-face.face.records.now c.in_err-flavor.field-0.0 c.in_ok-face.ensures.ok.1 f)
+pub returns-in-Cff2-clause-err : goal.returns-in-Cff2-clause-err
+returns-in-Cff2-clause-err c =
+    let o = c.in_ok-open.field-0 in
+    subst (λ (f : Font). HasOpeningFault f Unimplemented) c.in_ok-open.ensures.font (cff2_refused (font_opened o) o.face.records.now o.outlines c.in_ok-open.ensures.ok.finds c.in-Cff2.is)
 
-pub returns-clause-ok : goal.returns-clause-ok
-returns-clause-ok c = λ e fault.
-    let font : Font = record { bytes = c.args.«data».now; index = c.args.index; extras = c.args.extras } in
-    let f = same_flavor c.in_ok-face.face.«data».now c.args.«data».now c.in_ok-face.face.records.now c.in_ok-face.face.extras c.args.extras (Ok c.in_ok-flavor.field-0) c.in_ok-face.ensures.ok.0 c.in_ok-face.ensures.extras c.in_ok-flavor.ensures in
-    opened_clean font c.in_ok-face.face.records.now c.in_ok-flavor.field-0 e c.in_ok-face.ensures.ok.1 f fault
+pub returns-in-TrueType : goal.returns-in-TrueType
+returns-in-TrueType c =
+    let o = c.in_ok-open.field-0 in
+    record {
+      ok = λ e f. has_none (font_opened o) o.face.records.now o.outlines c.in_ok-open.ensures.ok.finds TrueType (ap flavor_of c.in-TrueType.is) e (subst (λ (x : Font). HasOpeningFault x e) (sym c.in_ok-open.ensures.font) f);
+      err = tt;
+    }
+
+pub returns-in-Cff : goal.returns-in-Cff
+returns-in-Cff c =
+    let o = c.in_ok-open.field-0 in
+    record {
+      ok = λ e f. has_none (font_opened o) o.face.records.now o.outlines c.in_ok-open.ensures.ok.finds Cff (ap flavor_of c.in-Cff.is) e (subst (λ (x : Font). HasOpeningFault x e) (sym c.in_ok-open.ensures.font) f);
+      err = tt;
+    }
