@@ -5,8 +5,9 @@ use crate::rattle::prelude::Vec;
 
 use crate::proved::cid_embed::widths::read_widths;
 use crate::proved::subsetter::{
-    check_opening, subset_with_options, Error, Extras, GlyphRemapper, Options,
+    check_opening, subset_opened, Error, Extras, GlyphRemapper, Limits, Options,
 };
+use crate::proved::subsetter_sfnt::opening::{open, Opened};
 use crate::rattle::alloc::Global;
 
 /// What a PDF writer needs of a font for the glyphs that it requests.
@@ -67,8 +68,40 @@ pub fn embed_with_options(
     options: &Options,
 ) -> Result<Embedded, Error> {
     let mapper = mapper_for(alloc, data, index, glyphs, options.extras)?;
-    let font = subset_with_options(alloc, data, index, &mapper, options)?;
+    embed_numbered(alloc, data, index, &mapper, glyphs, options)
+}
+
+/// As `embed_with_options`, where the mapper of the glyphs is made.
+///
+/// # Errors
+///
+/// Those of `embed_with_options`, but for the first.
+pub fn embed_numbered(
+    alloc: Global,
+    data: &[u8],
+    index: u32,
+    mapper: &GlyphRemapper,
+    glyphs: &[u16],
+    options: &Options,
+) -> Result<Embedded, Error> {
+    let opened = open(data, index, options.extras)?;
+    embed_opened(alloc, &opened, mapper, glyphs, &options.limits)
+}
+
+/// As `embed_numbered`, of a font that is opened.
+///
+/// # Errors
+///
+/// Those of `embed_numbered`.
+pub fn embed_opened(
+    alloc: Global,
+    opened: &Opened<'_>,
+    mapper: &GlyphRemapper,
+    glyphs: &[u16],
+    limits: &Limits,
+) -> Result<Embedded, Error> {
+    let font = subset_opened(alloc, opened, mapper, limits)?;
     let widths = read_widths(alloc, &font, mapper.num_gids())?;
-    let cids = cids(alloc, &mapper, glyphs)?;
+    let cids = cids(alloc, mapper, glyphs)?;
     Ok(Embedded { font, cids, widths })
 }

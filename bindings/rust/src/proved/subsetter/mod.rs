@@ -24,4 +24,4 @@ pub use crate::proved::subsetter_base::{Error, GlyphRemapper, Tag};
 pub use crate::proved::subsetter_sfnt::extras::Extras;
 pub use crate::proved::subsetter_type2::limits::Limits;
 pub use choice::Options;
-pub use subsetting::{check_opening, subset_with_options};
+pub use subsetting::{check_opening, subset_opened, subset_with_options};

@@ -10,10 +10,10 @@ use crate::proved::subsetter::truetype::{self, TrueTypeTables};
 use crate::proved::subsetter_base::{Error, GlyphRemapper, Tag};
 use crate::proved::subsetter_sfnt::extras::Extras;
 use crate::proved::subsetter_sfnt::face::Face;
-use crate::proved::subsetter_sfnt::flavor::{flavor, FontFlavor};
+use crate::proved::subsetter_sfnt::flavor::FontFlavor;
 use crate::proved::subsetter_sfnt::laying::construct::finish;
 use crate::proved::subsetter_sfnt::laying::tables::in_order;
-use crate::proved::subsetter_sfnt::parse::parse;
+use crate::proved::subsetter_sfnt::opening::{open, Opened, Outlines};
 use crate::proved::subsetter_type2::limits::Limits;
 use crate::rattle::alloc::Global;
 
@@ -67,13 +67,28 @@ pub fn subset_with_options(
     mapper: &GlyphRemapper,
     options: &Options,
 ) -> Result<Vec<u8>, Error> {
+    let opened = open(data, index, options.extras)?;
+    subset_opened(alloc, &opened, mapper, &options.limits)
+}
+
+/// As `subset_with_options`, of a font that is opened.
+///
+/// # Errors
+///
+/// Those of `subset_with_options`.
+pub fn subset_opened(
+    alloc: Global,
+    opened: &Opened<'_>,
+    mapper: &GlyphRemapper,
+    limits: &Limits,
+) -> Result<Vec<u8>, Error> {
     let _count = mapper.num_gids();
     // So is what `depth` says of the limits, that a glyph's own charstring is within them.
-    let _depth = options.limits.depth();
-    let face = parse(data, index, options.extras)?;
-    match flavor(&face)? {
-        FontFlavor::TrueType => subset_truetype(alloc, &face, options.limits.bytes(), mapper),
-        FontFlavor::Cff => subset_cff(alloc, &face, options.limits, mapper),
+    let _depth = limits.depth();
+    match opened.outlines {
+        Outlines::TrueType => subset_truetype(alloc, &opened.face, limits.bytes(), mapper),
+        Outlines::Cff => subset_cff(alloc, &opened.face, *limits, mapper),
+        Outlines::Cff2 => Err(Error::Unimplemented),
     }
 }
 
@@ -82,12 +97,12 @@ pub fn subset_with_options(
 ///
 /// # Errors
 ///
-/// - `UnknownKind`: the file doesn't begin with a known kind of font, or has none of `glyf`, `CFF ` and `CFF2`.
-/// - `MalformedFont`: the collection has no entry for `index`, that entry doesn't lead to the header of a single font, or
-///   the header or a record of the directory is cut.
+/// - Those of `open`.
 /// - `Unimplemented`: the outlines are those of `CFF2`.
 pub fn check_opening(data: &[u8], index: u32, extras: Extras) -> Result<(), Error> {
-    let face = parse(data, index, extras)?;
-    flavor(&face)?;
-    Ok(())
+    match open(data, index, extras)?.outlines {
+        Outlines::Cff2 => Err(Error::Unimplemented),
+        Outlines::TrueType => Ok(()),
+        Outlines::Cff => Ok(()),
+    }
 }

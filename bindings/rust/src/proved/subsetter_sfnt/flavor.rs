@@ -2,8 +2,12 @@
 //! The kind of a font's outlines.
 
 use crate::proved::subsetter_base::write::{Writeable, Writer};
-use crate::proved::subsetter_base::{Error, Tag};
-use crate::proved::subsetter_sfnt::face::{Face, OTTO, TRUETYPE_VERSION};
+use crate::proved::subsetter_base::Error;
+#[cfg(feature = "variable-fonts")]
+use crate::proved::subsetter_base::Tag;
+#[cfg(feature = "variable-fonts")]
+use crate::proved::subsetter_sfnt::face::Face;
+use crate::proved::subsetter_sfnt::face::{OTTO, TRUETYPE_VERSION};
 
 /// The kind of a font's outlines.
 #[derive(Clone, Copy, Debug, PartialEq, Eq)]
@@ -31,6 +35,7 @@ impl Writeable for FontFlavor {
 }
 
 /// The kind of a font's outlines: `glyf` makes it TrueType, else `CFF ` makes it CFF. A lone `CFF2` is `Unimplemented`; no outlines are `UnknownKind`.
+#[cfg(feature = "variable-fonts")]
 pub fn flavor(face: &Face<'_>) -> Result<FontFlavor, Error> {
     if face.table(Tag::GLYF).is_some() {
         Ok(FontFlavor::TrueType)

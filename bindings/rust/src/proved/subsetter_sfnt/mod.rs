@@ -17,4 +17,5 @@ pub mod face;
 pub mod fields;
 pub mod flavor;
 pub mod laying;
+pub mod opening;
 pub mod parse;
