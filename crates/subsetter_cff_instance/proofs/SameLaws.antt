@@ -1,7 +1,7 @@
 -- The limits decide whether there is a file, and not which.
 --   one_file                        files that are made within two pairs of limits
 --   one_instance                    static fonts of the same font, settings and glyphs
---   the_answer                      whatever is answered is this file
+--   answers_are_one                 all answers for them
 use Rattle.std.proofs.Common.{◌≡◌, ℕ, List, Option, Ok, ℤ, sym, ap, ◌∙◌}
 use Rattle.subsetter_base.specs.declared.tag.Tag.{Tag}
 use Rattle.subsetter_base.proofs.Options.{just_is}
@@ -11,10 +11,10 @@ use Rattle.subsetter_sfnt.specs.Read.{Font, stored}
 use Rattle.subsetter_sfnt.specs.Laying.Written.{file, kind_word}
 use Rattle.subsetter_cff_at.specs.Plain.{made_table}
 use Rattle.subsetter_cff_at.proofs.Agreeing.{limits_agree}
-use Rattle.subsetter_cff_instance.specs.Answer.{IsTheCffAnswer}
 use Rattle.subsetter_cff_instance.specs.CffInstance.{IsCffInstance}
 use Rattle.subsetter_cff_instance.specs.Laws.{IsSameAtAnyLimits}
-use Rattle.subsetter_cff_instance.specs.Plain.{Prepared, request_at, cff_instance_of}
+use Rattle.subsetter_cff_instance.specs.Plain.{Prepared, request_at}
+use Rattle.subsetter_cff_instance.specs.Promise.{CffAnswersAreOne}
 use Rattle.subsetter_cff_instance.specs.Tables.{new_tables}
 use Rattle.subsetter_cff_instance.proofs.Steps.{CffSteps, font_steps}
 
@@ -36,5 +36,5 @@ one_file font settings glyphs tokens depth other_tokens other_depth x y e f =
 pub one_instance : (font : Font) (settings : List (Tag × ℤ)) (glyphs : List ℕ) (x y : List ℕ) → IsCffInstance font settings glyphs x → IsCffInstance font settings glyphs y → x ≡ y
 one_instance font settings glyphs x y i j = one_file font settings glyphs i.tokens i.depth j.tokens j.depth x y i.layout j.layout
 
-pub the_answer : (font : Font) (settings : List (Tag × ℤ)) (glyphs : List ℕ) (tokens depth : ℕ) (out : List ℕ) → cff_instance_of font settings glyphs tokens depth ≡ Ok out → IsTheCffAnswer font settings glyphs out
-the_answer font settings glyphs tokens depth out h other_tokens other_depth other a = one_file font settings glyphs tokens depth a.instance.tokens a.instance.depth out other h a.instance.layout
+pub answers_are_one : CffAnswersAreOne
+answers_are_one font settings glyphs tokens depth out a other_tokens other_depth other b = one_instance font settings glyphs out other a.instance b.instance

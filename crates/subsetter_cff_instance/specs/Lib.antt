@@ -5,5 +5,6 @@ pub mod Fault
 pub mod Laws
 pub mod Metrics
 pub mod Plain
+pub mod Promise
 pub mod Source
 pub mod Tables

@@ -2,11 +2,10 @@
 //!
 //! The font is opened, and its outlines are found, before any memory is taken.
 
-ghost use Rattle.std.specs.Prelude.{◌≡◌, ◌≢◌, ◌≤◌, ◌⊎◌, length, IfOk, IfErr, Ok, Err};
+ghost use Rattle.std.specs.Prelude.{◌≡◌, ◌≤◌, ◌⊎◌, length, IfOk, IfErr, Ok};
 ghost use Rattle.subsetter_base.specs.Bytes.{IsBytes};
 ghost use Rattle.subsetter_base.specs.Gives.{Gives};
 ghost use Rattle.subsetter_base.specs.Within.{IsTooLong};
-ghost use Rattle.subsetter_base.specs.declared.error.Error.{Error as SpecError};
 ghost use Rattle.subsetter_base.specs.declared.error.Error.TheVariants.{OutOfMemory, OverflowError};
 ghost use Rattle.subsetter_sfnt.specs.Extras.{all_extras};
 ghost use Rattle.subsetter_sfnt.specs.FontAt.{font_at};
@@ -17,11 +16,10 @@ ghost use Rattle.subsetter_cff_at.specs.Boxes.{table_boxes};
 ghost use Rattle.subsetter_cff_at.specs.Fault.{HasFault};
 ghost use Rattle.subsetter_cff_at.specs.Plain.{drawn_of, made_table};
 ghost use Rattle.subsetter_cff_at.specs.View.{drawn_size, KeepsBound};
-ghost use Rattle.subsetter_cff_instance.specs.Answer.{IsCffAnswer, HasNoCffAnswer, IsTheCffAnswer, IsClosedToCff, PassesBound, FailsInstance};
-ghost use Rattle.subsetter_cff_instance.specs.CffInstance.{IsCffInstance};
-ghost use Rattle.subsetter_cff_instance.specs.Fault.{HasCffInstanceFault, HasOutlinesFault};
+ghost use Rattle.subsetter_cff_instance.specs.Answer.{IsClosedToCff, FailsInstance};
 ghost use Rattle.subsetter_cff_instance.specs.Metrics.{metrics_by_glyph};
-ghost use Rattle.subsetter_cff_instance.specs.Plain.{prepared, request_at, cff_instance_in, charstrings_in, charstrings_of};
+ghost use Rattle.subsetter_cff_instance.specs.Plain.{prepared, request_at, cff_instance_in, charstrings_in};
+ghost use Rattle.subsetter_cff_instance.specs.Promise.{IsCffInstancePromised};
 ghost use Rattle.subsetter_cff_instance.specs.Source.{outlines_or_fault};
 
 use crate::metrics::{advances, metrics_by_glyph, varied_metrics};
@@ -204,21 +202,8 @@ pub fn cff_instance(
     mapper: &GlyphRemapper,
     limits: Limits,
 ) -> Result<Vec<u8>, Error>
-    // What is answered is a static font, read afresh from its bytes.
-    ensures ok { IfOk result (λ out. IsCffInstance (font_at «data».now index all_extras) coordinates.now mapper.now out.items) }
-    // And then there is no fault.
-    ensures clean { IfOk result (λ _. (e : SpecError) → ¬ (HasCffInstanceFault (font_at «data».now index all_extras) coordinates.now mapper.now limits.tokens limits.depth e)) }
-    // There is one answer, within whatever limits.
-    ensures exact { IfOk result (λ out. IsCffAnswer (font_at «data».now index all_extras) coordinates.now mapper.now limits.tokens limits.depth out.items) }
-    ensures same { IfOk result (λ out. IsTheCffAnswer (font_at «data».now index all_extras) coordinates.now mapper.now out.items) }
-    // And its charstrings have no more bytes than they may have.
-    ensures within { IfOk result (λ _. KeepsBound limits.bytes (charstrings_of (font_at «data».now index all_extras) coordinates.now mapper.now limits.tokens limits.depth)) }
-    // What is refused has a fault of that name, or its charstrings pass the bound on bytes.
-    ensures err { IfErr result (λ e. (e ≡ OutOfMemory) ⊎ (HasCffInstanceFault (font_at «data».now index all_extras) coordinates.now mapper.now limits.tokens limits.depth e ⊎ PassesBound (font_at «data».now index all_extras) coordinates.now mapper.now limits.tokens limits.depth limits.bytes e)) }
-    // And, unless out of memory or past that bound, it has no answer within these limits.
-    ensures no_answer { IfErr result (λ e. (e ≡ OutOfMemory) ⊎ (HasNoCffAnswer (font_at «data».now index all_extras) coordinates.now mapper.now limits.tokens limits.depth ⊎ PassesBound (font_at «data».now index all_extras) coordinates.now mapper.now limits.tokens limits.depth limits.bytes e)) }
-    // Where there is a fault that is found before memory is taken, the answer isn't out of memory.
-    ensures before_memory { (e : SpecError) → HasOutlinesFault (font_at «data».now index all_extras) e → result ≢ Err OutOfMemory }
+    // What is returned is the static font, what is refused has a fault of that name, or its charstrings pass the bound on bytes.
+    ensures promise { IsCffInstancePromised (λ v. v.items) limits.bytes limits.tokens limits.depth (font_at «data».now index all_extras) coordinates.now mapper.now result }
 {
     let (face, cff2) = open(data, index)?;
     make(alloc, &face, cff2, coordinates, mapper, limits)

@@ -1,6 +1,17 @@
 //! Laws of the definitions, which no code runs.
 
 ghost use Rattle.subsetter_cff_instance.specs.Laws.{IsCffReadAfresh, IsSameAtAnyLimits, HasCffFaultWhereRefused, HasNoCffFaultWhereAnswered};
+ghost use Rattle.subsetter_cff_instance.specs.Promise.{CffAnswersAreClean, CffAnswersAreOne};
+
+/// A font that is returned is a static font, read afresh from its bytes, and its source has no fault.
+pub fn cff_answers_are_clean()
+    ensures { CffAnswersAreClean }
+{}
+
+/// Fonts that are returned for the same coordinates and glyphs of a font, within whatever limits, have the same bytes.
+pub fn cff_answers_are_one()
+    ensures { CffAnswersAreOne }
+{}
 
 /// The file that the plain way lays out is a static font, read afresh from its bytes.
 pub fn is_cff_read_afresh()

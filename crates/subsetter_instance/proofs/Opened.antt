@@ -1,4 +1,4 @@
--- The clauses of the public call, by the plain way.
+-- The promise of the public call, by the plain way.
 use Rattle.std.proofs.Common.{◌≡◌, ℕ, ◌≤◌, List, length, Option, Some, Result, Ok, Err, ℤ, refl, sym, ap, subst, ◌∙◌, ◌⊎◌, inl, inr}
 use Rattle.std.specs.Prelude.{◌≢◌, codes, IfSome, IfOk, IfErr}
 use Rattle.subsetter_base.specs.Bytes.{IsBytes}
@@ -7,6 +7,7 @@ use Rattle.subsetter_base.specs.declared.tag.Tag.{Tag}
 use Rattle.subsetter_base.specs.declared.error.Error.{Error}
 use Rattle.subsetter_base.specs.declared.error.Error.TheVariants.{UnknownKind, MalformedFont, Unimplemented, SubsetError, OverflowError, CFFError, OutOfMemory}
 use Rattle.subsetter_base.proofs.ByteLemmas.{number-fits}
+use Rattle.subsetter_base.proofs.Results.{failed_is}
 use Rattle.subsetter_sfnt.specs.declared.extras.Extras.{Extras}
 use Rattle.subsetter_sfnt.specs.declared.flavor.FontFlavor.TheVariants.{TrueType, Cff}
 use Rattle.subsetter_sfnt.specs.Extras.{requested}
@@ -14,17 +15,15 @@ use Rattle.subsetter_sfnt.specs.Fault.{HasOpeningFault, no_kind, no_entry, entry
 use Rattle.subsetter_sfnt.specs.Plain.{opened, flavored}
 use Rattle.subsetter_sfnt.specs.Read.{Font, table_in}
 use Rattle.subsetter_sfnt.proofs.Laws.Fault.{opened_refused}
-use Rattle.subsetter_instance.specs.Answer.{IsAnswer, HasNoAnswer, IsTheAnswer, IsClosed}
+use Rattle.subsetter_instance.specs.Answer.{IsAnswer, HasNoAnswer, IsClosed}
 use Rattle.subsetter_instance.specs.Fault.{HasInstanceFault}
-use Rattle.subsetter_instance.specs.Instance.{IsInstance}
 use Rattle.subsetter_instance.specs.Plain.{instance_in, instance_of}
+use Rattle.subsetter_instance.specs.Promise.{IsInstancePromised}
 use Rattle.subsetter_instance.specs.Source.{Source, source_in}
-use Rattle.subsetter_instance.proofs.FaultLaws.Clean.{clean, is_answer}
+use Rattle.subsetter_instance.proofs.FaultLaws.Clean.{is_answer}
 use Rattle.subsetter_instance.proofs.FaultLaws.Opening.{same_flavor, unflavored, no_opening_fault}
 use Rattle.subsetter_instance.proofs.FaultLaws.Refused.{refused, no_answer}
-use Rattle.subsetter_instance.proofs.FileLaws.Instance.{is_instance}
 use Rattle.subsetter_instance.proofs.FileLaws.Steps.{source_steps}
-use Rattle.subsetter_instance.proofs.SameLaws.Answer.{the_answer}
 
 -- ---- headers that were read from are long enough
 
@@ -66,6 +65,16 @@ closed_cff font d x o h =
     let f = sym (same_flavor x (table_in font.bytes d)) ∙ h in
     record { refused = λ settings glyphs steps. rw (o, f) refl; not_memory = λ e. absurd cc }
 
+pub closed_promise : {V : Type 0} (view : V → List ℕ) (font : Font) (settings : List (Tag × ℤ)) (glyphs : List ℕ) (steps : ℕ) (e : Error) → IsClosed font e → IsInstancePromised view steps font settings glyphs (Err e)
+closed_promise {V = V} view font settings glyphs steps e c =
+    let h = c.refused settings glyphs steps in
+    record {
+      exact = tt;
+      err = inr (refused font settings glyphs steps e h);
+      no_answer = inr (no_answer font settings glyphs steps e h);
+      before_memory = λ why fault out. c.not_memory (failed_is {A = V} e OutOfMemory out);
+    }
+
 -- ---- a font that is
 
 pub instance_is : (font : Font) (d : List ℕ) (settings : List (Tag × ℤ)) (glyphs : List ℕ) (steps : ℕ) → opened font ≡ Ok d → flavored (table_in font.bytes d) ≡ Ok TrueType → instance_of font settings glyphs steps ≡ instance_in (table_in font.bytes d) settings glyphs steps
@@ -91,23 +100,17 @@ module _ {V : Type 0} (view : V → List ℕ) (r : Result V Error) (font : Font)
   plainly : Gives view r (instance_of font settings glyphs steps)
   plainly = subst (Gives view r) (ap (λ (b : List ℕ). instance_in (table_in b d) settings glyphs steps) same ∙ sym (instance_is font d settings glyphs steps o f)) gives
 
-  pub made_ok : IfOk r (λ out. IsInstance font settings glyphs (view out))
-  made_ok = gave_ok view r (instance_of font settings glyphs steps) (IsInstance font settings glyphs) plainly (λ out h. is_instance font settings glyphs steps out bytes h)
-
-  pub made_clean : IfOk r (λ _. (e : Error) → HasInstanceFault font settings glyphs steps e → ⊥)
-  made_clean = gave_ok view r (instance_of font settings glyphs steps) (λ _. (e : Error) → HasInstanceFault font settings glyphs steps e → ⊥) plainly (λ out h. clean font settings glyphs steps out h)
-
-  pub made_exact : IfOk r (λ out. IsAnswer font settings glyphs steps (view out))
+  made_exact : IfOk r (λ out. IsAnswer font settings glyphs steps (view out))
   made_exact = gave_ok view r (instance_of font settings glyphs steps) (IsAnswer font settings glyphs steps) plainly (λ out h. is_answer font settings glyphs steps out bytes h)
 
-  pub made_same : IfOk r (λ out. IsTheAnswer font settings glyphs (view out))
-  made_same = gave_ok view r (instance_of font settings glyphs steps) (IsTheAnswer font settings glyphs) plainly (λ out h. the_answer font settings glyphs steps out h)
-
-  pub made_err : IfErr r (λ e. (e ≡ OutOfMemory) ⊎ HasInstanceFault font settings glyphs steps e)
+  made_err : IfErr r (λ e. (e ≡ OutOfMemory) ⊎ HasInstanceFault font settings glyphs steps e)
   made_err = gave_err view r (instance_of font settings glyphs steps) (HasInstanceFault font settings glyphs steps) plainly (λ e h. refused font settings glyphs steps e h)
 
-  pub made_no_answer : IfErr r (λ e. (e ≡ OutOfMemory) ⊎ HasNoAnswer font settings glyphs steps)
+  made_no_answer : IfErr r (λ e. (e ≡ OutOfMemory) ⊎ HasNoAnswer font settings glyphs steps)
   made_no_answer = gave_err view r (instance_of font settings glyphs steps) (λ _. HasNoAnswer font settings glyphs steps) plainly (λ e h. no_answer font settings glyphs steps e h)
 
-  pub made_before : (e : Error) → HasOpeningFault font e → r ≢ Err OutOfMemory
+  made_before : (e : Error) → HasOpeningFault font e → r ≢ Err OutOfMemory
   made_before e fault h = absurd (no_opening_fault font d TrueType e o f fault)
+
+  pub made_promise : IsInstancePromised view steps font settings glyphs r
+  made_promise = record { exact = made_exact; err = made_err; no_answer = made_no_answer; before_memory = made_before }

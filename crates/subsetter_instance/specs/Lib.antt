@@ -7,4 +7,5 @@ pub mod Instance
 pub mod Laws
 pub mod MetricLaws
 pub mod Plain
+pub mod Promise
 pub mod Source

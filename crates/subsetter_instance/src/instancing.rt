@@ -2,21 +2,17 @@
 //!
 //! The font is opened before any memory is taken.
 
-ghost use Rattle.std.specs.Prelude.{◌≡◌, ◌≢◌, ◌⊎◌, IfOk, IfErr, Ok, Err};
+ghost use Rattle.std.specs.Prelude.{◌≡◌, IfOk, IfErr, Ok};
 ghost use Rattle.subsetter_base.specs.Bytes.{IsBytes};
 ghost use Rattle.subsetter_base.specs.Gives.{Gives};
-ghost use Rattle.subsetter_base.specs.declared.error.Error.{Error as SpecError};
-ghost use Rattle.subsetter_base.specs.declared.error.Error.TheVariants.{OutOfMemory};
 ghost use Rattle.subsetter_sfnt.specs.declared.flavor.FontFlavor.TheVariants.{TrueType};
 ghost use Rattle.subsetter_sfnt.specs.Extras.{all_extras};
-ghost use Rattle.subsetter_sfnt.specs.Fault.{HasOpeningFault};
 ghost use Rattle.subsetter_sfnt.specs.FontAt.{font_at};
 ghost use Rattle.subsetter_sfnt.specs.Plain.{opened, flavored};
 ghost use Rattle.subsetter_sfnt.specs.Read.{table_in};
-ghost use Rattle.subsetter_instance.specs.Answer.{IsAnswer, HasNoAnswer, IsTheAnswer, IsClosed};
-ghost use Rattle.subsetter_instance.specs.Fault.{HasInstanceFault};
-ghost use Rattle.subsetter_instance.specs.Instance.{IsInstance};
+ghost use Rattle.subsetter_instance.specs.Answer.{IsClosed};
 ghost use Rattle.subsetter_instance.specs.Plain.{instance_in};
+ghost use Rattle.subsetter_instance.specs.Promise.{IsInstancePromised};
 
 use crate::glyphs::drawn::draw_all;
 use crate::source::{normalized_coordinates, source_or_fault};
@@ -89,19 +85,8 @@ pub fn instance(
     mapper: &GlyphRemapper,
     steps: u32,
 ) -> Result<Vec<u8>, Error>
-    // What is answered is an instance of the font, read afresh from its bytes.
-    ensures ok { IfOk result (λ out. IsInstance (font_at «data».now index all_extras) coordinates.now mapper.now out.items) }
-    // And then there is no fault.
-    ensures clean { IfOk result (λ _. (e : SpecError) → ¬ (HasInstanceFault (font_at «data».now index all_extras) coordinates.now mapper.now steps e)) }
-    // There is one answer, in whatever number of steps.
-    ensures exact { IfOk result (λ out. IsAnswer (font_at «data».now index all_extras) coordinates.now mapper.now steps out.items) }
-    ensures same { IfOk result (λ out. IsTheAnswer (font_at «data».now index all_extras) coordinates.now mapper.now out.items) }
-    // What is refused has a fault of that name.
-    ensures err { IfErr result (λ e. (e ≡ OutOfMemory) ⊎ HasInstanceFault (font_at «data».now index all_extras) coordinates.now mapper.now steps e) }
-    // And, unless out of memory, it has no answer in these steps.
-    ensures no_answer { IfErr result (λ e. (e ≡ OutOfMemory) ⊎ HasNoAnswer (font_at «data».now index all_extras) coordinates.now mapper.now steps) }
-    // Where there is a fault that is found before memory is taken, the answer isn't out of memory.
-    ensures before_memory { (e : SpecError) → HasOpeningFault (font_at «data».now index all_extras) e → result ≢ Err OutOfMemory }
+    // What is returned is the instance, what is refused has a fault of that name.
+    ensures promise { IsInstancePromised (λ v. v.items) steps (font_at «data».now index all_extras) coordinates.now mapper.now result }
 {
     let face = open(data, index)?;
     make(alloc, &face, coordinates, mapper, steps)

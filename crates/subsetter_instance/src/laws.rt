@@ -2,6 +2,17 @@
 
 ghost use Rattle.subsetter_instance.specs.Laws.{IsReadAfresh, IsSameAtAnySteps, HasFaultWhereRefused, HasNoneWhereAnswered, IsBoxOfAll, AreFaultsNamed, IsDrawnAsInSource};
 ghost use Rattle.subsetter_instance.specs.MetricLaws.{AreLinesAtDefault, IsAdvanceAtDefault, IsAdvanceAtMaster, IsDrawnAsUnvaried, IsMetricAtDefault, IsMetricAtMaster, IsSimpleAdvanceAtDefault};
+ghost use Rattle.subsetter_instance.specs.Promise.{AnswersAreClean, AnswersAreOne};
+
+/// A font that is returned is an instance, read afresh from its bytes, and its source has no fault.
+pub fn answers_are_clean()
+    ensures { AnswersAreClean }
+{}
+
+/// Fonts that are returned for the same coordinates and glyphs of a font, in whatever number of steps, have the same bytes.
+pub fn answers_are_one()
+    ensures { AnswersAreOne }
+{}
 
 /// The file that the plain way lays out is an instance, read afresh from its bytes.
 pub fn is_read_afresh()

@@ -17,7 +17,10 @@ use Rattle.subsetter_instance.specs.Fault.{HasInstanceFault, in_place}
 use Rattle.subsetter_instance.specs.Instance.{IsInstance}
 use Rattle.subsetter_instance.proofs.FaultLaws.Place.{place_clean}
 use Rattle.subsetter_instance.proofs.SameLaws.Answer.{one_file}
+use Rattle.subsetter_cff_instance.specs.Answer.{PassesBound}
+use Rattle.subsetter_cff_instance.specs.CffInstance.{IsCffInstance}
 use Rattle.subsetter_cff_instance.specs.Fault.{HasCffInstanceFault}
+use Rattle.subsetter_cff_instance.specs.Promise.{IsCffInstancePromised}
 use Rattle.subsetter_cff_instance.proofs.SameLaws.{one_instance}
 use Rattle.subsetter_variable.specs.DefaultLocation.{IsAtDefault, HasNoLocation, no_outlines, no_move, IsCff2Font, IsStaticFile, HasStaticFault}
 use Rattle.subsetter_variable.proofs.Unopened.{no_glyf, nothing_stored, same_stored}
@@ -66,7 +69,30 @@ pub not_made : (font : Font) (settings : List (Tag × ℤ)) (glyphs : List ℕ) 
 not_made font settings glyphs steps e not (inl m) = inl m
 not_made font settings glyphs steps e not (inr f) = inr (not, f)
 
--- of outlines in CFF2
+-- without a bound nothing passes it
+not_bound : (font : Font) (settings : List (Tag × ℤ)) (glyphs : List ℕ) (tokens depth : ℕ) (e : Error) → PassesBound font settings glyphs tokens depth None e → ⊥
+not_bound font settings glyphs tokens depth e p = let set = p.1.is_set in cc
+
+-- of outlines in CFF2, whose charstrings have no bound
+module _ {X : Type 0} (view : X → List ℕ) (tokens depth : ℕ) (font : Font) (settings : List (Tag × ℤ)) (glyphs : List ℕ) where
+  abbrev pub IsCffPromised : Result X Error → Type 0
+  IsCffPromised r = IsCffInstancePromised view None tokens depth font settings glyphs r
+
+  pub cff_ok : (r : Result X Error) → IsCffPromised r → IfOk r (λ file. IsCffInstance font settings glyphs (view file))
+  cff_ok (Ok file) p = p.exact.instance
+  cff_ok (Err e) p = tt
+
+  pub cff_faultless : (r : Result X Error) → IsCffPromised r → IfOk r (λ _. (e : Error) → HasCffInstanceFault font settings glyphs tokens depth e → ⊥)
+  cff_faultless (Ok file) p = p.exact.clean
+  cff_faultless (Err e) p = tt
+
+  pub cff_err : (r : Result X Error) → IsCffPromised r → IfErr r (λ e. (e ≡ OutOfMemory) ⊎ HasCffInstanceFault font settings glyphs tokens depth e)
+  cff_err (Ok file) p = tt
+  cff_err (Err e) p = elim p.err [
+    | inl m ↦ inl m
+    | inr f ↦ elim f [ inl g ↦ inr g | inr b ↦ absurd (not_bound font settings glyphs tokens depth e b) ]
+  ]
+
 pub cff_not_made : (font : Font) (settings : List (Tag × ℤ)) (glyphs : List ℕ) (tokens depth : ℕ) (e : Error) → IsCff2Font font → (e ≡ OutOfMemory) ⊎ HasCffInstanceFault font settings glyphs tokens depth e → (e ≡ OutOfMemory) ⊎ HasStaticFault font settings glyphs tokens depth e
 cff_not_made font settings glyphs tokens depth e is (inl m) = inl m
 cff_not_made font settings glyphs tokens depth e is (inr f) = inr (inr (is, f))

@@ -15,7 +15,7 @@ use Rattle.subsetter_instance.specs.Glyphs.Unfolded.{Unfolded, unfolded}
 use Rattle.subsetter_instance.specs.Glyphs.Drawn.{Drawn, rounded, levels, drawn}
 use Rattle.subsetter_instance.specs.Tables.Lines.{Lines, lines_of}
 use Rattle.subsetter_instance.specs.Plain.{drawn_if, drawn_all, instance_of}
-use Rattle.subsetter_instance.specs.Answer.{IsTheAnswer}
+use Rattle.subsetter_instance.specs.Promise.{AnswersAreOne}
 use Rattle.subsetter_instance.proofs.FileLaws.Among.{drawn_one}
 use Rattle.subsetter_instance.proofs.FileLaws.Steps.{laid_tables, InstanceSteps, font_steps}
 use Rattle.subsetter_instance.proofs.SameLaws.Simple.{one_answer}
@@ -62,6 +62,5 @@ by_steps find settings glyphs m n x y i j =
 pub one_file : (font : Font) (settings : List (Tag × ℤ)) (glyphs : List ℕ) (m n : ℕ) (x y : List ℕ) → instance_of font settings glyphs m ≡ Ok x → instance_of font settings glyphs n ≡ Ok y → x ≡ y
 one_file font settings glyphs m n x y e f = by_steps (stored font) settings glyphs m n x y (font_steps font settings glyphs m x e) (font_steps font settings glyphs n y f)
 
--- whatever is answered is this file
-pub the_answer : (font : Font) (settings : List (Tag × ℤ)) (glyphs : List ℕ) (steps : ℕ) (out : List ℕ) → instance_of font settings glyphs steps ≡ Ok out → IsTheAnswer font settings glyphs out
-the_answer font settings glyphs steps out h more other a = one_file font settings glyphs steps a.instance.steps out other h a.instance.layout
+pub answers_are_one : AnswersAreOne
+answers_are_one font settings glyphs steps out a more other b = one_file font settings glyphs a.instance.steps b.instance.steps out other a.instance.layout b.instance.layout

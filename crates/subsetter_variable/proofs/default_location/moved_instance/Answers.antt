@@ -23,7 +23,7 @@ returns-in_err-file-clause-err c =
     let p = err_from_is_err_and c.from_residual-in_err-file.result c.from_residual-in_err-file.ensures.1 in
     let font = font_at c.args.«data».now c.args.index all_extras in
     let not = not_so c.in_ok-at_default.at_default (IsAtDefault font c.args.coordinates.now) c.in_ok-at_default.ensures.ok c.if-at_default.false in
-    rw (p.1, p.2) (not_made font c.args.coordinates.now c.args.mapper.now c.args.steps c.in_err-file.field-0.0 not c.in_err-file.ensures.err)
+    rw (p.1, p.2) (not_made font c.args.coordinates.now c.args.mapper.now c.args.steps c.in_err-file.field-0.0 not c.in_err-file.ensures.promise.err)
 
 pub returns-in_err-file-clause-without_memory : goal.returns-in_err-file-clause-without_memory
 returns-in_err-file-clause-without_memory c = λ none.
@@ -34,7 +34,10 @@ returns-in_err-file-clause-without_memory c = λ none.
 pub returns-clause-ok : goal.returns-clause-ok
 returns-clause-ok c =
     let font = font_at c.args.«data».now c.args.index all_extras in
-    (not_so c.in_ok-at_default.at_default (IsAtDefault font c.args.coordinates.now) c.in_ok-at_default.ensures.ok c.if-at_default.false, c.in_ok-file.ensures.ok)
+    (not_so c.in_ok-at_default.at_default (IsAtDefault font c.args.coordinates.now) c.in_ok-at_default.ensures.ok c.if-at_default.false, c.in_ok-file.ensures.promise.exact.instance)
+
+pub returns-clause-clean : goal.returns-clause-clean
+returns-clause-clean c = c.in_ok-file.ensures.promise.exact.clean
 
 pub returns-clause-without_memory : goal.returns-clause-without_memory
 returns-clause-without_memory c = λ none.
