@@ -10,8 +10,8 @@ use Rattle.subsetter_cff_instance.specs.CffInstance.{IsCffInstance}
 use Rattle.subsetter_cff_instance.specs.Fault.{HasCffInstanceFault, HasOutlinesFault}
 use Rattle.subsetter_cff_instance.specs.Plain.{charstrings_of}
 
--- for settings of a font's user coordinates and these glyphs, where a charstring may run within limits of tokens and depth,
--- and all of them may have a bound on their bytes; `file` gives the bytes of what is returned
+-- for settings of a font's user coordinates and these glyphs, where a charstring may run within limits of tokens and
+-- depth, and all of them may have a bound on their bytes; `file` gives the bytes of what is returned
 pub record IsCffInstancePromised {X : Type 0} (file : X → List ℕ) (bound : Option ℕ) (tokens depth : ℕ) (font : Font)
     (settings : List (Tag × ℤ)) (glyphs : List ℕ) (result : Result X Error) : Type 0 where
   -- a font that is returned is the answer: a static font, read afresh from its bytes, of a font without a fault

@@ -19,10 +19,10 @@ loop-number-preserved c =
     let one = font_dict_view c.in_ok-font_dict.font_dict in
     let left_is : drop i numbers ≡ get_or numbers i 0 ∷ left = drop_more numbers i 0 c.loop-number-test.true in
     let items : map font_dict_view c.push.new.self.items ≡ front ++ one ∷ [] =
-        ap (map font_dict_view) c.in_ok-push.ensures.items ∙ map_after font_dict_view c.loop-number.made.items c.in_ok-font_dict.font_dict in
+    ap (map font_dict_view) c.in_ok-push.ensures.items ∙ map_after font_dict_view c.loop-number.made.items c.in_ok-font_dict.font_dict in
     ap (λ (l : List FontDict). with_dicts l (new_font_dicts cff left)) items
     ∙ next_dict cff (get_or numbers i 0) left front one (new_font_dicts cff numbers)
-      (sym (ap (λ (l : List ℕ). with_dicts front (new_font_dicts cff l)) left_is) ∙ c.loop-number.invariant) c.in_ok-font_dict.ensures
+    (sym (ap (λ (l : List ℕ). with_dicts front (new_font_dicts cff l)) left_is) ∙ c.loop-number.invariant) c.in_ok-font_dict.ensures
 
 pub returns : goal.returns
 returns c =
