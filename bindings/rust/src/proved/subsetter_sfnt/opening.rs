@@ -22,6 +22,7 @@ pub enum Outlines {
 pub struct Opened<'a> {
     pub face: Face<'a>,
     /// Which font of the file it is.
+    #[allow(dead_code)] // (the definitions read it)
     pub index: u32,
     pub outlines: Outlines,
 }
