@@ -1,4 +1,5 @@
-use Rattle.std.proofs.Common.{◌≡◌, ◌∙◌, ◌≤◌, ◌^◌, ◌-ℤ◌, ℕ, ℤ, List, Bool, Option, Result, Ok, Err, w64, to_z, of_z, unsigned_abs, refl, ap, sym, arith}
+use Rattle.std.proofs.Common.{◌≡◌, ◌∙◌, ◌≤◌, ◌^◌, ◌-ℤ◌, ℕ, ℤ, List, Bool, Option, Result, Ok, Err, w64, to_z, of_z, unsigned_abs, refl, ap, sym, arith, length, subst}
+use Rattle.std.specs.Prelude.{All}
 use Rattle.std.proofs.lemmas.Result.{err_from_is_err_and}
 use Rattle.subsetter_base.specs.Bytes.{◌>>=◌}
 use Rattle.subsetter_base.specs.Gives.{Gives}
@@ -7,10 +8,11 @@ use Rattle.subsetter_points.specs.declared.outline.Point.{Point}
 use Rattle.subsetter_sfnt.specs.declared.fields.hmtx.LongHorMetric.{LongHorMetric}
 use Rattle.subsetter_instance.specs.Source.{Source}
 use Rattle.subsetter_instance.specs.Glyphs.Drawn.{Drawn, advance, drawn_if_fit, points_or_fault, rounded}
+use Rattle.subsetter_instance.specs.Glyphs.Known.{IsKnown}
 use Rattle.subsetter_instance.specs.Glyphs.Unfolded.{Unfolded, on_curve}
 use Rattle.subsetter_instance.proofs.GlyphsLaws.Glyphs.{fails_in}
 use Rattle.subsetter_instance.proofs.GlyphsLaws.Points.{fails}
-use Rattle.subsetter_instance.proofs.GlyphsLaws.Reach.{kept}
+use Rattle.subsetter_instance.proofs.GlyphsLaws.Reach.{kept, on_count}
 use Rattle.subsetter_instance.proofs.glyphs.drawn.rounded.Goals as goal
 
 gives : (r read : Result Drawn Error) → read ≡ r → Gives (λ (d : Drawn). d) r read
@@ -73,3 +75,32 @@ returns c =
     let ends : c.unfolded.inside.ends.items ≡ u.ends = ap (λ (v : Unfolded). v.ends) c.unfolded.view_is in
     let drawn = ap (λ (l : List ℕ). drawn_if_fit l points c.in_ok-advance.advance) ends in
     gives c.drawn_if_fit.result _ (sym whole ∙ ap (λ (q : Result (List Point) Error). q >>= λ ps. drawn_if_fit u.ends ps c.in_ok-advance.advance) c.in_ok-points.ensures ∙ sym drawn ∙ sym c.drawn_if_fit.ensures)
+
+within : (xs ys : List ℤ) → xs ≡ ys → All (λ v. unsigned_abs v ≤ 2 ^ 45) ys → All (λ v. unsigned_abs v ≤ 2 ^ 45) xs
+within xs ys same h = subst (λ (l : List ℤ). All (λ v. unsigned_abs v ≤ 2 ^ 45) l) (sym same) h
+
+wide : (z : ℤ) → unsigned_abs z ≤ 2 ^ 59 → unsigned_abs (to_z w64 (of_z w64 z)) ≤ 2 ^ 59
+wide z h = omega (arith, h, ap unsigned_abs (kept z (omega (arith, h))))
+
+pub advance_by-requires : goal.advance_by-requires
+advance_by-requires c = record {
+  width = wide c.distance-width.result c.distance-width.ensures.bound;
+  known = subst (λ (h : Option (List ℕ)). IsKnown h c.args.at.now c.args.glyph c.args.known) (sym c.hvar-hvar.ensures) c.requires.known;
+}
+
+pub points_or_fault-requires : goal.points_or_fault-requires
+points_or_fault-requires c =
+    let u = c.args.unfolded in
+    let reach = c.requires.reach in
+    let left = side c.unfolded.inside.left u.left (ap (λ (v : Unfolded). v.left) c.unfolded.view_is) reach.shape.left in
+    let on : on_curve c.deref.result.now ≡ u.on = ap on_curve c.deref.ensures.value ∙ ap (λ (v : Unfolded). v.on) c.unfolded.view_is in
+    let flags : length u.on ≡ length c.deref.result.now = sym (ap length on) ∙ on_count c.deref.result.now in
+    let xs : c.deref-2.result.now ≡ u.xs = c.deref-2.ensures.value ∙ ap (λ (v : Unfolded). v.xs) c.unfolded.view_is in
+    let ys : c.deref-3.result.now ≡ u.ys = c.deref-3.ensures.value ∙ ap (λ (v : Unfolded). v.ys) c.unfolded.view_is in
+    record {
+      left = omega (arith, ap unsigned_abs left, reach.shape.left);
+      many_xs = ap length xs ∙ reach.shape.xs ∙ flags;
+      many_ys = ap length ys ∙ reach.shape.ys ∙ flags;
+      xs = within _ u.xs xs reach.xs;
+      ys = within _ u.ys ys reach.ys;
+    }
