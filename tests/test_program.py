@@ -110,7 +110,7 @@ def what_is_shown(page):
     strings = b"".join(it for page in objects.values() if b"/Type /Page " in page for it in re.findall(rb"<([0-9A-F]+)>(?=.*T[jJ]$)", led(page, rb"/Contents"), re.M))
     codes = [int(it, 16) for it in re.findall(b"....", strings)]
     texts = dict(re.findall(rb"<([0-9A-F]{4})> <([0-9A-F]*)>\n", led(font, rb"/ToUnicode").partition(b"endcodespacerange")[2]))
-    text = "".join(bytes.fromhex(texts.get(b"%04X" % code, b"").decode()).decode("utf-16-be") for code in codes)
+    text = "".join(bytes.fromhex(texts.get(b"%04X" % code, b"").decode()).decode("utf-16-be") for code in codes).replace("\u2060", "-")
     encoding = re.search(rb"/Encoding (/Identity-[HV]|\d+ 0 R)", font)[1].decode()
     shown = ("grid" if b"[0 0 595 842]" in pages else "line", codes, encoding if encoding.startswith("/") else "own", text)
     return shown, led(descriptor, rb"/FontFile2"), re.search(rb"/FontName /(\S+)", descriptor)[1].decode()

@@ -418,7 +418,9 @@ def blocks(word, rows):
 
 
 def to_unicode(shown, codes):
-    rows = [f"<{code:04X}> <{text}>" for code, text in sorted(texts(shown, codes).items())]
+    """A line for each code above 0: its text, or U+2060 where it has none."""
+    known = texts(shown, codes)
+    rows = [f"<{code:04X}> <{known.get(code, '2060')}>" for code in sorted({*codes} - {0})]
     head = ["/CIDSystemInfo << /Registry (Adobe) /Ordering (UCS) /Supplement 0 >> def", "/CMapName /Adobe-Identity-UCS def", "/CMapType 2 def"]
     return "\n".join([*BEGIN, *head, *SPACE, *blocks("bfchar", rows), *END]) + "\n"
 

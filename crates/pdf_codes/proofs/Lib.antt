@@ -5,3 +5,4 @@ pub mod Pairs
 pub mod RoomLaws
 pub mod ShownSteps
 pub mod StayLaws
+pub mod TextLaws

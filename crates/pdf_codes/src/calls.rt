@@ -7,7 +7,7 @@ ghost use Rattle.pdf_codes.specs.declared.codes.Codes.{Codes};
 ghost use Rattle.pdf_codes.specs.Codes.{AreCids, AreCodes, IsOverfull, Used, coded, used_of};
 ghost use Rattle.pdf_codes.specs.Cmaps.Leading.{AreLed, name_of, own_cmap, own_name, pairs_with, text_of};
 ghost use Rattle.pdf_codes.specs.Shown.{uses_of};
-ghost use Rattle.pdf_codes.specs.Cmaps.Texts.{first_text, is_line_found, lines_of_codes, text_in};
+ghost use Rattle.pdf_codes.specs.Cmaps.Texts.{is_line_found, lines_of_codes, said_by, text_in};
 
 use crate::cmaps::leading::{are_cids, pairs_with, write_leading};
 use crate::cmaps::texts::texts_for;
@@ -47,7 +47,7 @@ pub fn codes_of(alloc: Global, shown: &[Shown<'_>], choice: Codes) -> Result<Vec
 }
 
 /// The code of each entry, in order, the ToUnicode CMap, in which a code has the first text of its entries that isn't
-/// empty, and of each entry whether readers find its text there. Glyph 0 has no text.
+/// empty, else U+2060, and of each entry whether readers find its text there. Glyph 0 has no text, and code 0 no line.
 ///
 /// # Errors
 ///
@@ -60,8 +60,8 @@ pub fn codes_and_texts(
     ensures codes { IfOk result (λ c. AreCodes choice (uses_of shown.now) c.codes.items) }
     ensures len { IfOk result (λ c. length c.codes.items ≡ length shown.now) }
     ensures cmap { IfOk result (λ c. c.to_unicode.items ≡ cmap_text (lines_of_codes (coded (uses_of shown.now) c.codes.items))) }
-    // The CMap is read: each code has its first text.
-    ensures texts { IfOk result (λ c. (k : ℕ) → text_in c.to_unicode.items k ≡ Some (first_text (coded (uses_of shown.now) c.codes.items) k)) }
+    // The CMap is read: each code has what it says.
+    ensures texts { IfOk result (λ c. (k : ℕ) → text_in c.to_unicode.items k ≡ Some (said_by (coded (uses_of shown.now) c.codes.items) k)) }
     ensures said { IfOk result (λ c. c.is_said.items ≡ map (is_line_found (coded (uses_of shown.now) c.codes.items)) (coded (uses_of shown.now) c.codes.items)) }
     ensures room { OnOk result (IsOverfull choice (uses_of shown.now) → ⊥) }
     ensures err { IfErr result (λ e. (e ≡ OutOfMemory) ⊎ ((e ≡ OverflowError) × IsOverfull choice (uses_of shown.now))) }

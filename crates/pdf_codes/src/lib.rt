@@ -16,5 +16,5 @@ mod units;
 
 pub use calls::{ShownCodes, codes_and_texts, codes_of, encoding_of};
 pub use codes::Codes;
-pub use laws::{codes_are_determined, codes_stay};
+pub use laws::{codes_are_determined, codes_have_texts, codes_stay};
 pub use shown::{Shown, glyphs_of, has_long_text};

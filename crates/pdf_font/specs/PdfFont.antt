@@ -22,7 +22,7 @@ use Rattle.subsetter_sfnt.specs.Alone.{has_outlines}
 use Rattle.pdf_codes.specs.Codes.{AreCodes, IsOverfull, Used, coded, glyphs_of}
 use Rattle.pdf_codes.specs.Cmaps.Leading.{AreLed, name_of, own_cmap, own_name, pairs_with, text_of}
 use Rattle.pdf_codes.specs.Shown.{has_long_text}
-use Rattle.pdf_codes.specs.Cmaps.Texts.{first_text, is_line_found, lines_of_codes, text_in}
+use Rattle.pdf_codes.specs.Cmaps.Texts.{is_line_found, lines_of_codes, said_by, text_in}
 use Rattle.pdf_glyphs.specs.Frequent.{most_frequent}
 use Rattle.pdf_glyphs.specs.HeightVariation.{Variation}
 use Rattle.pdf_glyphs.specs.Vertical.{Vertical, columns_at}
@@ -68,8 +68,9 @@ pub record IsCoded (options : FontOptions) (us : List Used) (f : PdfFont) : Type
   pub encoding : text_of f.encoding ≡ own_cmap (is_vertical options.direction) (pairs_with f.codes.items f.cids.items)
   pub encoding_name : name_of f.encoding
       ≡ own_name (is_vertical options.direction) (pairs_with f.codes.items f.cids.items)
-  -- each code has the first text of its entries that isn't empty, and what is said is that this is the entry's
-  pub texts : (k : ℕ) → text_in f.to_unicode.items k ≡ Some (first_text (coded us f.codes.items) k)
+  -- each code above 0 has the first text of its entries that isn't empty, else U+2060; what is said is that the first
+  -- text is the entry's
+  pub texts : (k : ℕ) → text_in f.to_unicode.items k ≡ Some (said_by (coded us f.codes.items) k)
   pub to_unicode : f.to_unicode.items ≡ cmap_text (lines_of_codes (coded us f.codes.items))
   pub said : f.is_said.items ≡ map (is_line_found (coded us f.codes.items)) (coded us f.codes.items)
 

@@ -11,12 +11,12 @@ use Rattle.pdf_text.specs.View.{pairs_view}
 use Rattle.pdf_text.specs.declared.cmaps.encoding.CidOfCode.{CidOfCode}
 use Rattle.pdf_text.specs.declared.cmaps.named.NamedCmap.{NamedCmap}
 use Rattle.pdf_codes.specs.Cmaps.Leading.{cid_of, cid_in, pairs_of_codes}
-use Rattle.pdf_codes.specs.Cmaps.Texts.{first_text, text_in, lines_of_codes}
+use Rattle.pdf_codes.specs.Cmaps.Texts.{first_text, lines_of_codes, said_by, text_in}
+use Rattle.pdf_codes.proofs.CmapsLaws.JoinerSteps.{same_said}
 use Rattle.pdf_codes.proofs.CmapsLaws.LeadingSteps.{same_cid}
-use Rattle.pdf_codes.proofs.CmapsLaws.TextSteps.{same_first}
 
-pub text_back : (ls lines : List Line) (cmap : List ℕ) (k : ℕ) → lines ≡ lines_of_codes ls → mapping_in cmap ≡ Some lines → text_in cmap k ≡ Some (first_text ls k)
-text_back ls lines cmap k e h = ap (option_map (λ (m : List Line). first_text m k)) h ∙ ap (λ (m : List Line). Some (first_text m k)) e ∙ ap Some (same_first ls k)
+pub text_back : (ls lines : List Line) (cmap : List ℕ) (k : ℕ) → lines ≡ lines_of_codes ls → mapping_in cmap ≡ Some lines → text_in cmap k ≡ Some (said_by ls k)
+text_back ls lines cmap k e h = ap (option_map (λ (m : List Line). first_text m k)) h ∙ ap (λ (m : List Line). Some (first_text m k)) e ∙ ap Some (same_said ls k)
 
 pub cid_back : (ps pairs : List Pair) (cmap : List ℕ) (k : ℕ) → pairs ≡ pairs_of_codes ps → codes_in cmap ≡ Some pairs → cid_in cmap k ≡ cid_of ps k
 cid_back ps pairs cmap k e h = ap (option_and_then (λ (m : List Pair). cid_of m k)) h ∙ ap (λ (m : List Pair). cid_of m k) e ∙ same_cid ps k

@@ -1,6 +1,6 @@
 -- A table of texts that is filled from lines, and the lines that it has.
 use Rattle.std.proofs.Common.{◌≡◌, ℕ, zero, suc, ◌+◌, ◌<◌, ◌≤◌, cond, List, [], ◌∷◌, ◌++◌, length, get_or, set, drop, replicate, refl, sym, ap, subst, ◌∙◌, inl, inr, arith}
-use Rattle.std.proofs.lemmas.Bool.{cases_eq, cases_lt, eq-eqb, ne_eqb}
+use Rattle.std.proofs.lemmas.Bool.{cases_eq, eq-eqb, ne_eqb}
 use Rattle.std.proofs.lemmas.List.{append-nil, append_assoc, drop_more, get_or-map, get_or-set_same, get_or-set_other, length-map, map-append, map-set}
 use Rattle.std.proofs.lemmas.List.Elements.{All-append}
 use Rattle.std.specs.Borrow.{Bor}
@@ -8,7 +8,7 @@ use Rattle.std.specs.Prelude.{All}
 use Rattle.pdf_text.specs.Cmaps.Cmap.{IsLine, Line}
 use Rattle.pdf_text.specs.View.{line_view, lines_view}
 use Rattle.pdf_text.specs.declared.cmaps.to_unicode.Mapping.{Mapping}
-use Rattle.pdf_codes.specs.Cmaps.Texts.{first_text, line_of, lines_from, lines_of_codes, limit, table_lines}
+use Rattle.pdf_codes.specs.Cmaps.Texts.{first_text, limit, line_of, lines_from, lines_of_codes, said_by, table_lines}
 use Rattle.subsetter_base.specs.Texts.{or_else, views}
 
 no_units : (us : List ℕ) → length us ≡ 0 → us ≡ []
@@ -42,10 +42,10 @@ only {l} h (suc k) d lt = absurd (omega arith)
 
 -- ---- the first text of a code, with one line more
 
-first_same : (l : Line) (rest : List Line) (k : ℕ) → l.code ≡ k → first_text (l ∷ rest) k ≡ or_else l.units (first_text rest k)
+pub first_same : (l : Line) (rest : List Line) (k : ℕ) → l.code ≡ k → first_text (l ∷ rest) k ≡ or_else l.units (first_text rest k)
 first_same l rest k e = ap (λ b. cond b (or_else l.units (first_text rest k)) (first_text rest k)) (eq-eqb l.code k e)
 
-first_other : (l : Line) (rest : List Line) (k : ℕ) → (l.code ≡ k → ⊥) → first_text (l ∷ rest) k ≡ first_text rest k
+pub first_other : (l : Line) (rest : List Line) (k : ℕ) → (l.code ≡ k → ⊥) → first_text (l ∷ rest) k ≡ first_text rest k
 first_other l rest k ne = ap (λ b. cond b (or_else l.units (first_text rest k)) (first_text rest k)) (ne_eqb l.code k ne)
 
 or_kept : (text x y : List ℕ) → 1 ≤ length text → or_else text x ≡ or_else text y
@@ -78,15 +78,15 @@ pub none_past : (ls : List Line) (k : ℕ) → limit ls ≤ k → first_text ls 
 none_past [] k h = refl
 none_past (l ∷ ls) k h = first_other l ls k (λ e. omega (arith, h, e)) ∙ none_past ls k (omega (arith, h))
 
--- the lines of a table of first texts are the lines of the codes
-pub table_is : (ls : List Line) (t : List (List ℕ)) (k n : ℕ) → length t ≡ n → ((i : ℕ) → i < n → get_or t i [] ≡ first_text ls (k + i)) → table_lines k t ≡ lines_from ls k n
-table_is ls [] k zero e h = refl
-table_is ls [] k (suc n) e h = absurd (omega (arith, e))
-table_is ls (us ∷ t) k zero e h = absurd (omega (arith, e))
-table_is ls (us ∷ t) k (suc n) e h =
-    let here : us ≡ first_text ls k = h 0 (omega arith) ∙ ap (first_text ls) (omega arith) in
-    let later : (i : ℕ) → i < n → get_or t i [] ≡ first_text ls (k + 1 + i) = λ i lt. h (suc i) (omega arith) ∙ ap (first_text ls) (omega arith) in
-    ap (λ (v : List ℕ). line_of k v ++ table_lines (k + 1) t) here ∙ ap (λ (m : List Line). line_of k (first_text ls k) ++ m) (table_is ls t (k + 1) n (omega (arith, e)) later)
+-- the lines of a table of what codes say are the lines of the codes
+pub table_is : (says : ℕ → List ℕ) (t : List (List ℕ)) (k n : ℕ) → length t ≡ n → ((i : ℕ) → i < n → get_or t i [] ≡ says (k + i)) → table_lines k t ≡ lines_from says k n
+table_is says [] k zero e h = refl
+table_is says [] k (suc n) e h = absurd (omega (arith, e))
+table_is says (us ∷ t) k zero e h = absurd (omega (arith, e))
+table_is says (us ∷ t) k (suc n) e h =
+    let here : us ≡ says k = h 0 (omega arith) ∙ ap says (omega arith) in
+    let later : (i : ℕ) → i < n → get_or t i [] ≡ says (k + 1 + i) = λ i lt. h (suc i) (omega arith) ∙ ap says (omega arith) in
+    ap (λ (v : List ℕ). line_of k v ++ table_lines (k + 1) t) here ∙ ap (λ (m : List Line). line_of k (says k) ++ m) (table_is says t (k + 1) n (omega (arith, e)) later)
 
 -- ---- read
 
@@ -99,27 +99,20 @@ line_here : (k : ℕ) (us : List ℕ) (rest : List Line) → first_text rest k �
 line_here k [] rest none = none
 line_here k (u ∷ us) rest none = first_same (record { code = k; units = u ∷ us }) rest k refl
 
-pub lines_before : (ls : List Line) (k n c : ℕ) → c < k → first_text (lines_from ls k n) c ≡ []
-lines_before ls k zero c h = refl
-lines_before ls k (suc n) c h = line_first k c (first_text ls k) (lines_from ls (k + 1) n) (λ e. omega (arith, e)) ∙ lines_before ls (k + 1) n c (omega arith)
+pub lines_before : (says : ℕ → List ℕ) (k n c : ℕ) → c < k → first_text (lines_from says k n) c ≡ []
+lines_before says k zero c h = refl
+lines_before says k (suc n) c h = line_first k c (says k) (lines_from says (k + 1) n) (λ e. omega (arith, e)) ∙ lines_before says (k + 1) n c (omega arith)
 
-pub lines_within : (ls : List Line) (k n c : ℕ) → k ≤ c → c < k + n → first_text (lines_from ls k n) c ≡ first_text ls c
-lines_within ls k zero c h lt = absurd (omega arith)
-lines_within ls k (suc n) c h lt = elim (cases_eq k c) [
-  | inl e ↦ subst (λ (j : ℕ). first_text (lines_from ls k (suc n)) j ≡ first_text ls j) e (line_here k (first_text ls k) (lines_from ls (k + 1) n) (lines_before ls (k + 1) n k (omega arith)))
-  | inr ne ↦ line_first k c (first_text ls k) (lines_from ls (k + 1) n) ne ∙ lines_within ls (k + 1) n c (omega (arith, ne)) (omega arith)
+pub lines_within : (says : ℕ → List ℕ) (k n c : ℕ) → k ≤ c → c < k + n → first_text (lines_from says k n) c ≡ says c
+lines_within says k zero c h lt = absurd (omega arith)
+lines_within says k (suc n) c h lt = elim (cases_eq k c) [
+  | inl e ↦ subst (λ (j : ℕ). first_text (lines_from says k (suc n)) j ≡ says j) e (line_here k (says k) (lines_from says (k + 1) n) (lines_before says (k + 1) n k (omega arith)))
+  | inr ne ↦ line_first k c (says k) (lines_from says (k + 1) n) ne ∙ lines_within says (k + 1) n c (omega (arith, ne)) (omega arith)
 ]
 
-pub lines_past : (ls : List Line) (k n c : ℕ) → k + n ≤ c → first_text (lines_from ls k n) c ≡ []
-lines_past ls k zero c h = refl
-lines_past ls k (suc n) c h = line_first k c (first_text ls k) (lines_from ls (k + 1) n) (λ e. omega (arith, e)) ∙ lines_past ls (k + 1) n c (omega arith)
-
--- the lines of the codes have the first text of each code
-pub same_first : (ls : List Line) (k : ℕ) → first_text (lines_from ls 0 (limit ls)) k ≡ first_text ls k
-same_first ls k = elim (cases_lt k (limit ls)) [
-  | inl lt ↦ lines_within ls 0 (limit ls) k (omega arith) (omega arith)
-  | inr ge ↦ lines_past ls 0 (limit ls) k (omega arith) ∙ sym (none_past ls k ge)
-]
+pub lines_past : (says : ℕ → List ℕ) (k n c : ℕ) → k + n ≤ c → first_text (lines_from says k n) c ≡ []
+lines_past says k zero c h = refl
+lines_past says k (suc n) c h = line_first k c (says k) (lines_from says (k + 1) n) (λ e. omega (arith, e)) ∙ lines_past says (k + 1) n c (omega arith)
 
 -- ---- with the references that the code has
 
@@ -146,9 +139,9 @@ line_added ls after m is are one =
 pub text_found : (ts : List (Bor (List ℕ))) (ls : List Line) (c : ℕ) (d : Bor (List ℕ)) → ((k : ℕ) → k < length ts → get_or (views ts) k [] ≡ first_text ls k) → c < length ts → (get_or ts c d).now ≡ first_text ls c
 text_found ts ls c d h lt = sym (get_or-map (λ (t : Bor (List ℕ)). t.now) ts c d [] lt) ∙ h c lt
 
-pub lines_are : (ls : List Line) (ts : List (Bor (List ℕ))) (n : ℕ) → n ≡ limit ls → length ts ≡ n → ((k : ℕ) → k < n → get_or (views ts) k [] ≡ first_text ls k) → table_lines 0 (views ts) ≡ lines_of_codes ls
+pub lines_are : (ls : List Line) (ts : List (Bor (List ℕ))) (n : ℕ) → n ≡ limit ls → length ts ≡ n → ((k : ℕ) → k < n → get_or (views ts) k [] ≡ said_by ls k) → table_lines 0 (views ts) ≡ lines_of_codes ls
 lines_are ls ts n is many h =
-    table_is ls (views ts) 0 (limit ls) (length-map ts (λ (t : Bor (List ℕ)). t.now) ∙ many ∙ is) (λ i lt. let here : i ≡ 0 + i = omega arith in h i (omega (arith, lt, is)) ∙ ap (first_text ls) here)
+    table_is (said_by ls) (views ts) 0 (limit ls) (length-map ts (λ (t : Bor (List ℕ)). t.now) ∙ many ∙ is) (λ i lt. let here : i ≡ 0 + i = omega arith in h i (omega (arith, lt, is)) ∙ ap (said_by ls) here)
 
 pub written_at : (ts : List (Bor (List ℕ))) (m : Mapping) (code : ℕ) → code ≡ m.code → m.code < length ts → length (get_or (views ts) code []) ≡ 0 → (k : ℕ) (rest : List Line)
     → or_else (get_or (views (set ts code m.units)) k []) (first_text rest k) ≡ or_else (get_or (views ts) k []) (first_text (line_view m ∷ rest) k)

@@ -1,10 +1,10 @@
 //! The text of each code.
 
-ghost use Rattle.std.specs.Prelude.{◌≡◌, ◌≤◌, ◌<◌, ◌∷◌, ℕ, List, length, All, IfOk, IfErr, map, slice_index_or, replicate, [], Some};
+ghost use Rattle.std.specs.Prelude.{◌≡◌, ◌≤◌, ◌<◌, ◌∷◌, ◌==◌, ℕ, List, length, All, IfOk, IfErr, if◌then◌else◌, map, slice_index_or, replicate, [], Some};
 ghost use Rattle.subsetter_base.specs.declared.error.Error.TheVariants.{OutOfMemory};
 ghost use Rattle.pdf_text.specs.View.{line_view, lines_view};
 ghost use Rattle.pdf_text.specs.Cmaps.Cmap.{IsLine, Line, cmap_text};
-ghost use Rattle.pdf_codes.specs.Cmaps.Texts.{first_text, is_line_found, limit, lines_of_codes, is_found, table_lines, text_in};
+ghost use Rattle.pdf_codes.specs.Cmaps.Texts.{first_text, is_line_found, joiner, limit, lines_of_codes, is_found, said_by, table_lines, text_in};
 ghost use Rattle.subsetter_base.specs.Texts.{or_else, views};
 
 use pdf_text::{Mapping, write_to_unicode};
@@ -121,6 +121,40 @@ fn all_found(alloc: Global, lines: &[Mapping<'_>], texts: &[&[u16]]) -> Result<V
     Ok(said)
 }
 
+/// U+2060 (word joiner), which has no ink and breaks no word; code 0 has none.
+fn joiner(code: u16) -> &'static [u16]
+    ensures { result.now ≡ joiner code }
+{
+    if code == 0 { &[] } else { &[0x2060] }
+}
+
+/// Notes U+2060 for a code without a text.
+fn put_joiner(texts: &mut Vec<&[u16]>, code: u16)
+    requires { code < length texts.old.items }
+    ensures len { length texts.new.items ≡ length texts.old.items }
+    ensures put { (k : ℕ) → slice_index_or (views texts.new.items) k [] ≡ or_else (slice_index_or (views texts.old.items) k []) (if code == k then joiner code else []) }
+{
+    put(
+        texts,
+        Mapping {
+            code,
+            units: joiner(code),
+        },
+    );
+}
+
+/// Notes U+2060 for each code of the lines that has no text.
+fn put_joiners(texts: &mut Vec<&[u16]>, lines: &[Mapping<'_>])
+    requires len { length texts.old.items ≡ limit (lines_view lines.now) }
+    requires are { (k : ℕ) → k < length texts.old.items → slice_index_or (views texts.old.items) k [] ≡ first_text (lines_view lines.now) k }
+    ensures len { length texts.new.items ≡ length texts.old.items }
+    ensures put { (k : ℕ) → k < length texts.new.items → slice_index_or (views texts.new.items) k [] ≡ said_by (lines_view lines.now) k }
+{
+    for line in lines {
+        put_joiner(texts, line.code);
+    }
+}
+
 /// The texts of codes, as a PDF has them.
 #[derive(Drop)]
 pub struct Texts {
@@ -130,8 +164,8 @@ pub struct Texts {
     pub is_said: Vec<bool>,
 }
 
-/// The ToUnicode CMap of codes with their texts, in which a code has its first text that isn't empty, and of each line
-/// whether readers find its text there.
+/// The ToUnicode CMap of codes with their texts, in which a code has its first text that isn't empty, else U+2060 (code 0
+/// nothing), and of each line whether readers find its text there.
 ///
 /// # Errors
 ///
@@ -140,12 +174,13 @@ pub struct Texts {
 pub fn texts_for(alloc: Global, lines: &[Mapping<'_>]) -> Result<Texts, Error>
     ensures cmap { IfOk result (λ texts. texts.to_unicode.items ≡ cmap_text (lines_of_codes (lines_view lines.now))) }
     ensures said { IfOk result (λ texts. texts.is_said.items ≡ map (is_line_found (lines_view lines.now)) (lines_view lines.now)) }
-    // The CMap is read: each code has its first text.
-    ensures read { IfOk result (λ texts. (k : ℕ) → text_in texts.to_unicode.items k ≡ Some (first_text (lines_view lines.now) k)) }
+    // The CMap is read: each code has what it says.
+    ensures read { IfOk result (λ texts. (k : ℕ) → text_in texts.to_unicode.items k ≡ Some (said_by (lines_view lines.now) k)) }
     ensures err { IfErr result (λ e. e ≡ OutOfMemory) }
 {
-    let texts = first_texts(alloc, lines, limit_of(lines))?;
+    let mut texts = first_texts(alloc, lines, limit_of(lines))?;
     let is_said = all_found(alloc, lines, &texts)?;
+    put_joiners(&mut texts, lines);
     let written = lines_in(alloc, &texts)?;
     let to_unicode = write_to_unicode(alloc, &written)?;
     Ok(Texts {

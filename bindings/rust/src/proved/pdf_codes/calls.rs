@@ -35,7 +35,7 @@ pub fn codes_of(alloc: Global, shown: &[Shown<'_>], choice: Codes) -> Result<Vec
 }
 
 /// The code of each entry, in order, the ToUnicode CMap, in which a code has the first text of its entries that isn't
-/// empty, and of each entry whether readers find its text there. Glyph 0 has no text.
+/// empty, else U+2060, and of each entry whether readers find its text there. Glyph 0 has no text, and code 0 no line.
 ///
 /// # Errors
 ///

@@ -81,6 +81,33 @@ fn all_found(alloc: Global, lines: &[Mapping<'_>], texts: &[&[u16]]) -> Result<V
     Ok(said)
 }
 
+/// U+2060 (word joiner), which has no ink and breaks no word; code 0 has none.
+fn joiner(code: u16) -> &'static [u16] {
+    if code == 0 {
+        &[]
+    } else {
+        &[0x2060]
+    }
+}
+
+/// Notes U+2060 for a code without a text.
+fn put_joiner(texts: &mut Vec<&[u16]>, code: u16) {
+    put(
+        texts,
+        Mapping {
+            code,
+            units: joiner(code),
+        },
+    );
+}
+
+/// Notes U+2060 for each code of the lines that has no text.
+fn put_joiners(texts: &mut Vec<&[u16]>, lines: &[Mapping<'_>]) {
+    for line in lines {
+        put_joiner(texts, line.code);
+    }
+}
+
 /// The texts of codes, as a PDF has them.
 pub struct Texts {
     /// The ToUnicode CMap.
@@ -89,15 +116,16 @@ pub struct Texts {
     pub is_said: Vec<bool>,
 }
 
-/// The ToUnicode CMap of codes with their texts, in which a code has its first text that isn't empty, and of each line
-/// whether readers find its text there.
+/// The ToUnicode CMap of codes with their texts, in which a code has its first text that isn't empty, else U+2060 (code 0
+/// nothing), and of each line whether readers find its text there.
 ///
 /// # Errors
 ///
 /// `OutOfMemory` alone.
 pub fn texts_for(alloc: Global, lines: &[Mapping<'_>]) -> Result<Texts, Error> {
-    let texts = first_texts(alloc, lines, limit_of(lines))?;
+    let mut texts = first_texts(alloc, lines, limit_of(lines))?;
     let is_said = all_found(alloc, lines, &texts)?;
+    put_joiners(&mut texts, lines);
     let written = lines_in(alloc, &texts)?;
     let to_unicode = write_to_unicode(alloc, &written)?;
     Ok(Texts {
