@@ -72,6 +72,27 @@ fn own_glyphs_draw_parts_and_clusters() {
     assert_eq!(font.cid_to_gid_map(), Some(&map[..]));
 }
 
+/// Without own glyphs the ligature stays whole, as its picture may be another: its width is 556, and a blank says "i".
+#[test]
+fn glyphs_with_other_pictures_are_no_parts() {
+    let plain = made("made.ttf");
+    let record = plain.windows(4).position(|it| it == b"vmtx").unwrap();
+    for (tag, widths) in [
+        (b"vmtx", [500, 278, 278]),
+        (b"COLR", [500, 556, 0]),
+        (b"SVG ", [500, 556, 0]),
+        (b"CBDT", [500, 556, 0]),
+        (b"sbix", [500, 556, 0]),
+        (b"EBDT", [500, 556, 0]),
+    ] {
+        let mut font = plain.clone();
+        font[record..record + 4].copy_from_slice(tag);
+        let mut text = Text::new(&font, 0, &[], &TextOptions::new()).unwrap();
+        assert!(text.run(&[item(5, Some("fi"), 1139)], LeftToRight, 12_000).is_ok());
+        assert_eq!(text.font(&FontOptions::new()).unwrap().widths(), widths, "{tag:?}");
+    }
+}
+
 #[test]
 fn logical_order_is_a_choice() {
     let font = made("made.ttf");
