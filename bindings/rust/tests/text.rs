@@ -93,6 +93,28 @@ fn glyphs_with_other_pictures_are_no_parts() {
     }
 }
 
+/// Glyph 7 without contours, and a glyph without a charstring, which begins where the next one does: with no advance in the run such
+/// a glyph is a blank, and the pen needn't go back.
+#[test]
+fn glyphs_with_an_empty_outline_have_no_ink() {
+    for (name, front, place, value, glyph, advance, width) in [
+        ("made.ttf", &[0, 1, 0, 200, 5, 220][..], 1, 0, 7, 1366, 333),
+        ("made.otf", &[0, 12, 1, 1, 13][..], 10, 0x66, 7, 667, 333),
+        ("made_cff2.otf", &[0, 0, 0, 5, 1, 1, 1][..], 8, 0x3d, 3, 500, 250),
+    ] {
+        let mut font = made(name);
+        let shown = |font: &[u8]| {
+            let mut text = Text::new(font, 0, &[], &TextOptions::new().own_glyphs(false)).unwrap();
+            let line = [item(1, Some("A"), advance), item(glyph, Some("x"), 0)];
+            operators(text.run(&line, LeftToRight, 12_000))
+        };
+        assert_eq!(shown(&font), format!("[<00010002>{width}]TJ\n"), "{name}");
+        let at = font.windows(front.len()).position(|it| it == front).unwrap() + place;
+        font[at] = value;
+        assert_eq!(shown(&font), "[<00010002>]TJ\n", "{name}");
+    }
+}
+
 #[test]
 fn logical_order_is_a_choice() {
     let font = made("made.ttf");
