@@ -72,6 +72,49 @@ fn own_glyphs_draw_parts_and_clusters() {
     assert_eq!(font.cid_to_gid_map(), Some(&map[..]));
 }
 
+/// Without own glyphs the ligature stays whole, as its picture may be another: its width is 556, and a blank says "i".
+#[test]
+fn glyphs_with_other_pictures_are_no_parts() {
+    let plain = made("made.ttf");
+    let record = plain.windows(4).position(|it| it == b"vmtx").unwrap();
+    for (tag, widths) in [
+        (b"vmtx", [500, 278, 278]),
+        (b"COLR", [500, 556, 0]),
+        (b"SVG ", [500, 556, 0]),
+        (b"CBDT", [500, 556, 0]),
+        (b"sbix", [500, 556, 0]),
+        (b"EBDT", [500, 556, 0]),
+    ] {
+        let mut font = plain.clone();
+        font[record..record + 4].copy_from_slice(tag);
+        let mut text = Text::new(&font, 0, &[], &TextOptions::new()).unwrap();
+        assert!(text.run(&[item(5, Some("fi"), 1139)], LeftToRight, 12_000).is_ok());
+        assert_eq!(text.font(&FontOptions::new()).unwrap().widths(), widths, "{tag:?}");
+    }
+}
+
+/// Glyph 7 without contours, and a glyph without a charstring, which begins where the next one does: with no advance in the run such
+/// a glyph is a blank, and the pen needn't go back.
+#[test]
+fn glyphs_with_an_empty_outline_have_no_ink() {
+    for (name, front, place, value, glyph, advance, width) in [
+        ("made.ttf", &[0, 1, 0, 200, 5, 220][..], 1, 0, 7, 1366, 333),
+        ("made.otf", &[0, 12, 1, 1, 13][..], 10, 0x66, 7, 667, 333),
+        ("made_cff2.otf", &[0, 0, 0, 5, 1, 1, 1][..], 8, 0x3d, 3, 500, 250),
+    ] {
+        let mut font = made(name);
+        let shown = |font: &[u8]| {
+            let mut text = Text::new(font, 0, &[], &TextOptions::new().own_glyphs(false)).unwrap();
+            let line = [item(1, Some("A"), advance), item(glyph, Some("x"), 0)];
+            operators(text.run(&line, LeftToRight, 12_000))
+        };
+        assert_eq!(shown(&font), format!("[<00010002>{width}]TJ\n"), "{name}");
+        let at = font.windows(front.len()).position(|it| it == front).unwrap() + place;
+        font[at] = value;
+        assert_eq!(shown(&font), "[<00010002>]TJ\n", "{name}");
+    }
+}
+
 #[test]
 fn logical_order_is_a_choice() {
     let font = made("made.ttf");

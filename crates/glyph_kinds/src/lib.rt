@@ -17,3 +17,4 @@ mod strikes;
 
 pub use call::{is_unseen, kinds_of, unseen_glyphs};
 pub use counts::kind_counts;
+pub use outlines::{FaceOutlines, has_outline, outlines_in};

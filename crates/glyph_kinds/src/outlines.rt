@@ -25,7 +25,7 @@ use subsetter_type2::operators::first_byte;
 
 /// The outlines of a face.
 #[derive(Clone, Copy)]
-pub(crate) enum FaceOutlines<'a> {
+pub enum FaceOutlines<'a> {
     /// Whether the entries of `loca` have four bytes, `loca`, and `glyf`.
     Contours(bool, &'a [u8], &'a [u8]),
     /// The CharStrings INDEX.
@@ -85,10 +85,7 @@ fn charstrings_by<'a>(
 }
 
 /// The outlines of a face, as far as they can be read.
-pub(crate) fn outlines_in<'a>(
-    alloc: Global,
-    face: &Face<'a>,
-) -> Result<Option<FaceOutlines<'a>>, Error>
+pub fn outlines_in<'a>(alloc: Global, face: &Face<'a>) -> Result<Option<FaceOutlines<'a>>, Error>
     ensures value { Gives (option_map outlines_view) result (Ok (outlines_by (table_in face.now.«data».now face.now.records.now (codes "glyf")) (table_in face.now.«data».now face.now.records.now))) }
     ensures err { IfErr result (λ e. e ≡ OutOfMemory) }
 {
@@ -155,7 +152,7 @@ fn draws(outlines: FaceOutlines<'_>, glyph: u16) -> bool
 }
 
 /// Whether a glyph has an outline.
-pub(crate) fn has_outline(outlines: Option<FaceOutlines<'_>>, glyph: u16) -> bool
+pub fn has_outline(outlines: Option<FaceOutlines<'_>>, glyph: u16) -> bool
     ensures { result ≡ has_outline (option_map outlines_view outlines.entry) glyph }
 {
     match outlines {

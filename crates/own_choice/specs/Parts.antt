@@ -42,11 +42,11 @@ abbrev pub outlines_seen : GivenOutlines → Outlines
 outlines_seen t =
     record { loca = t.loca.now; glyf = t.glyf.now; head = t.head.now; long = is_long t.head.now; hinting = true }
 
--- glyphs may have other pictures than outlines (OpenType, "COLR", "SVG ", "CBDT", "sbix")
+-- glyphs may have other pictures than outlines (OpenType, "COLR", "SVG ", "CBDT", "sbix", "EBDT")
 abbrev pub has_pictures : (List ℕ → Option (List ℕ)) → Bool
 has_pictures find =
     (is_some (find (codes "COLR")) || is_some (find (codes "SVG ")))
-    || (is_some (find (codes "CBDT")) || is_some (find (codes "sbix")))
+    || (is_some (find (codes "CBDT")) || (is_some (find (codes "sbix")) || is_some (find (codes "EBDT"))))
 
 -- outlines are in `CFF `, as they aren't in `glyf`: an own glyph can be a glyph at the origin, with another width
 abbrev pub has_charstrings : (List ℕ → Option (List ℕ)) → Bool

@@ -127,6 +127,7 @@ fn has_pictures(face: &Face<'_>) -> bool
         || has(face, Tag::new(b"SVG "))
         || has(face, Tag::new(b"CBDT"))
         || has(face, Tag::new(b"sbix"))
+        || has(face, Tag::new(b"EBDT"))
 }
 
 /// Whether outlines are in `CFF `.

@@ -4,8 +4,11 @@ use Rattle.pdf_text.specs.Cmaps.Cmap.{cmap_text, mapping_in}
 use Rattle.pdf_figures.specs.declared.ink.OwnInk.{OwnInk}
 use Rattle.pdf_figures.specs.declared.ink.Placed.{Placed}
 use Rattle.pdf_runs.specs.declared.codes.Pair.{Pair}
+use Rattle.pdf_runs.specs.declared.pieces.Piece.{Piece}
+use Rattle.pdf_runs.specs.Codes.{with_pairs}
 use Rattle.pdf_text_font.specs.GlyphMap.{glyph_in, glyph_number, map_bytes}
 use Rattle.pdf_text_font.specs.Own.{all_parts, own_by, part_by, parts_by}
+use Rattle.pdf_text_font.specs.Said.{AreSaid, HaveZeroth}
 use Rattle.pdf_text_font.specs.Texts.{SayCharacters, lines_of}
 use Rattle.pdf_text_font.specs.declared.pairs.Drawing.{Drawing}
 use Rattle.pdf_text_font.specs.declared.pairs.Drawing.TheVariants.{Nothing}
@@ -29,3 +32,11 @@ OwnGlyphsAreKept =
 abbrev pub TextsAreRead : Type 0
 TextsAreRead =
     (ps : List Pair) → length ps ≤ 65536 → SayCharacters ps → mapping_in (cmap_text (lines_of ps)) ≡ Some (lines_of ps)
+
+-- a reader by ToUnicode finds the texts of the pairs, but for characters that no code may say
+abbrev pub TextsAreSaid : Type 0
+TextsAreSaid = (ps : List Pair) → length ps ≤ 65536 → SayCharacters ps → HaveZeroth ps → AreSaid ps
+
+-- pairs that have those of a run too are pairs as runs have them
+abbrev pub ZerothStays : Type 0
+ZerothStays = (ps : List Pair) (pieces : List Piece) → HaveZeroth ps → HaveZeroth (with_pairs ps pieces)

@@ -3,5 +3,6 @@ pub mod GlyphMap
 pub mod Laws
 pub mod Own
 pub mod Pairs
+pub mod Said
 pub mod TextFont
 pub mod Texts

@@ -19,4 +19,4 @@ mod texts;
 
 pub use call::text_font;
 pub use font::TextFont;
-pub use laws::{maps_are_read, own_glyphs_are_kept, texts_are_read};
+pub use laws::{maps_are_read, own_glyphs_are_kept, texts_are_read, texts_are_said, zeroth_stays};

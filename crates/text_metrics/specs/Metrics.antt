@@ -11,8 +11,7 @@ use Rattle.subsetter_sfnt.specs.Read.{Font, table_in}
 use Rattle.cid_embed.specs.Width.{thousandths}
 use Rattle.font_advances.specs.Advances.{advances_of}
 use Rattle.pdf_operators.specs.declared.places.GlyphMetrics.{GlyphMetrics}
-use Rattle.pdf_source.specs.Source.{outlines_of}
-use Rattle.text_metrics.specs.Ink.{each_from, inked_by}
+use Rattle.text_metrics.specs.Ink.{each_from, inked_in}
 use Rattle.text_metrics.specs.declared.metrics.TextMetrics.{TextMetrics}
 
 -- the width that W has of an advance; a line isn't vertical
@@ -27,9 +26,6 @@ pub record Metrics : Type 0 where
 
 abbrev pub metrics_seen : TextMetrics → Metrics
 metrics_seen t = record { units = t.units; metrics = t.metrics.items; inked = t.inked.items }
-
-abbrev pub inked_in : (List ℕ → Option (List ℕ)) → ℕ → List Bool
-inked_in find count = inked_by (find (codes "glyf")) (outlines_of find) (find (codes "CFF ")) count
 
 -- the number of glyphs that maxp has
 abbrev pub count_in : (List ℕ → Option (List ℕ)) → Result ℕ Error

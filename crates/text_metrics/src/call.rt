@@ -70,8 +70,8 @@ pub(crate) fn count_in(face: &Face<'_>) -> Result<u16, Error>
 }
 
 /// What runs of text, from left to right or from right to left, need of a font at coordinates: of each glyph the width that W
-/// has, in thousandths of the em, and whether it has ink. `data`, `index` and `coordinates` are as for `advances`. In `CFF ` a
-/// glyph has no ink where its charstring is endchar alone, with or without a width; in `CFF2` each counts as inked.
+/// has, in thousandths of the em, and whether it has ink: whether its outline isn't empty, as `kinds_of` has it. `data`, `index`
+/// and `coordinates` are as for `advances`.
 ///
 /// # Errors
 ///

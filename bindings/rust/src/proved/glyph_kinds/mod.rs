@@ -21,3 +21,4 @@ pub use call::kinds_of;
 pub use call::unseen_glyphs;
 #[cfg(feature = "program")]
 pub use counts::kind_counts;
+pub use outlines::{has_outline, outlines_in, FaceOutlines};

@@ -17,7 +17,7 @@ use crate::rattle::alloc::Global;
 
 /// The outlines of a face.
 #[derive(Clone, Copy)]
-pub(crate) enum FaceOutlines<'a> {
+pub enum FaceOutlines<'a> {
     /// Whether the entries of `loca` have four bytes, `loca`, and `glyf`.
     Contours(bool, &'a [u8], &'a [u8]),
     /// The CharStrings INDEX.
@@ -67,10 +67,7 @@ fn charstrings_by<'a>(
 }
 
 /// The outlines of a face, as far as they can be read.
-pub(crate) fn outlines_in<'a>(
-    alloc: Global,
-    face: &Face<'a>,
-) -> Result<Option<FaceOutlines<'a>>, Error> {
+pub fn outlines_in<'a>(alloc: Global, face: &Face<'a>) -> Result<Option<FaceOutlines<'a>>, Error> {
     if let Some(glyf) = face.stored(Tag::GLYF) {
         return Ok(contours_by(
             glyf,
@@ -129,7 +126,7 @@ fn draws(outlines: FaceOutlines<'_>, glyph: u16) -> bool {
 }
 
 /// Whether a glyph has an outline.
-pub(crate) fn has_outline(outlines: Option<FaceOutlines<'_>>, glyph: u16) -> bool {
+pub fn has_outline(outlines: Option<FaceOutlines<'_>>, glyph: u16) -> bool {
     match outlines {
         Some(it) => draws(it, glyph),
         None => false,

@@ -40,7 +40,7 @@ fn count_in(face: &Face<'_>) -> Result<u16, Error> {
 ///   `CFF ` they can have one, which stays at the origin.
 /// - A glyph can be a part where its outline is empty, or the box in its header is within 16,384 units of the origin on
 ///   each side; at coordinates, where the font has `fvar`, within 8,192 units, as boxes are those of the default. Of
-///   `CFF ` each can. In a font with `COLR`, `SVG `, `CBDT` or `sbix` none can be one.
+///   `CFF ` each can. In a font with `COLR`, `SVG `, `CBDT`, `sbix` or `EBDT` none can be one.
 ///
 /// # Errors
 ///

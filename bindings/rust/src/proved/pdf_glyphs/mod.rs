@@ -15,7 +15,7 @@ mod metrics;
 mod origins;
 mod tops;
 
-pub use boxes::{box_around, glyph_box, joined, OutlineTables};
+pub use boxes::{box_around, joined, OutlineTables};
 pub use columns::{columns_at, Columns};
 pub use heights::HeightVariation;
 pub use metrics::VerticalTables;

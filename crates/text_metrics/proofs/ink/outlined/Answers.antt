@@ -1,14 +1,15 @@
 use Rattle.std.proofs.Common.{◌≡◌, ◌+◌, ◌-◌, suc, ◌++◌, ap, ◌∙◌, arith}
-use Rattle.pdf_glyphs.specs.Boxes.{outlines_view}
-use Rattle.text_metrics.specs.Ink.{each_from, has_outline}
-use Rattle.std.specs.Prelude.{is_some}
+use Rattle.std.specs.Option.{option_map}
+use Rattle.glyph_kinds.specs.Outlines.{has_outline}
+use Rattle.glyph_kinds.specs.View.{outlines_view}
+use Rattle.text_metrics.specs.Ink.{each_from}
 use Rattle.text_metrics.proofs.Each.{each_more}
 use Rattle.text_metrics.proofs.ink.outlined.Goals as goal
 
 pub loop-glyph-preserved : goal.loop-glyph-preserved
 loop-glyph-preserved c =
-    let f = has_outline (outlines_view c.args.tables) in
+    let f = has_outline (option_map outlines_view c.args.outlines) in
     let g = c.loop-glyph.glyph in
     let m = c.args.count - (g + 1) in
     let step : c.args.count - g ≡ suc m = omega arith in
-    ap (λ l. l ++ each_from f (g + 1) m) c.in_ok-push.ensures.items ∙ each_more f c.loop-glyph.inked.items (each_from f 0 c.args.count) _ g (c.args.count - g) m step (c.is_some.ensures ∙ ap is_some c.glyph_box.ensures) c.loop-glyph.invariant
+    ap (λ l. l ++ each_from f (g + 1) m) c.in_ok-push.ensures.items ∙ each_more f c.loop-glyph.inked.items (each_from f 0 c.args.count) _ g (c.args.count - g) m step c.has_outline.ensures c.loop-glyph.invariant
