@@ -7,11 +7,10 @@ import { readRows } from "./rows.mjs";
 
 export const path = (name) => fileURLToPath(new URL(`../../${name}`, import.meta.url));
 export const read = (name) => readFileSync(path(name));
-export const table = read("crates/dev_rows/data/subset.txt").toString();
-/** The rows for PDF, and their fonts. */
-export const PDF_DATA = "bindings/rust/tests/data";
-export const pdfTable = read(`${PDF_DATA}/pdf_rows.txt`).toString();
-export const made = (name) => new Uint8Array(read(`${PDF_DATA}/${name}`));
+export const [table, pdfTable, kinds] = ["subset", "pdf", "kinds"].map((name) => read(`crates/dev_rows/data/${name}.txt`).toString());
+/** Where a font of the rows for PDF is: the crate's package has those of TrueType. */
+export const place = (name) => `${name.endsWith("ttf") ? "bindings/rust/tests" : "crates/dev_rows"}/data/${name}`;
+export const made = (name) => new Uint8Array(read(place(name)));
 export const wasm = new Uint8Array(read("bindings/js/out/subsetter.wasm"));
 export const subsetter = await library.load(wasm);
 export const { fonts, texts } = readRows(table);

@@ -1,16 +1,14 @@
 //! What the rows don't say of the calls in `subsetter::pdf`: faces, numbers of 32 bits, each choice.
 #![cfg(feature = "variable-fonts")]
 
-use std::fs;
+mod table;
+
 use subsetter::pdf::{
     codes_of, glyphs_of, pdf_font, Bounds, Codes, Direction, FontError, FontOptions, Layout, PartsError, PdfFont,
     ProgramChoice, Rights, Shown, SubsetTag,
 };
 use subsetter::{embed_with_variations, explain, Call, Error, Limits, Options, Tag};
-
-fn made(name: &str) -> Vec<u8> {
-    fs::read(concat!(env!("CARGO_MANIFEST_DIR"), "/tests/data/").to_string() + name).unwrap()
-}
+use table::made;
 
 /// The font without the table of a tag.
 fn without(font: &[u8], tag: &[u8; 4]) -> Vec<u8> {
