@@ -42,8 +42,8 @@ fn each_character_has_its_glyph() {
 
 #[test]
 fn other_tables_and_sequences() {
-    // A symbol table, two of Mac OS Roman (formats 0 and 6), Unicode ones of formats 13 and 6, and one with sequences: written by
-    // fontTools, and read by hb-shape but for Roman.
+    // A symbol table, two of Mac OS Roman (formats 0 and 6), Unicode ones of formats 13 and 6, and one with sequences: read by
+    // hb-shape but for Roman.
     let fonts = made("made_cmaps.ttc");
     type Wanted = (&'static str, &'static [(u16, &'static str)], &'static [usize]);
     let wanted: [Wanted; 6] = [
