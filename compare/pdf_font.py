@@ -34,7 +34,7 @@ from pdf_cases import LOOSE, Case, damaged
 from pdf_faults import Font, archival_page, faults_of_file, faults_of_ink, faults_of_text, faults_of_values, outcome
 
 FONTS = [it[0] for it in fonts.TRUETYPE_FONTS + fonts.CFF_FONTS] + ["fonts-inter-variable"]
-OF_THE_CRATE = [os.path.join(build.ROOT, "bindings", "rust", "tests", "data", it) for it in ("made.ttf", "made.otf", "made_other_widths.otf", "made_variable.ttf")]
+OF_THE_ROWS = [os.path.join(build.ROOT, it) for it in ("bindings/rust/tests/data/made.ttf", "crates/dev_rows/data/made.otf", "crates/dev_rows/data/made_other_widths.otf", "bindings/rust/tests/data/made_variable.ttf")]
 # The cases of a piece, and of which one goes to the readers.
 PIECE, SEEN = 120, 6
 
@@ -104,7 +104,7 @@ def compared_piece(cases, given, room):
 def chosen(given):
     """Faces and copies to take: a path, a face, and the number of a copy. A further draw of a variable font has one below 0."""
     rng = random.Random("pdf_font" if given.seed == "1" else given.seed)
-    known = fonts.faces() + [(path, 0) for path in OF_THE_CRATE]
+    known = fonts.faces() + [(path, 0) for path in OF_THE_ROWS]
     there = [it for it in known if os.path.getsize(it[0]) < 40_000_000]
     taken = [(*it, 0) for it in rng.sample(there, min(given.faces, len(there)))]
     variable = [it for it in there if "/inter-vf/" in it[0] or "variable" in it[0]]

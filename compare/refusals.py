@@ -22,7 +22,7 @@ from fault_runs import CMAP, FONT
 
 REFUSE = os.path.join(build.BUILD, "refuse.so")
 OLD = b"what stood there before"
-VARIABLE, CFF2 = (os.path.join(build.ROOT, "bindings", "rust", "tests", "data", name) for name in ("made_variable.ttf", "made_cff2.otf"))
+VARIABLE, CFF2 = (os.path.join(build.ROOT, path) for path in ("bindings/rust/tests/data/made_variable.ttf", "crates/dev_rows/data/made_cff2.otf"))
 CANARY = build.Canary()
 
 

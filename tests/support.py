@@ -34,25 +34,25 @@ WINDOWS_NUMBERS = {errno.ENOENT: (2, 3), errno.EISDIR: (5,), errno.ENOSPC: (112,
 
 @functools.lru_cache(maxsize=None)
 def compiler():
-    """tests/data/compile as a module."""
+    """tests/data/compile as a module, and the fonts of tests/data/rows/fonts."""
     loader = importlib.machinery.SourceFileLoader("compile", str(DATA / "compile"))
     module = importlib.util.module_from_spec(importlib.util.spec_from_loader("compile", loader))
     loader.exec_module(module)
-    return module
+    return module, module.fonts()
 
 
 @functools.lru_cache(maxsize=None)
 def fonts():
     """The fonts of tests/data/rows/fonts, by their names."""
-    return compiler().fonts()
+    library = compiler()[1]
+    return {name: it.bytes(library.formats) for name, it in library.fonts.items()}
 
 
-def font(text):
-    """A font in the language of the rows (tests/data/README.md)."""
-    module, lines = compiler(), [it for it in text.strip("\n").split("\n") if it.strip()]
+def font(text, like=None):
+    """A font in the language of the rows (tests/data/README.md), or what that changes of one of them."""
+    (module, library), lines = compiler(), [it for it in text.strip("\n").split("\n") if it.strip()]
     entry = module.reading.parsed(["font made", *lines], "a test")[0]
-    library = module.requests.Library(module.fields.Formats(str(DATA / "language" / "formats.txt")))
-    return library.font(entry).bytes(library.formats)
+    return library.font(entry, like).bytes(library.formats)
 
 
 def tables_of(data):

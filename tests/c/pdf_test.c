@@ -1,7 +1,7 @@
-/* Each row of pdf_rows.txt by the calls for PDF, with its objects: pdf_test [--brief] FOLDER
+/* Each row of pdf.txt by the calls for PDF, with its objects: pdf_test [--brief] FOLDER PACKED
  *
  * Then the sheet; options and texts that are refused; each request for memory refused in turn; and damaged fonts, without --brief.
- * FOLDER has pdf_rows.txt and its fonts. SUBSETTER_BY_CARGO is for the library of bindings/capi, whose empty lists are null. */
+ * FOLDER has the rows and their fonts, PACKED those of TrueType. SUBSETTER_BY_CARGO is for the library of bindings/capi, whose empty lists are null. */
 /* What the header takes of hb.h: HarfBuzz's structs have these fields at their front. */
 #include <stdint.h>
 #define HB_H
@@ -47,13 +47,13 @@ struct row {
 #define NO_PLACE NULL, 0
 #define NOTHING NO_PLACE, NULL, 0, NULL, 0, NULL, 0
 
-static const char *folder;
+static const char *folder, *packed;
 
-/* A file of the folder. */
+/* A file of the folders. */
 static uint8_t *file_of(const char *name, size_t *size)
 {
     char path[4096];
-    snprintf(path, sizeof path, "%s/%s", folder, name);
+    snprintf(path, sizeof path, "%s/%s", strstr(name, ".ttf") ? packed : folder, name);
     return content(path, size);
 }
 
@@ -1284,15 +1284,16 @@ int main(int count, char **words)
     static void (*const tries[])(const struct row *) = {
         try_utf8, try_words, try_options, try_texts, try_nulls, try_sheets, try_glyphs};
     size_t size, rows = 0;
-    if (count < 2)
+    if (count < 3)
         return 2;
-    folder = words[count - 1];
-    char *whole = (char *)file_of("pdf_rows.txt", &size), *text = whole;
+    folder = words[count - 2];
+    packed = words[count - 1];
+    char *whole = (char *)file_of("pdf.txt", &size), *text = whole;
     while ((text = read_row(&row, text)) != NULL) {
         answer(&row);
         if (CAN_REFUSE)
             refuse(&row);
-        if (count == 2)
+        if (count == 3)
             damage(&row, 1000);
         for (size_t i = 0; rows == 0 && i < sizeof tries / sizeof *tries; i++)
             tries[i](&row);

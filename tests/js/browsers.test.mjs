@@ -6,20 +6,20 @@ import { mkdtempSync, rmSync } from "node:fs";
 import { tmpdir } from "node:os";
 import { extname, join } from "node:path";
 import { test } from "node:test";
-import { PDF_DATA, pdfTable, read } from "./support.mjs";
+import { pdfTable, place, read } from "./support.mjs";
 import { readPdfRows } from "./rows.mjs";
 
 const TYPES = { ".mjs": "text/javascript", ".wasm": "application/wasm" };
 const FILES = {
     "/subsetter.mjs": "bindings/js/subsetter.mjs", "/subsetter.wasm": "bindings/js/out/subsetter.wasm", "/rows.mjs": "tests/js/rows.mjs",
-    "/rows.txt": "crates/dev_rows/data/subset.txt", "/pdf_rows.txt": `${PDF_DATA}/pdf_rows.txt`,
-    ...Object.fromEntries(readPdfRows(pdfTable).map(({ font }) => [`/${font}`, `${PDF_DATA}/${font}`])),
+    "/rows.txt": "crates/dev_rows/data/subset.txt", "/pdf.txt": "crates/dev_rows/data/pdf.txt",
+    ...Object.fromEntries(readPdfRows(pdfTable).map(({ font }) => [`/${font}`, place(font)])),
 };
 const PAGE = `<!doctype html><meta charset=utf-8><script type=module>
     const wrong = [];
     try {
         const library = await import("/subsetter.mjs"), { readPdfRows, wrongPdfRows, wrongRows } = await import("/rows.mjs");
-        const table = await (await fetch("/rows.txt")).text(), text = await (await fetch("/pdf_rows.txt")).text(), files = {};
+        const table = await (await fetch("/rows.txt")).text(), text = await (await fetch("/pdf.txt")).text(), files = {};
         for (const { font } of readPdfRows(text)) files[font] = await (await fetch("/" + font)).arrayBuffer();
         for (const source of [undefined, "/subsetter.wasm", await fetch("/subsetter.wasm")]) wrong.push(...wrongRows(library, await library.load(source), table));
         wrong.push(...wrongPdfRows(library, await library.load(), text, files));

@@ -1,7 +1,7 @@
 import assert from "node:assert/strict";
 import { test } from "node:test";
 import { readPdfRows, readRows, wrongKindRows, wrongPdfRows, wrongRows } from "./rows.mjs";
-import { library, made, path, PDF_DATA, pdfTable, read, subsetter, table, wasm } from "./support.mjs";
+import { kinds, library, made, path, pdfTable, read, subsetter, table, wasm } from "./support.mjs";
 
 test("each worked row", () => {
     assert.ok(readRows(table).rows.length > 450);
@@ -16,7 +16,6 @@ test("each row for PDF", () => {
 });
 
 test("each row of kinds of pictures", () => {
-    const kinds = read(`${PDF_DATA}/kinds.txt`).toString();
     assert.ok(kinds.match(/^kinds /gm).length > 20);
     assert.deepEqual(wrongKindRows(subsetter, kinds), []);
 });

@@ -7,11 +7,10 @@ import { readRows } from "./rows.mjs";
 
 export const path = (name) => fileURLToPath(new URL(`../../${name}`, import.meta.url));
 export const read = (name) => readFileSync(path(name));
-export const table = read("crates/dev_rows/data/subset.txt").toString();
-/** The rows for PDF, and their fonts. */
-export const PDF_DATA = "bindings/rust/tests/data";
-export const pdfTable = read(`${PDF_DATA}/pdf_rows.txt`).toString();
-export const made = (name) => new Uint8Array(read(`${PDF_DATA}/${name}`));
+export const [table, pdfTable, kinds] = ["subset", "pdf", "kinds"].map((name) => read(`crates/dev_rows/data/${name}.txt`).toString());
+/** Where a font of the rows for PDF is: the crate's package has those of TrueType. */
+export const place = (name) => `${name.endsWith("ttf") ? "bindings/rust/tests" : "crates/dev_rows"}/data/${name}`;
+export const made = (name) => new Uint8Array(read(place(name)));
 export const wasm = new Uint8Array(read("bindings/js/out/subsetter.wasm"));
 export const subsetter = await library.load(wasm);
 export const { fonts, texts } = readRows(table);
@@ -29,40 +28,22 @@ export function throws(call, kind, what) {
     assert.fail(`${what}: nothing is thrown`);
 }
 
-/** An sfnt of tables by tag. */
-function sfnt(tables) {
-    const tags = Object.keys(tables).sort(), front = 12 + 16 * tags.length;
-    const bytes = new Uint8Array(tags.reduce((at, tag) => at + Math.ceil(tables[tag].length / 4) * 4, front)), view = new DataView(bytes.buffer);
-    view.setUint32(0, 0x00010000);
-    view.setUint16(4, tags.length);
-    let at = front;
-    tags.forEach((tag, i) => {
-        [...tag].forEach((letter, k) => view.setUint8(12 + 16 * i + k, letter.charCodeAt(0)));
-        view.setUint32(20 + 16 * i, at);
-        view.setUint32(24 + 16 * i, tables[tag].length);
-        bytes.set(tables[tag], at);
-        at += Math.ceil(tables[tag].length / 4) * 4;
-    });
-    return bytes;
-}
-
 /** A font of `count` glyphs of `size` bytes each (a multiple of 4), whose widths are 500, 501, and so on. */
 export function plainFont(count, size) {
-    const glyf = new Uint8Array(count * size), loca = new DataView(new ArrayBuffer(4 * count + 4));
-    const hmtx = new DataView(new ArrayBuffer(4 * count)), head = new DataView(new ArrayBuffer(54));
-    const hhea = new DataView(new ArrayBuffer(36)), maxp = new DataView(new ArrayBuffer(32));
+    const [glyf, head, hhea, hmtx, loca, maxp] = [count * size, 54, 36, 4 * count, 4 * count + 4, 32].map((length) => Buffer.alloc(length));
     for (let glyph = 0; glyph < count; glyph++) {
-        for (let i = 0; i < size; i++) glyf[glyph * size + i] = i === 0 ? 0 : i === 1 ? 1 : (glyph * 7 + i * 13) & 255;
-        loca.setUint32(4 * glyph + 4, (glyph + 1) * size);
-        hmtx.setUint16(4 * glyph, 500 + glyph % 1000);
+        for (let i = 1; i < size; i++) glyf[glyph * size + i] = i === 1 ? 1 : glyph * 7 + i * 13;
+        loca.writeUInt32BE((glyph + 1) * size, 4 * glyph + 4);
+        hmtx.writeUInt16BE(500 + glyph % 1000, 4 * glyph);
     }
-    head.setUint16(18, 1000);
-    head.setUint16(50, 1);
-    hhea.setUint16(34, count);
-    maxp.setUint32(0, 0x00010000);
-    maxp.setUint16(4, count);
-    const bytes = (view) => new Uint8Array(view.buffer);
-    return sfnt({ glyf, head: bytes(head), hhea: bytes(hhea), hmtx: bytes(hmtx), loca: bytes(loca), maxp: bytes(maxp) });
+    for (const [table, at, number] of [[head, 18, 1000], [head, 50, 1], [hhea, 34, count], [maxp, 0, 1], [maxp, 4, count]]) table.writeUInt16BE(number, at);
+    const tables = Object.entries({ glyf, head, hhea, hmtx, loca, maxp }), parts = [Buffer.from([0, 1, 0, 0, 0, tables.length, 0, 0, 0, 0, 0, 0])];
+    let at = 12 + 16 * tables.length;
+    for (const [tag, { length }] of tables) {
+        parts.push(Buffer.from(tag), Buffer.from(Uint32Array.of(0, at, length).buffer).swap32());
+        at += Math.ceil(length / 4) * 4;
+    }
+    return new Uint8Array(Buffer.concat([...parts, ...tables.flatMap(([, table]) => [table, Buffer.alloc(-table.length & 3)])]));
 }
 
 /** A number as WebAssembly writes it (LEB128), and reads it: with where it ends. */

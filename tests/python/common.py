@@ -11,9 +11,7 @@ from typing import NamedTuple
 HERE = Path(__file__).resolve().parent
 ROOT = HERE.parents[1]
 MODULE = ROOT / "bindings/python"
-ROWS = ROOT / "crates/dev_rows/data/subset.txt"
-# The rows for PDF, and their fonts.
-PDF_DATA = ROOT / "bindings/rust/tests/data"
+DATA = ROOT / "crates/dev_rows/data"
 
 ERRORS = {1: "UnknownKind", 2: "MalformedFont", 3: "Unimplemented", 4: "SubsetError", 5: "OverflowError", 6: "CFFError", 7: "OutOfMemory",
           11: "NotPermitted", 12: "InvalidText", 13: "NoCmap", 14: "BitmapsAlone", 15: "Overfull"}
@@ -64,7 +62,7 @@ def choices_of(kind, words):
 
 def read_rows():
     """The rows that the module can say, the fonts by name, and the texts of the statuses."""
-    lines = [line.split() for line in ROWS.read_text().splitlines() if line and line[0] != "#"]
+    lines = [line.split() for line in (DATA / "subset.txt").read_text().splitlines() if line and line[0] != "#"]
     fonts = {name: hexadecimal(word) for kind, name, word, *_ in lines if kind == "font"}
     texts = {int(status): hexadecimal(word).decode() for kind, status, word, *_ in lines if kind == "text"}
     rows = []
@@ -83,7 +81,7 @@ def read_rows():
 def pdf_rows():
     """The rows for PDF as dicts of fields; `object` has a list of them."""
     rows, row = [], {}
-    for line in (PDF_DATA / "pdf_rows.txt").read_text().split("\n"):
+    for line in (DATA / "pdf.txt").read_text().split("\n"):
         name, _, value = line.replace("~", "\n").partition(" ")
         if not line and row:
             rows.append(row)
@@ -96,8 +94,8 @@ def pdf_rows():
 
 
 def made(name):
-    """A font of the rows for PDF."""
-    return (PDF_DATA / name).read_bytes()
+    """A font of the rows for PDF; the crate's package has those of TrueType."""
+    return ((ROOT / "bindings/rust/tests/data" if name.endswith("ttf") else DATA) / name).read_bytes()
 
 
 def raised(call, *arguments, **choices):

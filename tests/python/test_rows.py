@@ -3,7 +3,7 @@
 import pytest
 import subsetter
 from common import ERRORS as STATUSES
-from common import PDF_DATA, hexadecimal, made, numbers, pdf_rows, read_rows
+from common import DATA, hexadecimal, made, numbers, pdf_rows, read_rows
 
 ROWS, FONTS, TEXTS = read_rows()
 KINDS = {"TrueType": "TrueType", "CFF": "CIDFontType0C", "OpenType": "OpenType"}
@@ -15,7 +15,7 @@ OPTIONS = {
 ERRORS = {"NotPermitted": subsetter.NotPermitted, "TextTooLong": subsetter.InvalidText}
 
 
-KIND_ROWS = [line.split()[1:] for line in (PDF_DATA / "kinds.txt").read_text().splitlines() if line.startswith("kinds ")]
+KIND_ROWS = [line.split()[1:] for line in (DATA / "kinds.txt").read_text().splitlines() if line.startswith("kinds ")]
 
 
 def answer(call, *arguments, **choices):

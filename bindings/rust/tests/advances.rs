@@ -1,17 +1,16 @@
-//! Each row of `tests/data/advances.txt`, and the axes that a font hasn't.
+//! Each row of `advances.txt`, and the axes that a font hasn't.
 #![cfg(feature = "variable-fonts")]
 
 mod table;
 
-use std::fs;
 use subsetter::pdf::{advances, advances_with_limits, pdf_font, Advances, FontOptions, Shown};
 use subsetter::Limits;
 use table::words::{bytes, short_numbers};
-use table::{variations, ERRORS};
+use table::{made, variations, ERRORS};
 
 #[test]
 fn each_row_is_answered() {
-    let text = fs::read_to_string(concat!(env!("CARGO_MANIFEST_DIR"), "/tests/data/advances.txt")).unwrap();
+    let text = String::from_utf8(made("advances.txt")).unwrap();
     let rows = text.lines().filter_map(|it| it.strip_prefix("advances "));
     assert!(rows.clone().count() > 35);
     for row in rows {

@@ -1,16 +1,15 @@
-//! Each row of `tests/data/kinds.txt`.
+//! Each row of `kinds.txt`.
 #![cfg(feature = "variable-fonts")]
 
 mod table;
 
-use std::fs;
 use subsetter::pdf::{glyphs_of, kinds_of, pdf_font, FontError, FontOptions, Shown};
 use table::words::{bytes, short_numbers};
-use table::ERRORS;
+use table::{made, ERRORS};
 
 #[test]
 fn each_row_is_answered() {
-    let text = fs::read_to_string(concat!(env!("CARGO_MANIFEST_DIR"), "/tests/data/kinds.txt")).unwrap();
+    let text = String::from_utf8(made("kinds.txt")).unwrap();
     let rows = text.lines().filter_map(|it| it.strip_prefix("kinds "));
     assert!(rows.clone().count() > 20);
     for row in rows {

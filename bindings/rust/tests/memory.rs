@@ -185,8 +185,7 @@ mod pdf {
 fn each_request_of_a_pdf_font_may_be_refused() {
     use subsetter::pdf::Codes;
     for name in ["made.ttf", "made_version_1.otf", "made_variable.ttf"] {
-        let path = std::path::Path::new(env!("CARGO_MANIFEST_DIR")).join("tests/data");
-        let font = std::fs::read(path.join(name)).unwrap();
+        let font = table::made(name);
         for options in pdf::options() {
             let answer = pdf::made(&font, "A", &options);
             assert!(answer.is_ok());

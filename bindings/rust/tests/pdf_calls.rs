@@ -1,16 +1,14 @@
 //! What the rows don't say of the calls in `subsetter::pdf`: faces, numbers of 32 bits, each choice.
 #![cfg(feature = "variable-fonts")]
 
-use std::fs;
+mod table;
+
 use subsetter::pdf::{
     codes_of, glyphs_of, pdf_font, Bounds, Codes, Direction, FontError, FontOptions, Layout, PartsError, PdfFont,
     ProgramChoice, Rights, Shown, SubsetTag,
 };
 use subsetter::{embed_with_variations, explain, Call, Error, Limits, Options, Tag};
-
-fn made(name: &str) -> Vec<u8> {
-    fs::read(concat!(env!("CARGO_MANIFEST_DIR"), "/tests/data/").to_string() + name).unwrap()
-}
+use table::made;
 
 /// The font without the table of a tag.
 fn without(font: &[u8], tag: &[u8; 4]) -> Vec<u8> {
@@ -44,8 +42,8 @@ fn each_character_has_its_glyph() {
 
 #[test]
 fn other_tables_and_sequences() {
-    // A symbol table, two of Mac OS Roman (formats 0 and 6), Unicode ones of formats 13 and 6, and one with sequences: written by
-    // fontTools, and read by hb-shape but for Roman.
+    // A symbol table, two of Mac OS Roman (formats 0 and 6), Unicode ones of formats 13 and 6, and one with sequences: read by
+    // hb-shape but for Roman.
     let fonts = made("made_cmaps.ttc");
     type Wanted = (&'static str, &'static [(u16, &'static str)], &'static [usize]);
     let wanted: [Wanted; 6] = [

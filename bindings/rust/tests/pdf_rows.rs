@@ -1,12 +1,12 @@
-//! Each row of `tests/data/pdf_rows.txt`, field by field.
+//! Each row of `pdf.txt`, field by field.
 #![cfg(feature = "variable-fonts")]
 
-use std::fs;
+mod table;
+
 use subsetter::pdf::{pdf_font, FontError, FontOptions, Objects, Part, PdfFont, Permission, ProgramKind, References};
 use subsetter::pdf::{Bounds, Codes, Direction, ProgramChoice, Rights, Shown, Usage};
 use subsetter::Tag;
-
-const DATA: &str = concat!(env!("CARGO_MANIFEST_DIR"), "/tests/data/");
+use table::made;
 
 /// A row: what is asked, and the fields of the answer with their values.
 struct PdfRow {
@@ -71,7 +71,7 @@ fn row(fields: Vec<(String, String)>) -> PdfRow {
     let words = value("options").split_whitespace();
     PdfRow {
         name: value("row").to_string(),
-        font: fs::read(DATA.to_string() + value("font")).unwrap(),
+        font: made(value("font")),
         coordinates: coordinates(value("coordinates")),
         shown: shown(value("shown")),
         options: words.fold(without_hinting, chosen),
@@ -80,7 +80,7 @@ fn row(fields: Vec<(String, String)>) -> PdfRow {
 }
 
 fn pdf_rows() -> Vec<PdfRow> {
-    let text = fs::read_to_string(DATA.to_string() + "pdf_rows.txt").unwrap();
+    let text = String::from_utf8(made("pdf.txt")).unwrap();
     let field = |line: &str| {
         let (name, value) = line.split_once(' ').unwrap_or((line, ""));
         (name.to_string(), value.replace('~', "\n"))

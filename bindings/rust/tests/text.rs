@@ -1,6 +1,8 @@
 //! The calls of `subsetter::pdf::Text`: operators that were worked by hand, and lines that readers find again.
 #![cfg(feature = "variable-fonts")]
 
+mod table;
+
 use std::fs;
 use std::process::Command;
 use subsetter::pdf::{
@@ -8,13 +10,8 @@ use subsetter::pdf::{
     Text, TextError, TextOptions,
 };
 use subsetter::{Error, Limits, Tag};
+use table::made;
 use RunDirection::{LeftToRight, RightToLeft, TopToBottom};
-
-const DATA: &str = concat!(env!("CARGO_MANIFEST_DIR"), "/tests/data/");
-
-fn made(name: &str) -> Vec<u8> {
-    fs::read(DATA.to_string() + name).unwrap()
-}
 
 fn item(glyph: u16, text: Option<&str>, x_advance: i32) -> Item<'_> {
     Item { glyph, text, x_advance, ..Item::default() }

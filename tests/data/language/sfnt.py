@@ -224,7 +224,7 @@ class Font:
             data += made + bytes(-len(made) % 4 if is_padded else 0)
         records = b"".join(records[id(it)] for it in self.tables)
         whole = self.version + b"".join(it.to_bytes(2, "big") for it in self.search()) + records + data
-        return adjusted(whole, records) if "checksums" in self.options else whole
+        return adjusted(whole, records) if "checksums" in self.options and not front else whole
 
 
 def sum_of(data):

@@ -1,4 +1,4 @@
-//! The worked rows of `crates/dev_rows/data/subset.txt`.
+//! What `tests/data/compile` writes, and the rows of `subset.txt`.
 
 #![allow(dead_code)] // (each test takes a part of it)
 
@@ -98,11 +98,16 @@ fn row(call: &'static str, choices: usize, words: &[&str], fonts: &HashMap<Strin
     }
 }
 
+/// A compiled file, or a font: the package has those of TrueType.
+pub fn made(name: &str) -> Vec<u8> {
+    let folder = if name.ends_with(".ttf") { "/tests/data/" } else { "/../../crates/dev_rows/data/" };
+    fs::read(env!("CARGO_MANIFEST_DIR").to_string() + folder + name).unwrap()
+}
+
 /// The worked rows.
 pub fn table() -> Table {
     let mut table = Table { fonts: HashMap::new(), rows: Vec::new() };
-    let name = concat!(env!("CARGO_MANIFEST_DIR"), "/../../crates/dev_rows/data/subset.txt");
-    let text = fs::read_to_string(name).unwrap();
+    let text = String::from_utf8(made("subset.txt")).unwrap();
     let lines = text.lines().filter(|line| !line.starts_with('#'));
     lines.for_each(|line| table.add(line));
     assert!(table.rows.len() > 300);
