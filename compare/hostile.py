@@ -1,7 +1,7 @@
 """Fonts that ask for as much work as they can: does it grow as input and answer do? hostile --only WORD
 
 Each family is made at half its size, at its size and at twice that (--short halves these): what takes a call of the C library of a processor, and what does
-it hold at most? (tests/test_hostile.py has lists, batches and names of the program.) A family fails where from half to twice the size the time, or the bytes held, for each byte of input and answer grow by more than
+it hold at most? (tests/test_files.py has lists, batches and names of the program.) A family fails where from half to twice the size the time, or the bytes held, for each byte of input and answer grow by more than
 GROWTH, where it takes more than SECONDS and 20 microseconds for each byte, or holds more than HELD and 64 bytes for each byte, and where it doesn't end. The
 families of BOUND run as many tokens or steps as the limits let them; these have to end.
 """

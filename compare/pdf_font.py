@@ -26,11 +26,12 @@ import time
 from concurrent.futures import ThreadPoolExecutor
 
 import build
+import damage
 import fonts
 import pdf_readers as readers
 import pdf_rules as rules
 import report as reports
-from pdf_cases import LOOSE, Case, damaged
+from pdf_cases import Case
 from pdf_faults import Font, archival_page, faults_of_file, faults_of_ink, faults_of_text, faults_of_values, outcome
 
 FONTS = [it[0] for it in fonts.TRUETYPE_FONTS + fonts.CFF_FONTS] + ["fonts-inter-variable"]
@@ -121,9 +122,9 @@ def case_of(path, index, copy, others, given, folder, is_seen):
     if not ({"glyf", "CFF "} & set(tables) and {"head", "hhea", "hmtx", "cmap"} <= set(tables)):
         return None
     if copy > 0:
-        for tag in LOOSE:
+        for tag in damage.LOOSE:
             others.setdefault(tag, []).extend([tables[tag]] if tag in tables and len(others.get(tag, ())) < 40 else [])
-        data, done = damaged(data, index, others, rng)
+        data, done = damage.of_loose_tables(rng, data, index, others)
         name, index = f"{name}, copy {copy}: {done}", 0
     case = Case(name, data, index, rng, folder, is_seen)
     return case if case.shown else None

@@ -1,4 +1,4 @@
-"""What the tests in Python share: paths, fonts of tests/data/rows, the program and its rows."""
+"""What the tests in Python share: paths, fonts of tests/data/rows, examples of documents, the program and its rows."""
 import contextlib
 import errno
 import functools
@@ -75,6 +75,13 @@ def is_whole(data):
 
 
 # ---- files and runs
+
+def blocks(text, language):
+    """The examples of a document in a language."""
+    found = re.findall(rf"^```{language}(?:,\S*)?\n(.*?)^```$", text, re.M | re.S)
+    assert found, f"no example in {language}"
+    return found
+
 
 def read(path):
     """The bytes of a file; of a link, a folder or nothing that it is one, or None."""

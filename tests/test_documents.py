@@ -8,8 +8,8 @@ import sys
 import venv
 
 import pytest
+from support import ROOT, blocks
 
-ROOT = os.path.dirname(os.path.dirname(os.path.realpath(__file__)))
 TEXT = "Hello, Ελλάδα!"
 
 
@@ -29,10 +29,9 @@ def run(room, *words, **env):
     return ran.stdout
 
 
-def blocks(document, *languages):
-    """The blocks of a document in these languages that write hello.pdf."""
-    found = re.findall(r"^```(\S+)\n(.*?)^```$", read(document), re.M | re.S)
-    found = [text for language, text in found if language.split(",")[0] in languages and "hello.pdf" in text]
+def programs(document, language):
+    """The examples of a document in a language that write hello.pdf."""
+    found = [it for it in blocks(read(document), language) if "hello.pdf" in it]
     assert found, f"{document} has no program that writes hello.pdf"
     return found
 
@@ -112,7 +111,7 @@ PROGRAMS = [
 
 @pytest.mark.parametrize("how, document, language", PROGRAMS)
 def test_programs_of_documents(tmp_path, how, document, language):
-    for program in blocks(document, language):
+    for program in programs(document, language):
         how(tmp_path, program)
         demand_pdf(tmp_path)
 
@@ -138,7 +137,7 @@ def test_commands_of_the_readme(tmp_path):
     path = f"{home}/venv/bin:{os.environ['PATH']}"
     room = tmp_path / "room"
     write(room / "Cargo.toml", '[package]\nname = "user"\nversion = "1.0.0"\nedition = "2021"\n\n[dependencies]\n')
-    write(room / "src" / "main.rs", blocks("README.md", "rust")[0])
+    write(room / "src" / "main.rs", programs("README.md", "rust")[0])
     commands = re.findall(r"^\| [^|]+ \| `([^`]+)` \|", read("README.md").partition("## Install\n")[2].partition("\n## ")[0], re.M)
     assert len(commands) == 5
     env = {"HOME": str(home), "PATH": path, "CARGO_HOME": str(home / "cargo"), "CARGO_NET_OFFLINE": "true", "PIP_NO_INDEX": "1", "npm_config_offline": "true", "DESTDIR": ""}
@@ -155,7 +154,7 @@ def test_commands_of_the_readme(tmp_path):
     run(room, "cargo", "run", "--quiet", **env)
     demand_pdf(room)
     (room / "hello.pdf").unlink()
-    write(room / "user.py", blocks("README.md", "python")[0])
+    write(room / "user.py", programs("README.md", "python")[0])
     run(room, "python", "user.py", **env)
     demand_pdf(room)
     assert (home / "local" / "lib" / "libsubsetter.so").exists() and (home / "local" / "include" / "subsetter.h").exists()

@@ -1,4 +1,5 @@
-"""Files, streams and memory of the program: rights, links, attributes, full disks, closed streams, and calls of the system that fail.
+"""Files, streams, memory and time of the program: rights, links, attributes, full disks, closed streams, calls of the system that fail, runs at the
+same time, and hostile input.
 
     SUBSET_FONT=FILE /usr/bin/python3 -m pytest -q tests/test_files.py
 
@@ -6,6 +7,7 @@ For Linux. System calls fail by strace, requests for memory by compare/drivers/r
 """
 import contextlib
 import errno
+import json
 import os
 import re
 import resource
@@ -17,6 +19,7 @@ import time
 from dataclasses import dataclass
 
 import pytest
+import support
 from support import COMMAND, IS_CARGO, OLD, SYSTEM, cannot, few_bytes, fonts, glyph_lines, is_whole, read, reason, remove, run
 
 SIMPLE, WANTED, LINES = fonts()["simple"], fonts()["simple_2"], glyph_lines((2, 1))
@@ -38,6 +41,30 @@ def put(path, data=OLD, mode=0o644):
     path.write_bytes(data)
     path.chmod(mode)
     return path
+
+
+def megabytes(count):
+    return lambda: resource.setrlimit(resource.RLIMIT_AS, (count << 20, count << 20))
+
+
+def seconds(count):
+    return lambda: resource.setrlimit(resource.RLIMIT_CPU, (count, count))
+
+
+def ended(room, *words, status=0, **given):
+    """Standard output and standard error of a run that ends with a status."""
+    got = run([str(it) for it in words], room, **given)
+    assert got[0] == status, got
+    return got[1:]
+
+
+def batch(room, requests, *words, status=0, **given):
+    """The answers to requests."""
+    (room / "requests").write_text("".join(json.dumps(it) + "\n" for it in requests))
+    return [json.loads(it) for it in ended(room, "--batch", "requests", *words, status=status, **given)[0].splitlines()]
+
+
+with_jobs = pytest.mark.parametrize("jobs", [[], ["--jobs", "2"]] if IS_CARGO else [[]], ids=str)
 
 
 # ---- rights, links, devices
@@ -575,9 +602,250 @@ def test_inodes(refusing, room, refuser):
 
 def test_little_memory(room):
     """Room is taken for the file alone, and not many times it."""
-    def little():
-        resource.setrlimit(resource.RLIMIT_AS, (64 << 20, 64 << 20))
     put(room / "in", SIMPLE + bytes(1 << 20))
-    assert run(SHORT, room, preexec_fn=little)[:2] == (0, LINES)
+    assert run(SHORT, room, preexec_fn=megabytes(64))[:2] == (0, LINES)
     put(room / "in", SIMPLE + bytes(80 << 20))
-    assert run(["in", "other", "0", "2"], room, preexec_fn=little) == (3, b"", b"cannot read in\nout of memory\n") and not (room / "other").exists()
+    assert run(["in", "other", "0", "2"], room, preexec_fn=megabytes(64)) == (3, b"", b"cannot read in\nout of memory\n") and not (room / "other").exists()
+
+
+# ---- runs at the same time
+
+@pytest.fixture
+def answers(room):
+    """OUT for glyph 1, and for glyphs 1 and 2."""
+    return [ended(room, "--quiet", "in", "-", "0", gids)[0] for gids in ("1", "1,2")]
+
+
+def two_runs(room):
+    for it in [subprocess.Popen([*COMMAND, "--quiet", "in", "out", "0", gids], cwd=room) for gids in ("1", "1,2")]:
+        assert it.wait() == 0
+
+
+def two_lines(room):
+    lines = [{"in": "in", "out": out, "gids": gids, "quiet": True} for out, gids in (("out", "1"), ("./out", "1,2"))]
+    assert [it["status"] for it in batch(room, lines, "--jobs", "2")] == [0, 0]
+
+
+@pytest.mark.parametrize("two", [two_runs, two_lines] if IS_CARGO else [two_runs])
+def test_two_that_write_one_out(room, answers, two):
+    """OUT is the answer of one."""
+    put(room / "out", answers[0])
+    for _ in range(300):
+        two(room)
+        assert read(room / "out") in answers and not list(room.glob("*.part*"))
+
+
+def test_part_of_another_run(room, answers):
+    """Beside the file of another run OUT is renamed alone."""
+    put(room / "out")
+    put(room / "out.part0", b"theirs")
+    before = os.stat(room / "out").st_ino
+    ended(room, "--quiet", "in", "out", "0", "1")
+    assert read(room / "out") == answers[0] and os.stat(room / "out").st_ino != before
+    assert read(room / "out.part0") == b"theirs" and names_in(room) == ["in", "out", "out.part0"]
+
+
+@pytest.mark.parametrize("held", ["out.part0", "out.part1"])
+def test_second_name_and_another_run(room, held):
+    """A file with a second name that another run may write isn't touched."""
+    put(room / "out")
+    os.link(room / "out", room / "second")
+    put(room / held, b"theirs")
+    assert ended(room, "--quiet", "in", "out", "0", "1", status=3)[1] == b"cannot write out\nresource busy\n"
+    assert read(room / "second") == OLD and names_in(room) == ["in", "out", held, "second"]
+
+
+def test_second_name_of_another_run(room, answers):
+    """The second name that a run at work gave OUT is none of OUT's own."""
+    put(room / "out")
+    put(room / "out.part0", b"theirs")
+    os.link(room / "out", room / "out.part1")
+    ended(room, "--quiet", "in", "out", "0", "1")
+    assert read(room / "out") == answers[0] and read(room / "out.part1") == OLD
+
+
+# ---- hostile batches and lists
+
+@with_jobs
+@pytest.mark.parametrize("member", ["out", "pdf"])
+@pytest.mark.parametrize("name", ["/dev/stdout", "answers", "./link"])
+def test_no_request_writes_among_the_answers(room, jobs, member, name):
+    (room / "link").symlink_to("answers")
+    (room / "requests").write_text(json.dumps({"in": "in", member: name, "gids": 1}))
+    with open(room / "answers", "wb") as stream:
+        assert to(stream, ["--batch", "requests", *jobs], room)[0] == 1
+    assert json.loads(read(room / "answers")) == {"line": 1, "status": 2, "error": f"the answers go to {name}"}
+
+
+@with_jobs
+@pytest.mark.parametrize(("key", "other"), [("out", "in"), ("in", "out")])
+def test_a_batch_takes_time_in_proportion(room, jobs, key, other):
+    lines = [*({other: "none", key: str(it), "gids": 1} for it in range(20000)), {"in": "in", "out": "new", "gids": 1, "quiet": True}]
+    got = batch(room, lines, *jobs, status=1, preexec_fn=seconds(6))
+    assert len(got) == 20001 and got[-1] == {"line": 20001, "status": 0}
+    assert (got[0]["error"], got[9]["error"]) == (("cannot read none",) * 2 if other == "in" else ("cannot read 0", "a line before names none, too"))
+
+
+@with_jobs
+def test_the_first_of_lines_with_one_out_counts(room, jobs):
+    lines = [{"in": "in", "out": "a"}, {"in": "in", "out": "a", "gids": 1}, {"in": "in", "pdf": "a", "gids": 1},
+             {"in": "in", "out": "b", "pdf": "a", "gids": 1}, {"in": "in", "out": "b", "gids": 1}, {"in": "in", "out": "c", "gids": 1}]
+    got = batch(room, lines, *jobs, status=1)
+    assert [it["status"] for it in got] == [2, 0, 2, 2, 2, 0]
+    assert [it.get("error") for it in got[2:5]] == ["a line before names a, too", "a line before names a, too", "a line before names b, too"]
+
+
+@pytest.mark.parametrize(("option", "many"), [("--gids", "0-65534," * 1000), ("--unicodes", "0-10FFFF," * 100)], ids=["gids", "unicodes"])
+def test_a_list_of_too_many_numbers_is_refused_while_it_is_read(room, option, many):
+    said = "usage: subset_font IN OUT INDEX GID[,GID..]\n%s: more than 2000000 numbers\nexpected: at most 2000000 numbers in a list\n"
+    (room / "list").write_text(many)
+    for word, value in ((option, many), (f"{option}-file", "list")):
+        assert ended(room, word, value, "in", "out", "0", status=2, preexec_fn=megabytes(100))[1].decode() == said % word
+    [answer] = batch(room, [{"in": "in", "out": "out", option[2:]: many}], status=1, preexec_fn=megabytes(100))
+    assert answer == {"line": 1, "status": 2, "error": f"{option}: more than 2000000 numbers"} and not (room / "out").exists()
+
+
+@with_jobs
+def test_the_lists_of_a_batch_have_two_million_numbers_in_sum(room, jobs):
+    put(room / "in", fonts()["small"])
+    many = [{"in": "in", "out": str(it), "gids": "0-9999," * 100, "quiet": True} for it in range(500)]
+    lines = [{"in": "in", "out": "first", "unicodes": "41-60,D800-DFFF", "quiet": True}, *many, {"in": "in", "out": "last", "gids": "1", "quiet": True}]
+    got = batch(room, lines, *jobs, status=1, preexec_fn=megabytes(900))
+    # (the first line takes 32 of them, the second a million, and the last one)
+    assert [it.get("error") for it in got] == [None, "malformed font", *["the lists of all lines have more than 2000000 numbers"] * 499, None]
+
+
+def test_two_million_numbers_are_few_enough(room):
+    most = "1," * 1_950_000 + "0-1," * 25_000
+    for more, status in (("", 0), ("1", 2)):
+        (room / "list").write_text(most + more)
+        assert ended(room, "--gids-file", "list", "in", "out", "0", status=status)[0].count(b"\n") == (0 if more else 2_000_000)
+
+
+# ---- hostile names and fonts
+
+NAME, PLAIN = "a\x1b[31m\n\x7f\x85\u061c\u200e\u202e\u2028\u2069b", "a\ufffd[31m" + "\ufffd" * 8 + "b"
+
+
+def test_names_of_files_are_cleaned_in_messages(room):
+    for words, said in (((NAME, "out", "0", "1"), "cannot read "), (("in", f"no/{NAME}", "0", "1"), "cannot write no/"), (("--gids-file", NAME, "in", "out", "0"), "cannot read ")):
+        assert ended(room, "--quiet", *words, status=3)[1].decode().splitlines()[0] == said + PLAIN
+
+
+def test_names_are_cleaned_in_the_answers_of_a_batch(room):
+    lines = [{"in": NAME, "out": "a", "gids": 1}, {"in": "in", "out": NAME, "gids": 1, "quiet": True}, {"in": "in", "out": NAME, "gids": 1}, {"in": "in", "out": "b", "gids": NAME}]
+    got = [it.get("error") for it in batch(room, lines, status=1)]
+    assert got == [f"cannot read {PLAIN}", None, f"a line before names {PLAIN}, too", f'--gids: "{PLAIN}" is not a glyph number']
+    [answer] = batch(room, [{"in": "in", NAME: 1}], status=1)
+    assert answer["error"].endswith(f"bytes: {PLAIN}")
+
+
+def test_in_that_has_no_end_is_refused(room):
+    assert ended(room, "/dev/zero", "out", "0", "1", status=3)[1] == b"cannot read /dev/zero\nfile too large\n"
+    with open(room / "long", "wb") as file:
+        file.truncate((1 << 30) + 1)
+    assert ended(room, "long", "out", "0", "1", status=3, preexec_fn=megabytes(100))[1] == b"cannot read long\nfile too large\n"
+
+
+def calling(count, levels):
+    """A font of glyphs that each run for 100 * 10^levels tokens, by subroutines."""
+    calls = [f"charstring {' '.join([f'{level - 107} callgsubr'] * 10)} return" for level in range(levels)]
+    return support.font(f"""
+    sfnt CFF
+    table CFF
+        CFFHeader 1 0 4 1
+        at names INDEX
+            text "A"
+        at top INDEX
+            DICT
+                CharStrings @charstrings
+        at strings INDEX
+        at globals INDEX
+            {(chr(10) + " " * 12).join([f"charstring {'1 hmoveto ' * 50}return", *calls])}
+        at charstrings INDEX
+            each 1..{count}
+                charstring {levels - 107} callgsubr endchar
+    maxp0.5 version=0.5 numGlyphs={count}
+""")
+
+
+def test_info_takes_no_longer_than_its_limits(room):
+    put(room / "in", calling(20000, 3))
+    assert b"\nsubset refuses: not all tried\n" in ended(room, "--info", "in", preexec_fn=seconds(3))[0]
+    assert json.loads(ended(room, "--info", "--json", "in")[0])["refusal"] == "not all tried"
+    put(room / "in", calling(20, 3))
+    assert b"\nsubset accepts every glyph\n" in ended(room, "--info", "in")[0]
+
+
+def test_the_reason_for_a_refusal_is_looked_for_within_twice_the_limits(room):
+    said = "processing CFF table failed\n%s\n"
+    put(room / "in", calling(20000, 3))
+    got = ended(room, "--limits", "100,64", "--gids", "*", "in", "out", "0", status=1, preexec_fn=seconds(3))
+    assert got[1].decode() == said % "twice the given --limits is too little, too, or the font is wrong"
+    put(room / "in", calling(20, 0))
+    assert ended(room, "--limits", "80,64", "in", "out", "0", "1", status=1)[1].decode() == said % "a glyph needs more than the 80,64 of --limits"
+
+
+def twenty(more):
+    """A font of 20 empty glyphs with further tables."""
+    return support.font(f"""
+    sfnt TrueType
+    table glyf
+    head unitsPerEm=1000
+    hhea numberOfHMetrics=1
+    table hmtx
+        u16 500 0*20
+    table loca
+        u16 0*21
+    maxp1.0 version=1.0 numGlyphs=20
+{more}""")
+
+
+def instances(numbers, names):
+    """A font with instances at 500, whose names have these numbers, and records of names, each a number and a text."""
+    heads, texts = b"", b""
+    for number, text in names:
+        heads += struct.pack(">6H", 0, 3, 0, number, 2 * len(text), len(texts))
+        texts += text.encode("utf-16-be")
+    return twenty(f"""
+    fvar majorVersion=1 axesArrayOffset=16 reserved=2 axisCount=1 axisSize=20 instanceCount={len(numbers)} instanceSize=8
+        variationAxis wght 100 400 900 0 256
+        hex {b"".join(struct.pack(">HHi", it, 0, 500 << 16) for it in numbers).hex()}
+    name count={len(names)} storageOffset={6 + len(heads)}
+        hex {(heads + texts).hex()}
+""")
+
+
+def test_a_message_lists_twenty_instances(room):
+    styles = [(300 + it, f"Style {it}") for it in range(25)]
+    listed = "named instances: " + ", ".join(name for _, name in styles[:20])
+    for count, more in ((25, " and 5 more"), (20, "")):
+        put(room / "in", instances(range(300, 300 + count), styles[:count]))
+        assert ended(room, "--at", "None", "in", "out", "0", "1", status=1)[1].decode() == f"no such instance in font\n{listed}{more}\n"
+    ended(room, "--at", "style 19", "in", "out", "0", "1")
+
+
+def test_names_are_found_by_an_index_and_compared_without_a_text(room):
+    put(room / "in", instances([300] * 20000, [(299, "")] * 4999 + [(300, "Bold")]))
+    assert ended(room, "--axes", "in", preexec_fn=seconds(2))[0].splitlines()[2:] == [b"instance wght=500 Bold"] * 20000
+    put(room / "in", instances([300] * 20000, [(300, "x" * 30000)]))
+    for name in ("Bold", "x" * 30001):
+        ended(room, "--at", name, "in", "out", "0", "1", status=1, preexec_fn=seconds(2))
+    put(room / "in", instances([300] * 2, [(300, "Stra\u00dfe \u00c9")]))
+    for name, status in (("Stra\u00dfe \u00c9", 0), ("sTRA\u00dfE \u00c9", 0), ("Stra\u00dfe \u00e9", 1), ("Stra\u00dfe ", 1), ("Stra\u00dfe \u00c9X", 1), ("Strasse \u00c9", 1)):
+        ended(room, "--at", name, "in", "out", "0", "1", status=status)
+
+
+@with_jobs
+def test_long_names_of_glyphs_are_written_as_they_are_found_but_64_mib_of_an_answer(room, jobs):
+    put(room / "in", twenty(f"""
+    post version=2.0
+        u16 20 258*20
+        pascal "{"N" * 255}"
+"""))
+    many, few = "1-19," * 14000, "1-19," * 12000
+    said = json.loads(ended(room, "--json", "--gids", many, "in", "out", "0", preexec_fn=megabytes(60))[0])
+    assert len(said["glyphs"]) == 19 * 14000 and said["glyphs"][-1]["name"] == "N" * 255
+    got = batch(room, [{"in": "in", "out": "a", "gids": many}, {"in": "in", "out": "b", "gids": few}, {"in": "in", "out": "c", "gids": many, "quiet": True}], *jobs, status=1)
+    assert got[0] == {"line": 1, "status": 1, "error": "the answer has more than 64 MiB"} and got[2] == {"line": 3, "status": 0}
+    assert len(got[1]["glyphs"]) == 19 * 12000 and not (room / "a").exists() and (room / "b").exists()

@@ -1,22 +1,15 @@
-"""The cases of pdf_font.py: a font, random characters, texts, coordinates and options, and damaged copies."""
+"""The cases of pdf_font.py: a font, random characters, texts, coordinates and options."""
 import os
 import struct
 
 import fonts
-import made
 import pdf_rules as rules
-from pdf_file import FIRST, Face
+from pdf_file import FIRST
 
 CHARACTERS = 40
-# Tables of which a rule has a next source where they are missing, and the fields of others that are changed: offsets and sizes.
-LOOSE = ("OS/2", "post", "name", "vhea", "vmtx", "VORG", "VVAR")
-FIELDS = {"head": [(36, 2), (38, 2), (40, 2), (42, 2), (44, 2)], "hhea": [(4, 2), (6, 2)], "post": [(4, 4), (12, 4)], "vhea": [(34, 2)], "VORG": [(4, 2), (6, 2)],
-          "OS/2": [(0, 2), (4, 2), (8, 2), (30, 1), (32, 1), (33, 1), (62, 2), (68, 2), (70, 2), (74, 2), (76, 2), (86, 2), (88, 2)]}
-RIGHTS = (0, 2, 4, 6, 8, 10, 0x100, 0x102, 0x104, 0x200, 0x208, 0x302)
 # What the options of a case are for `pdf_font`.
 CHOICES = {"Source": {"codes": "source"}, "EachText": {"codes": "each_text"}, "Held": {"rights": "held"}, "CIDSet": {"cid_set": True}, "Kept": {"bounds": "kept"},
            "unhinted": {"hinting": False}, "Vertical": {"vertical": True}, "QWERTY": {"tag": "QWERTY"}, "OpenType": {"program": "opentype"}}
-EXTREMES = (0, 1, 2, 3, 4, 5, 8, 9, 10, 0x100, 0x102, 0x200, 0x7FFF, 0x8000, 0xFFFF)
 
 
 class Case:
@@ -93,36 +86,3 @@ def options_of(source, rng):
     found += ["Vertical"] * (rng.random() < (0.5 if "vmtx" in source.tables else 0.1)) + ["QWERTY"] * (rng.random() < 0.1)
     found += ["OpenType"] * (source.is_cff and rng.random() < 0.1)
     return [it for it in found if it not in ("Consecutive", "AsSaid")]
-
-
-def damaged(data, index, others, rng):
-    """A copy whose loose tables are damaged; what was done."""
-    face = Face(data, index)
-    tables, done = dict(face.tables), []
-    for _ in range(rng.choice((1, 1, 2, 3))):
-        tag = rng.choice([it for it in (*LOOSE, "head", "hhea", "OS/2", "OS/2") if it in tables])
-        table, way = bytearray(tables[tag]), rng.choice(("missing", "cut", "field", "bytes", "other"))
-        if tag == "OS/2" and way == "bytes":
-            table[0:2], table[8:10] = struct.pack(">H", rng.randrange(5)), struct.pack(">H", rng.choice(RIGHTS))
-            done.append(f"fsType is {table[9] + 256 * table[8]} in version {table[1]}")
-        elif tag in ("head", "hhea") or way == "field" and tag in FIELDS:
-            at, size = rng.choice(FIELDS[tag])
-            value = rng.choice(EXTREMES) if rng.random() < 0.7 else rng.getrandbits(16)
-            table[at:at + size] = (value % 256 ** size if size < 4 else value << 16 | value).to_bytes(size, "big")
-            done.append(f"{tag} {at} is {value}")
-        elif way == "missing":
-            del tables[tag]
-            done.append(f"no {tag}")
-            continue
-        elif way == "cut":
-            table = table[:rng.randrange(min(len(table), 100 if tag == "OS/2" else len(table)))]
-            done.append(f"{tag} has {len(table)} bytes")
-        elif way == "other" and others.get(tag):
-            table = bytearray(rng.choice(others[tag]))
-            done.append(f"another {tag}")
-        else:
-            for _ in range(rng.randint(1, 4)):
-                table[rng.randrange(len(table))] = rng.randrange(256)
-            done.append(f"bytes of {tag}")
-        tables[tag] = bytes(table)
-    return made.font(sorted(tables.items()), face.kind), ", ".join(done)

@@ -13,6 +13,7 @@ from pathlib import Path
 
 import pytest
 from common import MODULE, ROOT, run
+from support import blocks
 
 sys.path.insert(0, str(MODULE))
 import subsetter_build  # noqa: E402
@@ -25,7 +26,7 @@ FONT = Path("/usr/share/fonts/truetype/dejavu/DejaVuSans.ttf")
 
 def examples():
     """The examples of the README and of the module's docstring."""
-    found = re.findall(r"^```python\n(import .*?)^```$", (MODULE / "README.md").read_text(), re.M | re.S)
+    found = [it for it in blocks((MODULE / "README.md").read_text(), "python") if it.startswith("import ")]
     docstring = (MODULE / "subsetter/__init__.py").read_text().split('"""')[1]
     return found + [textwrap.dedent(it) for it in re.findall(r"(?<=\n\n)(?:    .*\n)+", docstring)]
 

@@ -14,70 +14,56 @@
 mod library;
 mod pdf;
 
-pub use library::{Column, Numbers};
-pub use pdf::{glyphs_of, pdf_font};
-pub use pdf::{Bounds, Codes, Direction, Layout, Objects, PdfFont, PdfOptions, Program, Rights};
+pub use library::{glyphs_of, pdf_font, Column, Numbers, Objects, PdfFont};
+pub use pdf::{Bounds, Codes, Direction, Layout, PdfOptions, Program, Rights};
 
 use library::Made;
 use std::fmt;
 
-/// Why a call failed, as the statuses of `subsetter.h`.
-#[derive(Debug, Copy, Clone, Eq, PartialEq)]
-pub enum Error {
-    UnknownKind,
-    MalformedFont,
-    Unimplemented,
-    SubsetError,
-    OverflowError,
-    CFFError,
-    OutOfMemory,
-    UnknownOption,
-    NotPermitted,
-    InvalidText,
-    NoCmap,
-    BitmapsAlone,
-    /// Another status: the library is of another version, or its own code failed.
-    Unknown(u32),
-}
-
-impl Error {
-    fn of_status(status: u32) -> Self {
-        match status {
-            1 => Self::UnknownKind,
-            2 => Self::MalformedFont,
-            3 => Self::Unimplemented,
-            4 => Self::SubsetError,
-            5 => Self::OverflowError,
-            6 => Self::CFFError,
-            7 => Self::OutOfMemory,
-            10 => Self::UnknownOption,
-            11 => Self::NotPermitted,
-            12 => Self::InvalidText,
-            13 => Self::NoCmap,
-            14 => Self::BitmapsAlone,
-            _ => Self::Unknown(status),
+/// Errors, each by its status of `subsetter.h` and with its text.
+macro_rules! errors {
+    ($($status:literal $name:ident: $text:literal;)*) => {
+        /// Why a call failed, as the statuses of `subsetter.h`.
+        #[derive(Debug, Copy, Clone, Eq, PartialEq)]
+        pub enum Error {
+            $($name,)*
+            /// Another status: the library is of another version, or its own code failed.
+            Unknown(u32),
         }
-    }
+
+        impl Error {
+            fn of_status(status: u32) -> Self {
+                match status {
+                    $($status => Self::$name,)*
+                    _ => Self::Unknown(status),
+                }
+            }
+        }
+
+        impl fmt::Display for Error {
+            fn fmt(&self, f: &mut fmt::Formatter<'_>) -> fmt::Result {
+                match self {
+                    $(Self::$name => f.write_str($text),)*
+                    Self::Unknown(status) => write!(f, "unknown status {status}"),
+                }
+            }
+        }
+    };
 }
 
-impl fmt::Display for Error {
-    fn fmt(&self, f: &mut fmt::Formatter<'_>) -> fmt::Result {
-        f.write_str(match self {
-            Self::UnknownKind => "unknown font kind",
-            Self::MalformedFont => "malformed font",
-            Self::Unimplemented => "unsupported feature in font",
-            Self::SubsetError => "subsetting of font failed",
-            Self::OverflowError => "overflow occurred",
-            Self::CFFError => "processing CFF table failed",
-            Self::OutOfMemory => "out of memory",
-            Self::UnknownOption => "wrong option, size or text",
-            Self::NotPermitted => "embedding not permitted",
-            Self::InvalidText => "invalid text",
-            Self::NoCmap => "no usable cmap in font",
-            Self::BitmapsAlone => "no outlines in font",
-            Self::Unknown(status) => return write!(f, "unknown status {status}"),
-        })
-    }
+errors! {
+    1 UnknownKind: "unknown font kind";
+    2 MalformedFont: "malformed font";
+    3 Unimplemented: "unsupported feature in font";
+    4 SubsetError: "subsetting of font failed";
+    5 OverflowError: "overflow occurred";
+    6 CFFError: "processing CFF table failed";
+    7 OutOfMemory: "out of memory";
+    10 UnknownOption: "wrong option, size or text";
+    11 NotPermitted: "embedding not permitted";
+    12 InvalidText: "invalid text";
+    13 NoCmap: "no usable cmap in font";
+    14 BitmapsAlone: "no outlines in font";
 }
 
 impl std::error::Error for Error {}

@@ -1,17 +1,17 @@
 //! The calls of `subsetter.h`, and what they hand over. All `unsafe` code of the package is here.
 
-use crate::Error;
+use crate::{Error, Layout, PdfOptions};
 use std::mem::zeroed;
 
 /// `subsetter_coordinate`.
 #[repr(C)]
-pub(crate) struct Coordinate {
+struct Coordinate {
     tag: u32,
     value: i32,
 }
 
 /// Coordinates as the library takes them: in 65536ths, the nearest one, halves up. A value of NaN leaves its axis at the default.
-pub(crate) fn coordinates(given: &[([u8; 4], f32)]) -> Vec<Coordinate> {
+fn coordinates(given: &[([u8; 4], f32)]) -> Vec<Coordinate> {
     let mut taken: Vec<Coordinate> = Vec::with_capacity(given.len());
     for (tag, value) in given {
         let tag = u32::from_be_bytes(*tag);
@@ -60,9 +60,11 @@ pub struct Numbers {
 
 /// Structs of lists that the library hands over, each a pointer and a count, with a call that gives them back.
 macro_rules! handed_over {
-    ($name:ident, $free:ident, {$($list:ident: $item:ty, $count:ident;)*} $($rest:ident: $type:ty)?) => {
+    ($(#[$about:meta])* $seen:vis $name:ident, $free:ident,
+     {$($(#[$list_about:meta])* $list_seen:vis $list:ident: $item:ty, $count:ident;)*} $($rest:ident: $type:ty)?) => {
+        $(#[$about])*
         #[repr(C)]
-        pub(crate) struct $name {
+        $seen struct $name {
             $($list: *const $item, $count: usize,)*
             $(pub(crate) $rest: $type,)?
         }
@@ -73,7 +75,7 @@ macro_rules! handed_over {
                 unsafe { zeroed() }
             }
 
-            $(pub(crate) fn $list(&self) -> &[$item] {
+            $($(#[$list_about])* $list_seen fn $list(&self) -> &[$item] {
                 if self.$count == 0 {
                     return &[];
                 }
@@ -96,25 +98,34 @@ macro_rules! handed_over {
     };
 }
 
-handed_over!(Made, subsetter_free, {
-    font: u8, font_size;
-    cids: u16, cid_count;
-    widths: u32, width_count;
+handed_over!(pub(crate) Made, subsetter_free, {
+    pub(crate) font: u8, font_size;
+    pub(crate) cids: u16, cid_count;
+    pub(crate) widths: u32, width_count;
 });
-handed_over!(Font, subsetter_free_pdf_font, {
-    program: u8, program_size;
-    cids: u16, cid_count;
-    codes: u16, code_count;
-    is_said: u8, said_count;
-    widths: u32, width_count;
-    columns: Column, column_count;
-    font_name: u8, font_name_size;
-    to_unicode: u8, to_unicode_size;
-    encoding: u8, encoding_size;
-    encoding_name: u8, encoding_name_size;
-    cid_set: u8, cid_set_size;
+handed_over!(
+    /// What [`pdf_font`] made. An entry is a glyph in use with its text, as the call was given them.
+    pub PdfFont, subsetter_free_pdf_font, {
+    /// The font program.
+    pub program: u8, program_size;
+    /// The CID of each entry.
+    pub cids: u16, cid_count;
+    /// The code of each entry.
+    pub codes: u16, code_count;
+    /// Of each entry 1 where readers find its text by its code.
+    pub text_is_mapped: u8, said_count;
+    /// The width of each CID of the font program.
+    pub widths: u32, width_count;
+    /// In vertical writing each CID from 0 on that a string can show.
+    pub columns: Column, column_count;
+    pub(crate) name: u8, name_size;
+    /// The ToUnicode CMap.
+    pub to_unicode: u8, to_unicode_size;
+    pub(crate) cmap: u8, cmap_size;
+    pub(crate) cmap_name: u8, cmap_name_size;
+    pub(crate) set: u8, set_size;
 } numbers: Numbers);
-handed_over!(Objects, subsetter_free_pdf_objects, {
+handed_over!(Written, subsetter_free_pdf_objects, {
     bytes: u8, size;
     offsets: usize, offset_count;
 });
@@ -137,12 +148,12 @@ extern "C" {
     fn subsetter_make_pdf_font_by_words(font: *const u8, font_size: usize, index: u32, coordinates: *const Coordinate,
                                         coordinate_count: usize, glyphs: *const u16, glyph_count: usize, text: *const u32,
                                         text_count: usize, ends: *const usize, end_count: usize,
-                                        options: *const u32, option_count: usize, made: *mut Font) -> u32;
-    fn subsetter_free_pdf_font(made: *mut Font);
-    fn subsetter_make_pdf_objects(font: *const Font, first: u32, made: *mut Objects) -> u32;
-    fn subsetter_make_pdf_sheet(font: *const Font, glyphs: *const u16, glyph_count: usize, text: *const u32, text_count: usize,
-                                ends: *const usize, end_count: usize, layout: u32, made: *mut Objects) -> u32;
-    fn subsetter_free_pdf_objects(made: *mut Objects);
+                                        options: *const u32, option_count: usize, made: *mut PdfFont) -> u32;
+    fn subsetter_free_pdf_font(made: *mut PdfFont);
+    fn subsetter_make_pdf_objects(font: *const PdfFont, first: u32, made: *mut Written) -> u32;
+    fn subsetter_make_pdf_sheet(font: *const PdfFont, glyphs: *const u16, glyph_count: usize, text: *const u32, text_count: usize,
+                                ends: *const usize, end_count: usize, layout: u32, made: *mut Written) -> u32;
+    fn subsetter_free_pdf_objects(made: *mut Written);
 }
 
 fn answered<T>(status: u32, made: T) -> Result<T, Error> {
@@ -187,14 +198,14 @@ impl Made {
 
 /// Glyphs with their texts, as the library takes them.
 #[derive(Default)]
-pub(crate) struct Entries {
+struct Entries {
     glyphs: Vec<u16>,
     text: Vec<u32>,
     ends: Vec<usize>,
 }
 
 impl Entries {
-    pub(crate) fn of(shown: &[(u16, &str)]) -> Self {
+    fn of(shown: &[(u16, &str)]) -> Self {
         let mut entries = Self::default();
         for (glyph, text) in shown {
             entries.glyphs.push(*glyph);
@@ -205,7 +216,13 @@ impl Entries {
     }
 }
 
-pub(crate) fn glyphs_of(data: &[u8], index: u32, text: &[u32]) -> Result<Vec<u16>, Error> {
+/// The glyph of each character of a text, by the font's `cmap`: 0 where it has none. The text isn't shaped.
+///
+/// # Errors
+///
+/// [`Error::UnknownKind`], [`Error::MalformedFont`] (also without a Unicode table) and [`Error::OutOfMemory`].
+pub fn glyphs_of(data: &[u8], index: u32, text: &str) -> Result<Vec<u16>, Error> {
+    let text: Vec<u32> = text.chars().map(u32::from).collect();
     let (mut glyphs, mut length) = (vec![0; text.len()], 0);
     let (room, count) = (glyphs.as_mut_ptr(), glyphs.len());
     // SAFETY: each pointer is that of a slice, with its count, or of `glyphs` or `length`, which are borrowed for writing alone.
@@ -215,49 +232,65 @@ pub(crate) fn glyphs_of(data: &[u8], index: u32, text: &[u32]) -> Result<Vec<u16
     answered(status, glyphs)
 }
 
-impl Font {
-    pub(crate) fn of(
-        data: &[u8],
-        index: u32,
-        at: &[Coordinate],
-        shown: &Entries,
-        words: &[u32],
-    ) -> Result<Self, Error> {
-        let (glyphs, text, ends) = (&shown.glyphs, &shown.text, &shown.ends);
-        let mut made = Self::nothing();
-        // SAFETY: each pointer is that of a slice, with its count, or of `made`, which is borrowed for writing alone. The library
-        // keeps none of them.
-        let status = unsafe {
-            subsetter_make_pdf_font_by_words(
-                data.as_ptr(),
-                data.len(),
-                index,
-                at.as_ptr(),
-                at.len(),
-                glyphs.as_ptr(),
-                glyphs.len(),
-                text.as_ptr(),
-                text.len(),
-                ends.as_ptr(),
-                ends.len(),
-                words.as_ptr(),
-                words.len(),
-                &mut made,
-            )
-        };
-        answered(status, made)
-    }
+/// All that a PDF has of a font for glyphs in use, each with its text, at coordinates as of [`subset`](crate::subset).
+///
+/// # Errors
+///
+/// All of [`Error`]; of a tag that isn't six capitals [`Error::UnknownOption`].
+pub fn pdf_font(
+    data: &[u8],
+    index: u32,
+    coordinates: &[([u8; 4], f32)],
+    shown: &[(u16, &str)],
+    options: &PdfOptions,
+) -> Result<PdfFont, Error> {
+    let (at, words) = (self::coordinates(coordinates), options.words());
+    let Entries { glyphs, text, ends } = Entries::of(shown);
+    let mut made = PdfFont::nothing();
+    // SAFETY: each pointer is that of a slice, with its count, or of `made`, which is borrowed for writing alone. The library
+    // keeps none of them.
+    let status = unsafe {
+        subsetter_make_pdf_font_by_words(
+            data.as_ptr(),
+            data.len(),
+            index,
+            at.as_ptr(),
+            at.len(),
+            glyphs.as_ptr(),
+            glyphs.len(),
+            text.as_ptr(),
+            text.len(),
+            ends.as_ptr(),
+            ends.len(),
+            words.as_ptr(),
+            words.len(),
+            &mut made,
+        )
+    };
+    answered(status, made)
+}
 
-    pub(crate) fn objects(&self, first: u32) -> Result<Objects, Error> {
-        let mut made = Objects::nothing();
+impl PdfFont {
+    /// The objects of the font, with numbers from `first` on.
+    ///
+    /// # Errors
+    ///
+    /// [`Error::OverflowError`] where seven numbers from `first` on don't fit 32 bits, and [`Error::OutOfMemory`].
+    pub fn objects(&self, first: u32) -> Result<Objects, Error> {
+        let mut made = Written::nothing();
         // SAFETY: the library handed `self` over, and it is unchanged; `made` is borrowed for writing alone.
         let status = unsafe { subsetter_make_pdf_objects(self, first, &mut made) };
-        answered(status, made)
+        answered(status, made).map(|made| Objects { bytes: made.bytes().to_vec(), offsets: made.offsets().to_vec() })
     }
 
-    pub(crate) fn sheet(&self, shown: &Entries, layout: u32) -> Result<Objects, Error> {
-        let (glyphs, text, ends) = (&shown.glyphs, &shown.text, &shown.ends);
-        let mut made = Objects::nothing();
+    /// A whole PDF file that shows the glyphs that the font was made of, or the first of them.
+    ///
+    /// # Errors
+    ///
+    /// [`Error::OverflowError`] and [`Error::OutOfMemory`].
+    pub fn sheet(&self, shown: &[(u16, &str)], layout: Layout) -> Result<Vec<u8>, Error> {
+        let Entries { glyphs, text, ends } = Entries::of(shown);
+        let mut made = Written::nothing();
         // SAFETY: as of `objects`; each further pointer is that of a slice, with its count. The library keeps none of them.
         let status = unsafe {
             subsetter_make_pdf_sheet(
@@ -268,10 +301,19 @@ impl Font {
                 text.len(),
                 ends.as_ptr(),
                 ends.len(),
-                layout,
+                layout as u32,
                 &mut made,
             )
         };
-        answered(status, made)
+        answered(status, made).map(|made| made.bytes().to_vec())
     }
+}
+
+/// The objects of a font for a PDF file.
+#[derive(Debug, Clone, Eq, PartialEq, Hash)]
+pub struct Objects {
+    /// The objects, one after the other.
+    pub bytes: Vec<u8>,
+    /// Where each begins in these bytes.
+    pub offsets: Vec<usize>,
 }

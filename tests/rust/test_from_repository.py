@@ -8,8 +8,8 @@ import subprocess
 import tarfile
 
 import pytest
+from support import ROOT
 
-ROOT = os.path.dirname(os.path.dirname(os.path.realpath(__file__)))
 SUBSET = "subsetter::subset(&data, 0, &subsetter::GlyphRemapper::new_from_glyphs(&[2])).unwrap()"
 MAIN = """fn main() {
     let words: Vec<String> = std::env::args().collect();
