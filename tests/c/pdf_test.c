@@ -859,7 +859,7 @@ static void try_nulls(const struct row *row)
     }
 }
 
-/* ---- glyphs of a text, and faces */
+/* ---- glyphs of a text */
 
 static void try_glyphs(const struct row *row)
 {
@@ -888,28 +888,88 @@ static void try_glyphs(const struct row *row)
     }
 }
 
-/* Entries of a text, and what the font lacks: with sequences, with too little room, and without a usable table. */
-static void try_reading(void)
+/* ---- tables with a row a line */
+
+static char row_text[1 << 20];
+
+/* Takes the first row of a text, with `{x*3}` as xxx, whose words after the first are those of `word`. What is after it; null after the last. */
+static char *next_row(char *text)
 {
-    static const uint32_t text[] = {0xfeff, 'A', 0xfe00, 0x4e00, 0xe0101, '\t', 'z'};
+    char *into = row_text;
+    while (*text == '#' || *text == '\n')
+        text = strchr(text, '\n') + 1;
+    if (*text == 0)
+        return NULL;
+    for (; *text != '\n'; text++) {
+        const char *part = text + (*text == '{');
+        size_t length = *text == '{' ? strcspn(part, "*") : 1, count = *text == '{' ? strtoul(part + length + 1, &text, 10) : 1;
+        for (; count > 0; count--, into += length)
+            memcpy(into, part, length);
+    }
+    *into = 0;
+    strtok(row_text, " ");
+    return text + 1;
+}
+
+static char *word(void)
+{
+    return strtok(NULL, " ");
+}
+
+/* The numbers of a list as `1,4..7`; none of `-`. */
+static size_t numbers_in(char *list, uint32_t *numbers)
+{
+    size_t count = 0;
+    for (; *list >= '0' && *list <= '9'; list += *list == ',') {
+        uint32_t first = (uint32_t)strtoul(list, &list, 10), last = *list == '.' ? (uint32_t)strtoul(list + 2, &list, 10) : first;
+        for (; first <= last; first++)
+            numbers[count++] = first;
+    }
+    return count;
+}
+
+/* Tries each row of a table. */
+static void each_row(const char *table, void (*try_row)(void))
+{
+    size_t size, rows = 0;
+    char *whole = (char *)file_of(table, &size);
+    for (char *row = whole; (row = next_row(row)) != NULL; rows++)
+        try_row();
+    check(rows > 10, "rows", table);
+    __real_free(whole);
+}
+
+/* A row of characters.txt, also where there is no room for the last entry, or for the last place. */
+static void try_characters(void)
+{
+    char *at;
     size_t size;
-    uint8_t *bytes = file_of("made_cmaps.ttc", &size);
-    for (uint32_t face = 5; face < 7; face++)
-        for (size_t room = 1; room < 4; room++) {
-            subsetter_entry entries[4] = {{7, 7, 7}};
-            size_t missing[4] = {9, 9, 9, 9};
-            subsetter_read_sizes sizes = {9, 9};
-            uint32_t status = subsetter_read_text(bytes, size, face, text, 7, entries, room, missing, 3, &sizes);
-            if (face == 6)
-                check(status == 13 && sizes.entries == 0 && sizes.missing == 0 && entries[0].end == 7, "no table", "a text");
-            else
-                check(status == (room < 3 ? 8 : 0) && sizes.entries == 3 && sizes.missing == 2, "sizes", "a text");
-            if (status == 0)
-                check(entries[0].glyph == 1 && entries[0].start == 0 && entries[0].end == 3 && entries[1].glyph == 6 && entries[1].end == 5
-                      && entries[2].glyph == 0 && entries[2].start == 6 && missing[0] == 5 && missing[1] == 6 && missing[2] == 9, "entries", "a text");
-            else
-                check(entries[0].end == 7 && missing[0] == 9, "nothing is written", "a text");
-        }
+    const char *name = word();
+    uint8_t *bytes = file_of(word(), &size);
+    uint32_t face = (uint32_t)strtoul(word(), NULL, 10), text[CHARACTERS] = {0}, lacks[ENTRIES], refusal = *(at = word()) == 'N' ? 13 : 0;
+    subsetter_entry wanted[ENTRIES], found[ENTRIES];
+    subsetter_read_sizes sizes;
+    size_t count = 0, length = 0, lacking = numbers_in(at, lacks), missing[ENTRIES];
+    while ((at = word()) != NULL) {
+        wanted[count] = (subsetter_entry){(uint16_t)strtoul(at, NULL, 10), length, 0};
+        const int is_entry = *at != '-';
+        for (at = strchr(at, ':'); *at != 0;)
+            text[length++] = (uint32_t)strtoul(at + 1, &at, 16);
+        wanted[count].end = length;
+        count += is_entry;
+    }
+    for (size_t less = 0; less < 3; less++) {
+        const size_t room = count - (less == 1 && count > 0), places = lacking - (less == 2 && lacking > 0);
+        memset(found, FILLED, sizeof found);
+        memset(missing, FILLED, sizeof missing);
+        uint32_t status = subsetter_read_text(bytes, size, face, text, length, found, room, missing, places, &sizes);
+        check(status == (room < count || places < lacking ? 8 : refusal) && sizes.entries == count && sizes.missing == lacking, "sizes", name);
+        for (size_t i = 0; status == 0 && i < count; i++)
+            check(found[i].glyph == wanted[i].glyph && found[i].start == wanted[i].start && found[i].end == wanted[i].end, "an entry", name);
+        for (size_t i = 0; status == 0 && i < lacking; i++)
+            check(missing[i] == lacks[i], "what is missing", name);
+        check(*(uint8_t *)&found[status ? 0 : count] == FILLED && *(uint8_t *)&missing[status ? 0 : lacking] == FILLED, "what isn't written", name);
+    }
     __real_free(bytes);
 }
 
@@ -935,209 +995,142 @@ static uint32_t bits_of(const char **words)
     return bits;
 }
 
-/* Each row of kinds.txt, also with a buffer that is one too small, and with each request for memory refused; and a PDF's font where
- * there are no outlines. */
+/* A row of kinds.txt, also with a buffer that is one too small, and with each request for memory refused; and a PDF's font where there are no
+ * outlines. */
 static void try_kinds(void)
 {
-    size_t size, rows = 0;
-    char *whole = (char *)file_of("kinds.txt", &size), name[64];
-    for (char *line = strstr(whole, "\nkinds "); line != NULL; line = strstr(line + 1, "\nkinds "), rows++) {
-        uint8_t font[4096];
-        uint16_t glyphs[ENTRIES];
-        uint32_t kinds[ENTRIES], found = 0;
-        size_t font_size = 0, count = 0;
-        char *at = line + 7;
-        sscanf(at, "%63s", name);
-        for (at = strchr(at, ' ') + 1; *at != ' '; at++)
-            if (*at != '-') {
-                font[font_size++] = (uint8_t)(digit_of(at[0]) << 4 | digit_of(at[1]));
-                at++;
-            }
-        uint32_t face = (uint32_t)strtoul(at, &at, 10);
-        for (at++; *at != ' '; at += *at == ',') {
-            if (*at == '-') {
-                at++;
-                continue;
-            }
-            uint32_t first = (uint32_t)strtoul(at, &at, 10), last = at[0] == '.' ? (uint32_t)strtoul(at + 2, &at, 10) : first;
-            for (; first <= last; first++)
-                glyphs[count++] = (uint16_t)first;
-        }
-        uint32_t wanted = (uint32_t)strtoul(at, &at, 10);
-        const char *words = at + 1;
-        memset(kinds, FILLED, sizeof kinds);
-        check(subsetter_glyph_kinds(font, font_size, face, glyphs, count, kinds, count) == wanted, "status", name);
-        for (size_t i = 0; wanted == 0 && i < count; i++)
-            check(kinds[i] == (found = bits_of(&words)) && subsetter_is_unseen(kinds[i]) == (found > 65536), "kinds", name);
-        check(kinds[wanted == 0 ? count : 0] == 0xA5A5A5A5, "what is after them", name);
-        if (wanted != 0 || count == 0)
-            continue;
-        uint32_t refusal = (uint32_t)strtoul(words, NULL, 10);
-        if (refusal != 0) {
-            subsetter_font made;
-            uint32_t status = subsetter_make_font(font, font_size, face, NULL, 0, glyphs, 1, (const uint32_t[]){65}, 1, (const size_t[]){1}, 1, NULL, &made);
-            check(status == refusal && made.pdf.program_size == 0, "without outlines", name);
-        }
-        check(refusal == 0 || subsetter_glyphs_of(font, font_size, face, NULL, 0, NULL, 0, &size) == 13, "no characters", name);
-        memset(kinds, FILLED, sizeof kinds);
-        check(subsetter_glyph_kinds(font, font_size, face, glyphs, count, kinds, count - 1) == 8 && kinds[0] == 0xA5A5A5A5, "room", name);
-        for (unsigned long request = 1; CAN_REFUSE; request++) {
-            requests = 0;
-            refused = request;
-            found = subsetter_glyph_kinds(font, font_size, face, glyphs, count, kinds, count);
-            refused = 0;
-            if (found == 0)
-                break;
-            check(found == 7 && kinds[0] == 0xA5A5A5A5, "no memory", name);
-        }
+
+    const char *name = word(), *digits = word();
+    uint8_t font[4096];
+    size_t size;
+    uint16_t glyphs[ENTRIES];
+    uint32_t face = (uint32_t)strtoul(word(), NULL, 10), numbers[ENTRIES], kinds[ENTRIES], found = 0;
+    size_t font_size = 0, count = numbers_in(word(), numbers);
+    for (; *digits != 0 && *digits != '-'; digits += 2)
+        font[font_size++] = (uint8_t)(digit_of(digits[0]) << 4 | digit_of(digits[1]));
+    for (size_t i = 0; i < count; i++)
+        glyphs[i] = (uint16_t)numbers[i];
+    uint32_t wanted = (uint32_t)strtoul(word(), NULL, 10);
+    const char *words = word();
+    memset(kinds, FILLED, sizeof kinds);
+    check(subsetter_glyph_kinds(font, font_size, face, glyphs, count, kinds, count) == wanted, "status", name);
+    for (size_t i = 0; wanted == 0 && i < count; i++)
+        check(kinds[i] == (found = bits_of(&words)) && subsetter_is_unseen(kinds[i]) == (found > 65536), "kinds", name);
+    check(kinds[wanted == 0 ? count : 0] == 0xA5A5A5A5, "what is after them", name);
+    if (wanted != 0 || count == 0)
+        return;
+    uint32_t refusal = (uint32_t)strtoul(word(), NULL, 10);
+    if (refusal != 0) {
+        subsetter_font made;
+        uint32_t status = subsetter_make_font(font, font_size, face, NULL, 0, glyphs, 1, (const uint32_t[]){65}, 1, (const size_t[]){1}, 1, NULL, &made);
+        check(status == refusal && made.pdf.program_size == 0, "without outlines", name);
     }
-    check(rows > 20, "rows", "kinds");
-    __real_free(whole);
+    check(refusal == 0 || subsetter_glyphs_of(font, font_size, face, NULL, 0, NULL, 0, &size) == 13, "no characters", name);
+    memset(kinds, FILLED, sizeof kinds);
+    check(subsetter_glyph_kinds(font, font_size, face, glyphs, count, kinds, count - 1) == 8 && kinds[0] == 0xA5A5A5A5, "room", name);
+    for (unsigned long request = 1; CAN_REFUSE; request++) {
+        requests = 0;
+        refused = request;
+        found = subsetter_glyph_kinds(font, font_size, face, glyphs, count, kinds, count);
+        refused = 0;
+        if (found == 0)
+            break;
+        check(found == 7 && kinds[0] == 0xA5A5A5A5, "no memory", name);
+    }
 }
 
-/* A collection of one face: of another number of a face no bit is lost, and it is refused as such, whatever memory there is. */
-static void try_faces(void)
+/* Puts other bytes into a table of a font (`OS/2+8=0002`), or another tag (`glyf=sbix`). */
+static void change(uint8_t *font, const char *how)
 {
-    static const uint32_t text[] = {'A'};
-    static const uint16_t shown[] = {1};
-    static const size_t ends[] = {1};
-    const subsetter_coordinate place = {SUBSETTER_TAG('w', 'g', 'h', 't'), 650 << 16};
-    size_t size, length;
-    uint8_t *bytes = file_of("made.ttc", &size);
-    for (uint32_t is_other = 0; is_other < 2; is_other++)
-        for (unsigned long request = 0; request < (CAN_REFUSE ? 8 : 1); request++) {
-            uint32_t face = is_other << 31, found;
-            uint16_t glyph[] = {7};
-            subsetter_pdf_font font;
-            requests = 0;
-            refused = request;
-            found = subsetter_make_pdf_font(bytes, size, face, &place, 1, shown, 1, text, 1, ends, 1, NULL, &font);
-            refused = 0;
-            check(is_other ? found == 2 && is_nothing(&font) : found == 0 || (request > 0 && found == 7), "a font", "a face");
-            subsetter_free_pdf_font(&font);
-            found = subsetter_glyphs_of(bytes, size, face, text, 1, glyph, 1, &length);
-            check(is_other ? found == 2 && length == 0 && glyph[0] == 7 : found == 0 && glyph[0] == 1, "glyphs", "a face");
-        }
-    __real_free(bytes);
+    uint8_t *at = font + 12;
+    while (*how != '-' && memcmp(at, how, 4) != 0)
+        at += 16;
+    if (how[1] != 0 && how[4] == '=')
+        memcpy(at, how + 5, 4);
+    else if (how[1] != 0)
+        for (at = font + (at[10] << 8 | at[11]) + strtoul(how + 5, NULL, 10), how = strchr(how, '=') + 1; *how != 0; how += 2)
+            *at++ = (uint8_t)(digit_of(how[0]) << 4 | digit_of(how[1]));
 }
 
-/* What a font shows of why a call on it was refused: within the limits, in a buffer that is exact, or is too small by a byte. */
+/* A row of reasons.txt, in a buffer that is exact, or is too small by a byte. */
 static void try_reasons(void)
 {
-    static const struct {
-        const char *font, *table;
-        uint32_t at, number, call, status, tokens, drop, weight, answer;
-        uint16_t glyph;
-        const char *text;
-    } rows[] = {
-        {"made.ttf", "none", 0, 0, SUBSETTER_CALL_SUBSET, 2, 0, 0, 0, 0, 60000, "glyph 60000: the font's glyphs are 0 to 11"},
-        {"made.ttf", "none", 0, 0, SUBSETTER_CALL_EMBED, 2, 0, 0, 0, 0, 1, ""},
-        {"made.ttf", "OS/2", 8, 2, SUBSETTER_CALL_PDF_FONT, 11, 0, 0, 0, 0, 1, "OS/2: fsType 0x0002 forbids embedding"},
-        {"made.ttf", "OS/2", 8, 0x104, SUBSETTER_CALL_PDF_FONT, 11, 0, 0, 0, 0, 1, "OS/2: fsType 0x0104 forbids subsets"},
-        {"made.ttf", "OS/2", 8, 0x20c, SUBSETTER_CALL_PDF_FONT, 11, 0, 0, 0, 0, 1, "OS/2: fsType 0x020c forbids outlines"},
-        {"made.ttf", "none", 0, 0, SUBSETTER_CALL_ADVANCES + 1, 2, 0, 0, 0, 10, 60000, ""},
-        {"made.ttf", "none", 0, 0, SUBSETTER_CALL_SUBSET, 2, 0, 8, 0, 10, 60000, ""},
-        {"made.ttf", "name", 2, 99, SUBSETTER_CALL_SUBSET, 2, 0, 0, 0, 0, 1, "name: 88 bytes, needs 1194"},
-        {"made.ttf", "name", 2, 99, SUBSETTER_CALL_SUBSET, 2, 0, SUBSETTER_DROP_NAMES, 0, 0, 1, ""},
-        {"made_cff2.otf", "none", 0, 0, SUBSETTER_CALL_SUBSET, 3, 0, 0, 0, 0, 1, "CFF2: its outlines are taken at coordinates alone"},
-        {"made_cff2.otf", "none", 0, 0, SUBSETTER_CALL_SUBSET_AT, 3, 0, 0, 0, 0, 1, ""},
-        {"made_cff2.otf", "none", 0, 0, SUBSETTER_CALL_EMBED_AT, 6, 5, 0, 0, 0, 1, "glyph 1: its charstring in CFF2 is wrong, or passes the limits"},
-        {"made_cff2.otf", "none", 0, 0, SUBSETTER_CALL_EMBED_AT, 6, 0, 0, 0, 0, 1, ""},
-        {"made_variable.ttf", "gvar", 48, 32767, SUBSETTER_CALL_SUBSET_AT, 2, 0, 0, 650, 0, 1, "glyph 1: its variation data in gvar can't be read"},
-        {"made_variable.ttf", "gvar", 48, 32767, SUBSETTER_CALL_SUBSET_AT, 2, 0, 0, 400, 0, 1, ""},
-    };
-    for (size_t i = 0; i < sizeof rows / sizeof *rows; i++) {
-        uint8_t why[128];
-        size_t size, length, wanted = strlen(rows[i].text);
-        uint8_t *font = file_of(rows[i].font, &size);
-        const subsetter_coordinate place = {0x77676874, (int32_t)rows[i].weight * 65536};
-        const subsetter_options options = {sizeof options, rows[i].tokens, 0, rows[i].drop, 0};
-        for (size_t at = 12; at < 300; at += 16)
-            if (memcmp(font + at, rows[i].table, 4) == 0)
-                memcpy(font + (font[at + 10] << 8 | font[at + 11]) + rows[i].at, (uint8_t[]){(uint8_t)(rows[i].number >> 8), (uint8_t)rows[i].number}, 2);
-#define WHY(ROOM) subsetter_explain(rows[i].call, rows[i].status, font, size, 0, &place, rows[i].weight != 0, &rows[i].glyph, 1, &options, why, ROOM, &length)
+    static const char *const calls[] = {"subset", "subset_at", "embed", "embed_at", "pdf_font", "glyphs_of", "advances"};
+    const char *name = word();
+    uint32_t call = 0, status = SUBSETTER_INVALID_NUMBERS;
+    size_t size, length;
+    while (strcmp(calls[call], name) != 0)
+        call++;
+    uint8_t *font = file_of(word(), &size), why[128];
+    const uint32_t face = (uint32_t)strtoul(word(), NULL, 10);
+    change(font, word());
+    const subsetter_coordinate at = {SUBSETTER_TAG('w', 'g', 'h', 't'), (int32_t)strtol(word(), NULL, 10) * 65536};
+    const char choice = *word();
+    const subsetter_options options = {sizeof options, choice == 't' ? 5 : 0, 0, choice == 'n' ? SUBSETTER_DROP_NAMES : 0, 0}, unknown = {sizeof options, 0, 0, 8, 0};
+    const uint16_t glyph = (uint16_t)strtoul(word(), NULL, 10);
+    const char *wanted = (word(), strtok(NULL, ""));
+    while (status > 0 && strncmp(wanted, subsetter_status_text(status), strlen(subsetter_status_text(status))) != 0)
+        status--;
+#define WHY(CALL, OPTIONS, ROOM) subsetter_explain(CALL, said, font, size, face, &at, at.value != 0, &glyph, 1, OPTIONS, why, ROOM, &length)
+    /* (a call that succeeds has no reason for any status) */
+    for (uint32_t said = status == 0 ? 1 : status; said <= (status == 0 ? 7 : status); said++) {
         memset(why, FILLED, sizeof why);
-        check(WHY(wanted) == rows[i].answer && length == wanted && memcmp(why, rows[i].text, wanted) == 0 && why[wanted] == FILLED, "why", rows[i].text);
-        why[0] = FILLED;
-        check(wanted == 0 || (WHY(wanted - 1) == 8 && length == wanted && why[0] == FILLED), "no room", rows[i].text);
-        __real_free(font);
+        check(WHY(SUBSETTER_CALL_ADVANCES + 1, &options, sizeof why) == 10 && length == 0, "another call", wanted);
+        check(WHY(call, &unknown, sizeof why) == 10 && length == 0, "an option", wanted);
+        const uint32_t without_room = WHY(call, &options, 0);
+        const size_t exact = length;
+        check(exact == 0 ? without_room == 0 : without_room == 8 && WHY(call, &options, exact - 1) == 8 && length == exact && *why == FILLED, "no room", wanted);
+        check(WHY(call, &options, exact) == 0 && length == exact && why[exact] == FILLED, "why", wanted);
+        char found[192];
+        snprintf(found, sizeof found, "%s: %.*s", subsetter_status_text(said), (int)length, (const char *)why);
+        check(strcmp(status == 0 && length == 0 ? "-" : found, wanted) == 0, found, wanted);
     }
+    __real_free(font);
 }
 
 /* ---- runs of text */
 
-struct shown {
-    subsetter_text text;
-    subsetter_pdf_objects lines[4], sheet;
-    subsetter_font font;
-    uint32_t statuses[7];
-};
-
-/* A ligature, a pair drawn nearer by 100 of 2048 units (from 1841 on, not 1890); from right to left, by HarfBuzz's numbers; a mark 1024 back and
- * 205 up, a tenth of the em, which is 1.2 at 12 points; and no run. W is 667 for glyphs 1 and 2 (1366), 556 for 5 (1139) and 333 for 7. */
-static void show(const uint8_t *bytes, size_t size, uint32_t own_glyphs, struct shown *it)
-{
-    static const uint32_t characters[] = {'A', 'f', 'i', 'A', 'B'}, accented[] = {'A', 0x301};
-    static const subsetter_item line[] = {
-        {1, 0, 0, 1, 1366, 0, 0, 0}, {5, 0, 1, 3, 1139, 0, 0, 0}, {1, 0, 3, 4, 1266, 0, 0, 0}, {2, 0, 4, 5, 1366, 0, 0, 0}};
-    static const subsetter_item marked[] = {{1, 0, 0, 2, 1366, 0, 0, 0}, {7, 1, 0, 0, 0, 0, -1024, 205}};
-    static const hb_glyph_info_t infos[] = {{5, 0, 1, 0, 0}, {1, 0, 0, 0, 0}};
-    static const hb_glyph_position_t positions[] = {{1139, 0, 0, 0, 0}, {1366, 0, 0, 0, 0}};
-    subsetter_pdf_options options = defaults();
-    options.own_glyphs = own_glyphs;
-    subsetter_shaped shaped[2];
-    subsetter_hb_shaped(infos, positions, 2, shaped);
-    memset(it, FILLED, sizeof *it);
 #define LEFT SUBSETTER_LEFT_TO_RIGHT, SUBSETTER_ORDER_VISUAL, 12000
-    it->statuses[0] = subsetter_new_text(bytes, size, 0, NO_PLACE, &options, &it->text);
-    it->statuses[1] = subsetter_show_run(&it->text, line, 4, characters, 5, LEFT, &it->lines[0]);
-    it->statuses[2] = subsetter_show_shaped(&it->text, shaped, 2, "Aif", 3, 8, SUBSETTER_RIGHT_TO_LEFT, SUBSETTER_ORDER_VISUAL, 0, &it->lines[1]);
-    it->statuses[3] = subsetter_show_run(&it->text, marked, 2, accented, 2, LEFT, &it->lines[2]);
-    it->statuses[4] = subsetter_show_run(&it->text, marked + 1, 1, accented, 2, LEFT, &it->lines[3]);
-    it->statuses[5] = subsetter_make_text_font(&it->text, NULL, &it->font);
-    const subsetter_line pages[] = {{it->lines[0].bytes, it->lines[0].size, 2509}, {(const uint8_t *)"", 0, 400000}};
-    it->statuses[6] = subsetter_make_text_sheet(&it->font, pages, 2, &it->sheet);
-}
-
-static void free_shown(struct shown *it)
-{
-    for (int i = 0; i < 4; i++)
-        subsetter_free_pdf_objects(&it->lines[i]);
-    subsetter_free_pdf_objects(&it->sheet);
-    subsetter_free_font(&it->font);
-    subsetter_free_text(&it->text);
-}
 
 static int is_line(const subsetter_pdf_objects *line, const char *operators)
 {
     return is_same(line->bytes, line->size, operators, strlen(operators)) && is_empty(line->offsets, line->offset_count);
 }
 
+/* Glyphs by HarfBuzz's numbers, where each request for memory is refused in turn; from right to left where these fall. */
 static void try_units(const uint8_t *bytes, size_t size)
 {
     static const uint16_t words[] = {0xc1, 0xd83d, 0xde00, 'A'}, half[] = {0xc1, 0xd83d, 'A', 'A'};
     static const uint32_t numbers[] = {0xc1, 0x1f600, 'A'}, wrong[] = {0xc1, 0xd83d, 'A'};
+    static const hb_glyph_position_t positions[] = {{1366, 0, 0, 0, 0}, {2048, 0, 0, 0, 0}, {1366, 0, 0, 0, 0}};
     const struct {
         const void *units;
         size_t count;
         uint32_t width, status, clusters[3];
     } texts[] = {
-        {"\303\201\360\237\230\200A", 7, 8, 0, {0, 2, 6}}, {words, 4, 16, 0, {0, 1, 3}}, {numbers, 3, 32, 0, {0, 1, 2}},
+        {"\303\201\360\237\230\200A", 7, 8, 0, {0, 2, 6}}, {words, 4, 16, 0, {0, 1, 3}}, {numbers, 3, 32, 0, {0, 1, 2}}, {words, 4, 16, 0, {3, 1, 0}},
         {"\303\201\360\237\230\200A", 7, 8, 12, {0, 2, 5}}, {words, 4, 16, 12, {0, 2, 3}}, {numbers, 3, 32, 12, {0, 2, 1}},
         {"\303\201\360\237\230", 5, 8, 12, {0, 2, 2}}, {half, 4, 16, 12, {0, 1, 3}}, {wrong, 3, 32, 12, {0, 1, 2}}, {numbers, 3, 24, 10, {0, 1, 2}},
     };
-    for (size_t i = 0; i < sizeof texts / sizeof *texts; i++) {
-        const uint32_t *at = texts[i].clusters;
-        const subsetter_shaped glyphs[] = {{8, at[0], 1366, 0, 0, 0}, {6, at[1], 2048, 0, 0, 0}, {1, at[2], 1366, 0, 0, 0}};
-        subsetter_text text;
-        subsetter_pdf_objects line;
-        check(subsetter_new_text(bytes, size, 0, NO_PLACE, NULL, &text) == 0, "a text", "units");
-        uint32_t status = subsetter_show_shaped(&text, glyphs, 3, texts[i].units, texts[i].count, texts[i].width, LEFT, &line);
-        check(status == texts[i].status && is_line(&line, status == 0 ? "[<000100020003>]TJ\n" : ""), "operators", "units");
-        check(text.pair_count == (status == 0 ? 3 : 0) && (status != 0 || text.pairs[1].character == 0x1f600), "pairs", "units");
-        subsetter_free_pdf_objects(&line);
-        subsetter_free_text(&text);
-    }
+    for (size_t request = 0; request < (CAN_REFUSE ? 40 : 1); request++)
+        for (size_t i = 0; i < (request == 0 ? sizeof texts / sizeof *texts : 4); i++) {
+            const uint32_t *at = texts[i].clusters;
+            const hb_glyph_info_t infos[] = {{8, 0, at[0], 0, 0}, {6, 0, at[1], 0, 0}, {1, 0, at[2], 0, 0}};
+            subsetter_shaped glyphs[3];
+            subsetter_text text;
+            subsetter_pdf_objects line;
+            subsetter_hb_shaped(infos, positions, 3, glyphs);
+            check(subsetter_new_text(bytes, size, 0, NO_PLACE, NULL, &text) == 0, "a text", "units");
+            requests = 0;
+            refused = request;
+            uint32_t status = subsetter_show_shaped(&text, glyphs, 3, texts[i].units, texts[i].count, texts[i].width, at[0] > at[1], SUBSETTER_ORDER_VISUAL, 12000, &line);
+            check(status == texts[i].status || (status == 7 && request > 0 && requests >= request), "status", "units");
+            refused = 0;
+            check(is_line(&line, status == 0 ? "[<000100020003>]TJ\n" : ""), "operators", "units");
+            check(text.pair_count == (status == 0 ? 3 : 0) && (status != 0 || text.pairs[1].character == 0x1f600), "pairs", "units");
+            subsetter_free_pdf_objects(&line);
+            subsetter_free_text(&text);
+        }
 }
 
 /* An accent over a letter is drawn by one own glyph, and no span is there. Own glyphs that aren't such are refused, and so is another number
@@ -1156,16 +1149,12 @@ static void try_own_glyphs(const uint8_t *bytes, size_t size)
     subsetter_font font;
     check(subsetter_new_text(bytes, size, 0, NO_PLACE, NULL, &text) == 0 && text.most_parts > 1 && text.is_still == 0 && text.own_count == 0, "a text", "own glyphs");
     check(text.advance_count == text.metric_count && text.partable_count == text.metric_count && text.advances[1] == 1366 && text.partable[1] == 1, "glyphs", "own glyphs");
-    for (int again = 0; again < 2; again++) {
-        check(subsetter_show_run(&text, marked, 2, accented, 2, LEFT, &line) == 0 && is_line(&line, "[<00010002>]TJ\n"), "operators", "own glyphs");
-        subsetter_free_pdf_objects(&line);
-    }
+    check(subsetter_show_run(&text, marked, 2, accented, 2, LEFT, &line) == 0 && is_line(&line, "[<00010002>]TJ\n"), "operators", "own glyphs");
+    subsetter_free_pdf_objects(&line);
     check(text.own_count == 1 && text.own[0].advance == 1366 && text.own[0].part_end == 2 && text.part_count == 2, "an own glyph", "own glyphs");
     check(memcmp(text.parts, (subsetter_part[]){{1, 0, 0}, {7, 342, 205}}, 24) == 0, "its parts", "own glyphs");
     check(text.pair_count == 2 && text.pairs[0].kind == 0 && text.pairs[0].glyph == text.metric_count && text.pairs[0].character == 'A', "a pair", "own glyphs");
-    check(subsetter_make_text_font(&text, NULL, &font) == 0 && font.pdf.width_count == 3 && font.pdf.widths[1] == 667, "a font", "own glyphs");
-    /* (.notdef, the two parts, the own glyph and the blank) */
-    check(is_same(font.cid_to_gid_map, font.cid_to_gid_map_size, (uint8_t[]){0, 0, 0, 3, 0, 4}, 6), "CIDToGIDMap", "own glyphs");
+    check(subsetter_make_text_font(&text, NULL, &font) == 0, "a font", "own glyphs");
     font.size--;
     check(subsetter_make_text_sheet(&font, NULL, 0, &line) == 10 && are_no_objects(&line), "another size", "a sheet");
     font.size++;
@@ -1185,68 +1174,102 @@ static void try_own_glyphs(const uint8_t *bytes, size_t size)
     check(text.own_count == 0 && text.part_count == 0 && text.most_parts == 0, "a text that was given back", "own glyphs");
 }
 
-/* The sheet of a line and of an empty one: a page for each, as long as its line, and then the objects of the font. */
-static int is_sheet(const struct shown *it, const char *line)
+/* The sheet of a line and of an empty one: a page for each, as long as its line, and the objects of the font. */
+static int is_sheet(const subsetter_pdf_objects *sheet, const subsetter_font *font)
 {
-    static const char begin[] = "BT\n/F0 36 Tf\n1 0 0 1 36 54 Tm\n";
-    char front[2048];
-    subsetter_pdf_objects font;
-    size_t size = (size_t)snprintf(front, sizeof front, "%%PDF-1.7\n%%\342\343\317\323\n1 0 obj\n<< /Type /Catalog /Pages 2 0 R >>\nendobj\n"
-        "2 0 obj\n<< /Type /Pages /Count 2 /Kids [3 0 R 5 0 R ] >>\nendobj\n"
-        "3 0 obj\n<< /Type /Page /Parent 2 0 R /MediaBox [0 0 163 144] /Resources << /Font << /F0 7 0 R >> >> /Contents 4 0 R >>\nendobj\n"
-        "4 0 obj\n<< /Length %zu >>\nstream\n%s%sET\nendstream\nendobj\n"
-        "5 0 obj\n<< /Type /Page /Parent 2 0 R /MediaBox [0 0 14400 144] /Resources << /Font << /F0 7 0 R >> >> /Contents 6 0 R >>\nendobj\n"
-        "6 0 obj\n<< /Length %zu >>\nstream\n%sET\nendstream\nendobj\n", strlen(begin) + strlen(line) + 2, begin, line, strlen(begin) + 2, begin);
-    int is_one = subsetter_make_objects(&it->font, 7, &font) == 0 && it->sheet.size > size + font.size + 5 && it->sheet.offset_count == 0
-        && memcmp(it->sheet.bytes, front, size) == 0 && memcmp(it->sheet.bytes + size, font.bytes, font.size) == 0
-        && memcmp(it->sheet.bytes + size + font.size, "xref\n", 5) == 0;
-    subsetter_free_pdf_objects(&font);
+    subsetter_pdf_objects own;
+    int is_one = subsetter_make_objects(font, 7, &own) == 0 && contains(sheet, own.bytes, own.size) && contains(sheet, " Tm\n[<0001>]TJ\nET\n", 18)
+        && contains(sheet, " Tm\nET\n", 7) && contains(sheet, "[0 0 163 144]", 13) && contains(sheet, "[0 0 14400 144]", 15) && sheet->offset_count == 0;
+    subsetter_free_pdf_objects(&own);
     return is_one;
 }
 
-/* Runs and their font, with own glyphs and without, where each request for memory is refused in turn: what is returned is whole, or nothing with
- * status 7, and the codes stay. */
-static void try_runs_with(const uint8_t *bytes, size_t size, uint32_t own)
+/* What a text of runs.txt has: its widths, the glyphs of its CIDToGIDMap, and the items of a run with their characters. */
+static uint32_t widths[66000], glyphs[66000], characters[66000];
+static subsetter_item items[66000];
+
+/* The items of a run, up to the word `=`. */
+static size_t read_items(void)
 {
-    /* (with own glyphs the ligature is two of half its advance, of which one is blank) */
-    static const char *const lines[][4] = {
-        {"[<0001000200030001>49<0004>]TJ\n", "[<000200030001>]TJ\n", "[<00050006>]TJ\n", ""},
-        {"[<0001000200030001>49<0004>]TJ\n", "[<000200030001>]TJ\n",
-            "/Span << /ActualText <FEFF00410301> >> BDC\n[<0001>]TJ\n1.200 Ts\n[500<0005>]TJ\nEMC\n[-167]TJ\n0 Ts\n", ""}};
-    static const uint32_t widths[][7] = {{500, 667, 278, 278, 667, 667, 0}, {500, 667, 556, 0, 667, 333}};
-    static const uint8_t maps[][14] = {{0, 0, 0, 1, 0, 5, 0, 6, 0, 2, 0, 7, 0, 8}, {0, 0, 0, 1, 0, 2, 0, 5, 0, 3, 0, 4}};
-    const size_t codes = own == SUBSETTER_OWN_GLYPHS_NONE ? 6 : 7;
-    struct shown it;
+    size_t count = 0;
+    uint32_t length = 0;
+    for (char *at; *(at = word()) != '=';) {
+        subsetter_item item = {(uint32_t)strtoul(at, &at, 10), 0, length, 0, 0, 0, 0, 0};
+        item.continues = at[1] == '-';
+        for (at += 1 + item.continues; *at != ':' && *at != '.'; at += *at == ',')
+            characters[length++] = (uint32_t)strtoul(at, &at, 16);
+        const uint32_t last = *at == '.' ? (uint32_t)strtoul(at + 2, &at, 16) : 0;
+        for (int32_t *place = &item.x_advance; *at != 0; place++)
+            *place = (int32_t)strtol(at + 1, &at, 10);
+        item.end = length;
+        for (items[count++] = item; last != 0 && characters[length - 1] < last; items[count++] = item) {
+            characters[length] = characters[length - 1] + 1;
+            item.start = length++;
+            item.end = length;
+        }
+    }
+    return count;
+}
+
+/* The runs below a text's row, its font and a sheet, where each request for memory is refused in turn: what is returned is whole, or nothing
+ * with status 7, and the codes stay. (Long runs are shown once.) What is after them. */
+static char *try_text(char *rows)
+{
+    static const subsetter_line pages[] = {{(const uint8_t *)"[<0001>]TJ\n", 11, 2509}, {(const uint8_t *)"", 0, 400000}};
+    subsetter_pdf_options options = defaults();
+    size_t size;
+    uint8_t *bytes = file_of(word(), &size);
+    const char choice = *word();
+    const size_t codes = numbers_in(word(), widths), glyph_count = numbers_in(word(), glyphs);
+    options.direction = choice == 'v';
+    options.own_glyphs = choice != 'o';
+    options.rights = SUBSETTER_RIGHTS_HELD;
     for (unsigned long request = 0;; request++) {
+        char *next = rows;
+        subsetter_text text;
+        subsetter_pdf_objects line, sheet;
+        subsetter_font font;
         long before = held;
         requests = 0;
         refused = request;
-        show(bytes, size, own, &it);
-        int was_refused = request != 0 && requests >= request, is_whole = 1;
+        const uint32_t opened = subsetter_new_text(bytes, size, 0, NO_PLACE, &options, &text);
+        int is_whole = opened == 0;
+        check(is_whole ? text.units_per_em > 0 : opened == 7 && request != 0 && requests >= request && text.units_per_em == 0, "a text", "runs");
+        for (char *after; (after = next_row(next)) != NULL && strcmp(row_text, "run") == 0; next = after) {
+            const char way = *word();
+            const size_t count = read_items(), length = count == 0 ? 0 : items[count - 1].end;
+            char *wanted = strtok(NULL, ""), *operators = wanted + strcspn(wanted, " ");
+            if (request != 0 && length > 100) {
+                is_whole = 0;
+                continue;
+            }
+            const uint32_t status = subsetter_show_run(&text, items, count, characters, length, way == 'l' ? 0 : way == 'r' ? 1 : 2, choice == 'l', 12000, &line);
+            int is_wanted = status == (*wanted == 'I' ? SUBSETTER_INVALID_TEXT : *wanted == 'O' ? SUBSETTER_OVERFULL : SUBSETTER_DONE);
+            check(!is_whole || is_wanted || (status == 7 && request != 0 && requests >= request), "a run", wanted);
+            is_whole = is_whole && is_wanted;
+            for (char *at = operators += *operators == ' '; *at != 0; at++)
+                *at = *at == '~' ? '\n' : *at;
+            check(status != 0 ? are_no_objects(&line) : !is_whole || *wanted == '*' || is_line(&line, operators), "operators", operators);
+            subsetter_free_pdf_objects(&line);
+        }
+        const uint32_t status = subsetter_make_text_font(&text, &options, &font), of_sheet = subsetter_make_text_sheet(&font, pages, 2, &sheet);
+        int was_refused = request != 0 && requests >= request;
         refused = 0;
-        check(it.statuses[0] == 0 || (was_refused && it.statuses[0] == 7), "a text", "runs");
-        check(it.text.units_per_em == (it.statuses[0] == 0 ? 2048u : 0), "units per em", "runs");
-        for (int i = 0; i < 4; i++) {
-            uint32_t wanted = it.statuses[0] != 0 ? 10 : i == 3 ? 12 : 0, found = it.statuses[i + 1];
-            check(found == wanted || (was_refused && found == 7), "a run", "runs");
-            is_whole = is_whole && found == wanted && it.statuses[0] == 0;
-            check(found != 0 ? are_no_objects(&it.lines[i]) : !is_whole || is_line(&it.lines[i], lines[own][i]), "operators", "runs");
+        check(status == 0 || (was_refused && status == (text.units_per_em == 0 ? 10 : 7) && is_no_whole(&font)), "a font", "runs");
+        check(of_sheet == 0 ? status != 0 || options.direction != 0 || is_sheet(&sheet, &font) : was_refused && of_sheet == 7 && are_no_objects(&sheet), "a sheet", "runs");
+        if (is_whole && status == 0) {
+            check(is_same(font.pdf.widths, font.pdf.width_count * 4, widths, codes * 4) && font.cid_to_gid_map_size == 2 * glyph_count, "widths", "runs");
+            for (size_t i = 0; font.cid_to_gid_map_size == 2 * glyph_count && i < glyph_count; i++)
+                check((uint32_t)(font.cid_to_gid_map[2 * i] << 8 | font.cid_to_gid_map[2 * i + 1]) == glyphs[i], "CIDToGIDMap", "runs");
         }
-        check(!is_whole || (it.text.pair_count == codes - 1 && it.text.pairs[2].kind == own && it.text.pairs[2].character == 'i'), "pairs", "runs");
-        check(!is_whole || it.text.own_count == (own == SUBSETTER_OWN_GLYPHS_NONE ? 0 : 3), "own glyphs", "runs");
-        check(it.statuses[5] == 0 || it.statuses[5] == (it.statuses[0] != 0 ? 10 : 7) ? is_whole || was_refused : 0, "a font", "runs");
-        check(it.statuses[6] == 0 ? !is_whole || it.statuses[5] != 0 || is_sheet(&it, lines[own][0])
-                                  : was_refused && it.statuses[6] == 7 && are_no_objects(&it.sheet), "a sheet", "runs");
-        if (it.statuses[5] != 0)
-            check(is_no_whole(&it.font), "no font", "runs");
-        else if (is_whole) {
-            check(is_same(it.font.pdf.widths, it.font.pdf.width_count * 4, widths[own], codes * 4), "widths", "runs");
-            check(is_same(it.font.cid_to_gid_map, it.font.cid_to_gid_map_size, maps[own], codes * 2), "CIDToGIDMap", "runs");
+        subsetter_free_pdf_objects(&sheet);
+        subsetter_free_font(&font);
+        subsetter_free_text(&text);
+        check(held == before && text.pair_count == 0, "memory that isn't given back", "runs");
+        if (!CAN_REFUSE || (request != 0 && !was_refused)) {
+            __real_free(bytes);
+            return next;
         }
-        free_shown(&it);
-        check(held == before && it.text.pair_count == 0, "memory that isn't given back", "runs");
-        if (!CAN_REFUSE || (request != 0 && !was_refused))
-            break;
     }
 }
 
@@ -1254,9 +1277,11 @@ static void try_runs_with(const uint8_t *bytes, size_t size, uint32_t own)
 static void try_runs(void)
 {
     size_t size;
+    char *table = (char *)file_of("runs.txt", &size), *row = table;
+    while ((row = next_row(row)) != NULL)
+        row = try_text(row);
+    __real_free(table);
     uint8_t *bytes = file_of("made.ttf", &size);
-    try_runs_with(bytes, size, SUBSETTER_OWN_GLYPHS_MADE);
-    try_runs_with(bytes, size, SUBSETTER_OWN_GLYPHS_NONE);
     try_own_glyphs(bytes, size);
     try_units(bytes, size);
     subsetter_text text;
@@ -1302,10 +1327,9 @@ int main(int count, char **words)
     }
     __real_free(whole);
     try_limits();
-    try_faces();
-    try_reading();
-    try_kinds();
-    try_reasons();
+    each_row("characters.txt", try_characters);
+    each_row("kinds.txt", try_kinds);
+    each_row("reasons.txt", try_reasons);
     try_runs();
     try_lists_alone();
     try_empty();

@@ -1,6 +1,6 @@
 /** The worked rows, in Node and in browsers: each function returns what differs, as a list of lines. */
 
-const ERRORS = [, "UnknownKind", "MalformedFont", "Unimplemented", "SubsetError", "OverflowError", "CFFError", "OutOfMemory"];
+export const ERRORS = [, "UnknownKind", "MalformedFont", "Unimplemented", "SubsetError", "OverflowError", "CFFError", "OutOfMemory"];
 ERRORS[14] = "BitmapsAlone";
 /** What a kind of row has between its glyphs and its status. */
 const FIELDS = {
@@ -8,11 +8,11 @@ const FIELDS = {
     at: ["coordinates", "tokens", "depth", "drop", "mostBytes"],
 };
 
-const bytesOf = (word) => Uint8Array.from(word === "-" ? [] : word.match(/../g), (digits) => parseInt(digits, 16));
+export const bytesOf = (word) => Uint8Array.from(word === "-" ? [] : word.match(/../g), (digits) => parseInt(digits, 16));
 const hexadecimal = (bytes) => Array.from(bytes, (it) => it.toString(16).padStart(2, "0")).join("");
 const latin1 = (bytes) => bytes && new TextDecoder("latin1").decode(bytes);
 
-const numbersOf = (word) =>
+export const numbersOf = (word) =>
     word.split(",").filter((it) => it !== "-").flatMap((part) => {
         const [first, last = first] = part.split("..").map(Number);
         return Array.from({ length: last - first + 1 }, (_, i) => first + i);
@@ -88,6 +88,7 @@ const PDF_OPTIONS = {
 };
 const KINDS = { TrueType: "TrueType", CFF: "CIDFontType0C", OpenType: "OpenType" };
 const words = (text) => text.split(" ").filter((it) => it);
+export const textOf = (word) => word.split(",").filter((it) => it).map((it) => String.fromCodePoint(parseInt(it, 16))).join("");
 
 /** The rows for PDF as objects of fields; `object` has a list of them. */
 export function readPdfRows(text) {
@@ -101,11 +102,14 @@ export function readPdfRows(text) {
     });
 }
 
+/** GLYPH:CHARACTER,CHARACTER.. as an entry. */
+export function entryOf(word) {
+    const [glyph, text] = word.split(":");
+    return { glyph: Number(glyph), text: textOf(text) };
+}
+
 function pdfCall(row) {
-    const shown = words(row.shown).map((word) => {
-        const [glyph, text] = word.split(":");
-        return { glyph: Number(glyph), text: text.split(",").filter((it) => it).map((it) => String.fromCodePoint(parseInt(it, 16))).join("") };
-    });
+    const shown = words(row.shown).map(entryOf);
     const options = Object.assign({ hinting: false }, ...words(row.options).map((word) => PDF_OPTIONS[word]));
     if (row.coordinates !== "-") options.coordinates = Object.fromEntries(row.coordinates.split(",").map((it) => [it.slice(0, 4), Number(it.slice(5))]));
     return [shown, options];
@@ -164,24 +168,4 @@ export function wrongPdfRows(library, subsetter, text, files) {
         opened.close();
     }
     return wrong;
-}
-
-/** What differs of the rows of kinds of pictures. */
-export function wrongKindRows(subsetter, table) {
-    const rows = table.split("\n").filter((it) => it.startsWith("kinds ")).map((it) => it.split(" ").slice(1));
-    return rows.flatMap(([name, font, index, glyphs, status, kinds, pdf]) => {
-        const data = bytesOf(font), numbers = numbersOf(glyphs), face = { index: Number(index) };
-        const calls = [() => subsetter.kindsOf(data, new Set(numbers).size < numbers.length ? numbers : new Set(numbers), face), () => subsetter.open(data, face).kindsOf(numbers)];
-        const wanted = status === "0" ? kinds.replace(/^-$/, "") : ERRORS[status];
-        const shown = pdf === "0" ? [] : [[() => subsetter.pdfFont(data, [{ glyph: 0, text: "" }], face), ERRORS[pdf]]];
-        return [...calls.map((call) => [call, wanted]), ...shown].flatMap(([call, wanted]) => {
-            let found;
-            try {
-                found = call().map((it) => it.join("+")).join(",");
-            } catch (error) {
-                found = error.name;
-            }
-            return found === wanted ? [] : [`${name}: ${found}, and not ${wanted}`];
-        });
-    });
 }

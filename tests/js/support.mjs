@@ -7,10 +7,16 @@ import { readRows } from "./rows.mjs";
 
 export const path = (name) => fileURLToPath(new URL(`../../${name}`, import.meta.url));
 export const read = (name) => readFileSync(path(name));
-export const [table, pdfTable, kinds] = ["subset", "pdf", "kinds"].map((name) => read(`crates/dev_rows/data/${name}.txt`).toString());
+export const [table, pdfTable] = ["subset", "pdf"].map((name) => read(`crates/dev_rows/data/${name}.txt`).toString());
 /** Where a font of the rows for PDF is: the crate's package has those of TrueType. */
 export const place = (name) => `${name.endsWith("ttf") ? "bindings/rust/tests" : "crates/dev_rows"}/data/${name}`;
 export const made = (name) => new Uint8Array(read(place(name)));
+/** A made font with other bytes in a table (`OS/2+8=0002`), or with another tag (`glyf=sbix`). */
+export function changed(name, change) {
+    const font = Buffer.from(made(name)), [place, bytes = ""] = change.split("="), record = font.indexOf(place.slice(0, 4));
+    if (bytes) font.set(Buffer.from(bytes, place[4] ? "hex" : "latin1"), place[4] ? font.readUInt32BE(record + 8) + Number(place.slice(5)) : record);
+    return font;
+}
 export const wasm = new Uint8Array(read("bindings/js/out/subsetter.wasm"));
 export const subsetter = await library.load(wasm);
 export const { fonts, texts } = readRows(table);

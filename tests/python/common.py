@@ -78,6 +78,12 @@ def read_rows():
     return rows, fonts, texts
 
 
+def rows_of(name):
+    """The words of each row of a table, with `{x*3}` as xxx."""
+    text = re.sub(r"{(.*?)\*(\d+)}", lambda it: it[1] * int(it[2]), made(f"{name}.txt").decode())
+    return [line.split(" ") for line in text.splitlines() if line and line[0] != "#"]
+
+
 def pdf_rows():
     """The rows for PDF as dicts of fields; `object` has a list of them."""
     rows, row = [], {}
@@ -96,6 +102,15 @@ def pdf_rows():
 def made(name):
     """A font of the rows for PDF; the crate's package has those of TrueType."""
     return ((ROOT / "bindings/rust/tests/data" if name.endswith("ttf") else DATA) / name).read_bytes()
+
+
+def changed(name, change):
+    """A made font with other bytes in a table (`OS/2+8=0002`), or with another tag (`glyf=sbix`)."""
+    font, (place, _, new) = bytearray(made(name)), change.partition("=")
+    at, new = font.index(place[:4].encode()) if new else 0, bytes.fromhex(new) if "+" in place else new.encode()
+    at = int.from_bytes(font[at + 8:at + 12], "big") + int(place[5:]) if "+" in place else at
+    font[at:at + len(new)] = new
+    return font
 
 
 def raised(call, *arguments, **choices):

@@ -20,19 +20,10 @@ NAMES = {"program": ["smallest", "opentype"], "codes": ["consecutive", "source",
 
 
 def test_glyphs_of_a_text():
-    text = "AH\ufb01\U0001f600\xc1zA"
-    assert subsetter.glyphs_of(TTF, text) == list(zip([1, 9, 5, 6, 8, 0, 1], text))
     assert subsetter.glyphs_of(memoryview(TTF), "") == []
-    found = subsetter.glyphs_of(TTF, "\ufeffA\xad\tz")
-    assert (found, found.missing) == ([(1, "\ufeffA\xad"), (0, "z")], [3, 4])
     error = raised(subsetter.glyphs_of, TTF, "A\tz", missing="error")
     assert (type(error), str(error), error.missing) == (subsetter.MissingCharacters, "missing characters: U+0009 at 1, U+007A at 2", [1, 2])
-    assert subsetter.glyphs_of(TTF, "A\xad", missing="error") == [(1, "A\xad")]
-    sequences = "A\ufe00\u4e00\ufe00\u4e00\U000e0101"
-    assert subsetter.glyphs_of(made("made_cmaps.ttc"), sequences, 5) == list(zip([1, 5, 6], re.findall("..", sequences)))
-    error = raised(subsetter.glyphs_of, made("made_cmaps.ttc"), "A", 6)
-    assert (type(error), str(error)) == (subsetter.NoCmap, "no usable cmap in font: cmap: no table for Unicode, symbols or Mac Roman in format 0, 4, 6, 12 or 13")
-    assert subsetter.pdf_font(TTF, iter(subsetter.glyphs_of(TTF, text))).codes == [1, 2, 3, 4, 5, 0, 1]
+    assert subsetter.pdf_font(TTF, iter(subsetter.glyphs_of(TTF, "AH\ufb01\U0001f600\xc1zA"))).codes == [1, 2, 3, 4, 5, 0, 1]
     assert type(raised(subsetter.glyphs_of, b"no", "A")) is subsetter.UnknownKind
     assert subsetter.glyphs_of(TTF.replace(b"glyf", b"none"), "A") == [(1, "A")]
 
@@ -58,13 +49,6 @@ def test_no_texts_and_no_entries():
         assert type(raised(subsetter.pdf_font, TTF, entries)) is kind, entries
     nothing = subsetter.pdf_font(TTF, [])
     assert nothing.codes == [] and nothing.objects(1).offsets[0] == 0 and b"/Count 1" in nothing.sheet()
-
-
-def test_faces():
-    one = made("made.ttc")
-    for call in (lambda *index: subsetter.pdf_font(one, SHOWN, *index).program, lambda *index: subsetter.glyphs_of(one, "A", *index)):
-        assert call(0) == call()
-        assert type(raised(call, 1)) is type(raised(call, 1 << 31)) is subsetter.MalformedFont
 
 
 def test_limits_and_hinting():

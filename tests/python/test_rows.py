@@ -1,9 +1,11 @@
 """Each worked row, by the calls for subsets and by those for PDF."""
 
+import re
+
 import pytest
 import subsetter
 from common import ERRORS as STATUSES
-from common import DATA, hexadecimal, made, numbers, pdf_rows, read_rows
+from common import changed, hexadecimal, made, numbers, pdf_rows, raised, read_rows, rows_of
 
 ROWS, FONTS, TEXTS = read_rows()
 KINDS = {"TrueType": "TrueType", "CFF": "CIDFontType0C", "OpenType": "OpenType"}
@@ -13,9 +15,6 @@ OPTIONS = {
     "cid_set": {"cid_set": True},
 }
 ERRORS = {"NotPermitted": subsetter.NotPermitted, "TextTooLong": subsetter.InvalidText}
-
-
-KIND_ROWS = [line.split()[1:] for line in (DATA / "kinds.txt").read_text().splitlines() if line.startswith("kinds ")]
 
 
 def answer(call, *arguments, **choices):
@@ -28,6 +27,7 @@ def answer(call, *arguments, **choices):
 
 def test_there_are_rows():
     assert len(ROWS) > 450 and len(FONTS) > 100 and len(TEXTS) == 15 and len(pdf_rows()) >= 20
+    assert len(rows_of("kinds")) > 20 and len(rows_of("characters")) > 10 and len(rows_of("reasons")) > 35 and len(rows_of("runs")) > 30
 
 
 @pytest.mark.parametrize("row", ROWS, ids=lambda row: row.name)
@@ -44,9 +44,13 @@ def test_row(row):
         assert answer(call, row.font, row.glyphs, **row.choices) == row.wanted
 
 
-def shown_in(row):
-    pairs = [it.split(":") for it in row["shown"].split()]
-    return [(int(glyph), "".join(chr(int(it, 16)) for it in text.split(",") if it)) for glyph, text in pairs]
+def text_of(word):
+    return "".join(chr(int(it, 16)) for it in word.split(",") if it)
+
+
+def shown_in(words):
+    pairs = [it.split(":") for it in words]
+    return [(None if glyph == "-" else int(glyph), text_of(text)) for glyph, text in pairs]
 
 
 def pdf_font(row):
@@ -55,7 +59,7 @@ def pdf_font(row):
         choices.update(OPTIONS[word])
     if row["coordinates"] != "-":
         choices["coordinates"] = {it[:4]: float(it[5:]) for it in row["coordinates"].split(",")}
-    return subsetter.pdf_font(made(row["font"]), shown_in(row), **choices)
+    return subsetter.pdf_font(made(row["font"]), shown_in(row["shown"].split()), **choices)
 
 
 def words(items):
@@ -112,7 +116,7 @@ def test_pdf_row(row):
     assert (b"/ActualText" in line) == (not all(font.text_is_mapped))
 
 
-@pytest.mark.parametrize("name, font, face, glyphs, status, kinds, pdf", KIND_ROWS, ids=[row[0] for row in KIND_ROWS])
+@pytest.mark.parametrize("name, font, face, glyphs, status, kinds, pdf", [row[1:] for row in rows_of("kinds")], ids=[row[1] for row in rows_of("kinds")])
 def test_kinds(name, font, face, glyphs, status, kinds, pdf):
     wanted = (STATUSES[int(status)], TEXTS[int(status)]) if status != "0" else tuple(tuple(it.split("+")) for it in kinds.split(",") if it != "-")
     assert answer(subsetter.kinds_of, hexadecimal(font), numbers(glyphs), int(face)) == wanted
@@ -120,3 +124,51 @@ def test_kinds(name, font, face, glyphs, status, kinds, pdf):
         assert answer(subsetter.kinds_of, hexadecimal(font), iter(numbers(glyphs))) == wanted
     if pdf != "0":
         assert answer(subsetter.pdf_font, hexadecimal(font), [(0, "")]) == (STATUSES[int(pdf)], TEXTS[int(pdf)])
+
+
+@pytest.mark.parametrize("name, font, face, missing, entries", [(*row[1:5], shown_in(row[5:])) for row in rows_of("characters")])
+def test_characters(name, font, face, missing, entries):
+    given = [made(font), "".join(text for _, text in entries)] + ([int(face)] if face != "0" else [])
+    if missing == "NoCmap":
+        assert type(raised(subsetter.glyphs_of, *given)) is subsetter.NoCmap
+        return
+    found = subsetter.glyphs_of(*given)
+    assert (found, found.missing) == ([it for it in entries if it[0] is not None], numbers(missing))
+
+
+@pytest.mark.parametrize("row", rows_of("reasons"), ids=" ".join)
+def test_reasons(row):
+    _, call, font, face, change, weight, option, glyph, _, *message = row
+    choices = {**({} if face == "0" else {"index": int(face)}), **{"tokens=5": {"tokens": 5}, "names=no": {"names": False}}.get(option, {})}
+    if "_at" in call or weight != "-":
+        choices["coordinates"] = {} if weight == "-" else {"wght": int(weight)}
+    given = {"pdf_font": [(int(glyph), "")], "glyphs_of": "A"}.get(call, [int(glyph)])
+    error = raised(getattr(subsetter, call.replace("_at", "")), changed(font, change), given, **choices)
+    # (after it is what the caller can do)
+    assert re.sub(": (if you hold|coordinates=).*", "", str(error or "-")) == " ".join(message)
+
+
+def items_in(words):
+    for glyph, text, places in (word.split(":") for word in words):
+        first, _, last = text.partition("..")
+        each = map(chr, range(int(first, 16), int(last, 16) + 1)) if last else [None if text == "-" else text_of(text)]
+        yield from ((int(glyph), it, *[*map(int, places.split(",")), 0, 0, 0][:4]) for it in each)
+
+
+def test_runs():
+    rows = rows_of("runs")
+    firsts = [place for place, row in enumerate(rows) if row[0] == "text"]
+    for first, end in zip(firsts, [*firsts[1:], len(rows)]):
+        _, font, choice, widths, glyphs = rows[first]
+        order = "logical" if choice == "logical" else "visual"
+        text = subsetter.PdfText(made(font), vertical=choice == "vertical", order=order, own_glyphs=choice == "own", rights="held")
+        for _, direction, *words in rows[first + 1:end]:
+            items, wanted = words[:words.index("=")], " ".join(words[words.index("=") + 1:])
+            try:
+                run = text.run(items_in(items), direction)
+                found = f"{run.advance} {run.decode()}".replace("\n", "~")
+            except subsetter.Error as error:
+                found = type(error).__name__
+            assert wanted in (found, "*")
+        made_font = text.font()
+        assert (made_font.widths, made_font.cid_to_gid_map) == (numbers(widths), b"".join(it.to_bytes(2, "big") for it in numbers(glyphs)) or None)

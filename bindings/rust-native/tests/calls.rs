@@ -115,16 +115,9 @@ fn each_choice_is_heeded() {
 
 #[test]
 fn errors_have_the_names_of_their_statuses() {
-    let restricted = {
-        let mut font = MADE.to_vec();
-        let at = font.windows(4).position(|it| it == b"OS/2").unwrap();
-        let table = u32::from_be_bytes(font[at + 8..at + 12].try_into().unwrap()) as usize;
-        font[table + 9] = 2;
-        font
-    };
-    let made = |options| pdf_font(&restricted, 0, &[], &SHOWN, &options).err();
-    assert_eq!(made(PdfOptions::default()), Some(Error::NotPermitted));
-    assert_eq!(made(PdfOptions { rights: Rights::Held, ..PdfOptions::default() }), None);
+    let closed = include_bytes!("../../../crates/dev_rows/data/made.otf");
+    let made = |rights| pdf_font(closed, 0, &[], &SHOWN, &PdfOptions { rights, ..PdfOptions::default() }).err();
+    assert_eq!((made(Rights::FromFont), made(Rights::Held)), (Some(Error::NotPermitted), None));
     let long = "a".repeat(257);
     assert_eq!(pdf_font(MADE, 0, &[], &[(1, &long)], &PdfOptions::default()).err(), Some(Error::InvalidText));
     assert_eq!(subset(MADE, 0, &[], &[], &Options { depth: 256, ..Options::default() }), Err(Error::UnknownOption));

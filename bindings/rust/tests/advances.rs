@@ -6,15 +6,12 @@ mod table;
 use subsetter::pdf::{advances, advances_with_limits, pdf_font, Advances, FontOptions, Shown};
 use subsetter::Limits;
 use table::words::{bytes, short_numbers};
-use table::{made, variations, ERRORS};
+use table::{rows_of, variations, ERRORS};
 
 #[test]
 fn each_row_is_answered() {
-    let text = String::from_utf8(made("advances.txt")).unwrap();
-    let rows = text.lines().filter_map(|it| it.strip_prefix("advances "));
-    assert!(rows.clone().count() > 35);
-    for row in rows {
-        let words: Vec<&str> = row.split(' ').collect();
+    for row in rows_of("advances.txt") {
+        let words: Vec<&str> = row.split(' ').skip(1).collect();
         let number = |at: usize| words[at].parse::<u32>().unwrap();
         let (font, glyphs, at) = (bytes(words[1]), short_numbers(words[3]), variations(words[4]).unwrap());
         let found = match Limits::new(number(5), 64) {

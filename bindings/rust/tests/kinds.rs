@@ -5,15 +5,12 @@ mod table;
 
 use subsetter::pdf::{glyphs_of, kinds_of, pdf_font, FontError, FontOptions, Shown};
 use table::words::{bytes, short_numbers};
-use table::{made, ERRORS};
+use table::{rows_of, ERRORS};
 
 #[test]
 fn each_row_is_answered() {
-    let text = String::from_utf8(made("kinds.txt")).unwrap();
-    let rows = text.lines().filter_map(|it| it.strip_prefix("kinds "));
-    assert!(rows.clone().count() > 20);
-    for row in rows {
-        let words: Vec<&str> = row.split(' ').collect();
+    for row in rows_of("kinds.txt") {
+        let words: Vec<&str> = row.split(' ').skip(1).collect();
         let (font, face, glyphs) = (bytes(words[1]), words[2].parse().unwrap(), short_numbers(words[3]));
         let found = kinds_of(&font, face, &glyphs).map(|all| {
             let each = all.iter().map(|it| it.iter().map(|kind| kind.to_string()).collect::<Vec<_>>().join("+"));

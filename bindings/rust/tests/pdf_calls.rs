@@ -1,22 +1,16 @@
-//! What the rows don't say of the calls in `subsetter::pdf`: faces, numbers of 32 bits, each choice.
+//! Characters, reasons, and what rows don't say of the calls in `subsetter::pdf`: numbers of 32 bits, each choice.
 #![cfg(feature = "variable-fonts")]
 
 mod table;
 
 use subsetter::pdf::{
-    codes_of, glyphs_of, pdf_font, Bounds, Codes, Direction, FontError, FontOptions, Layout, PartsError, PdfFont,
-    ProgramChoice, Rights, Shown, SubsetTag,
+    advances, codes_of, glyphs_of, pdf_font, Bounds, Codes, Direction, FontError, FontOptions, Layout, PartsError,
+    PdfFont, ProgramChoice, Rights, Shown, SubsetTag,
 };
-use subsetter::{embed_with_variations, explain, Call, Error, Limits, Options, Tag};
-use table::made;
-
-/// The font without the table of a tag.
-fn without(font: &[u8], tag: &[u8; 4]) -> Vec<u8> {
-    let mut font = font.to_vec();
-    let at = font.windows(4).position(|it| it == tag).unwrap();
-    font[at..at + 4].copy_from_slice(b"none");
-    font
-}
+use subsetter::{embed_with_options, embed_with_variations_and_options as embed_at, explain, subset_with_options};
+use subsetter::{subset_with_variations_and_options as subset_at, Call, Error, GlyphRemapper, Limits, Options, Tag};
+use table::words::{bytes, entry, numbers};
+use table::{made, rows_of, ERRORS};
 
 const fn shown(glyph: u16, text: &'static str) -> Shown<'static> {
     Shown { glyph, text }
@@ -26,57 +20,23 @@ const SHOWN: [Shown<'static>; 4] = [shown(1, "A"), shown(5, "fi"), shown(1, "a")
 
 // ---- glyphs of a text
 
+/// Each row of `characters.txt`.
 #[test]
 fn each_character_has_its_glyph() {
-    let font = made("made.ttf");
-    let shown = glyphs_of(&font, 0, "AH\u{fb01}\u{1f600}ÁzA").unwrap();
-    let wanted = [(1, "A"), (9, "H"), (5, "\u{fb01}"), (6, "\u{1f600}"), (8, "Á"), (0, "z"), (1, "A")];
-    assert_eq!(shown[..], wanted.map(|(glyph, text)| Shown::new(glyph, text)));
-    assert_eq!(shown.missing(), [11]);
-    assert_eq!(glyphs_of(&font, 0, "").unwrap().into_vec(), []);
-    // (default ignorables belong to what is before them, or else after them; controls have no entry)
-    let shown = glyphs_of(&font, 0, "\u{feff}A\u{ad}\u{200b}\r\n\u{200e}B\t\u{200d}").unwrap();
-    assert_eq!(shown[..], [Shown::new(1, "\u{feff}A\u{ad}\u{200b}"), Shown::new(2, "\u{200e}B")]);
-    assert_eq!(shown.missing(), [9, 10, 15]);
-}
-
-#[test]
-fn other_tables_and_sequences() {
-    // A symbol table, two of Mac OS Roman (formats 0 and 6), Unicode ones of formats 13 and 6, and one with sequences: read by
-    // hb-shape but for Roman.
-    let fonts = made("made_cmaps.ttc");
-    type Wanted = (&'static str, &'static [(u16, &'static str)], &'static [usize]);
-    let wanted: [Wanted; 6] = [
-        ("A®\u{f041}α", &[(1, "A"), (3, "®"), (1, "\u{f041}"), (0, "α")], &[6]),
-        ("AÄ€\u{f8ff}B", &[(1, "A"), (2, "Ä"), (3, "€"), (4, "\u{f8ff}"), (0, "B")], &[9]),
-        ("ABC", &[(1, "A"), (2, "B"), (0, "C")], &[2]),
-        ("AZ[\u{10001}", &[(4, "A"), (4, "Z"), (0, "["), (5, "\u{10001}")], &[2]),
-        ("ABC", &[(1, "A"), (2, "B"), (0, "C")], &[2]),
-        (
-            "A\u{fe00}一\u{fe00}一\u{e0101}一\u{fe01}B\u{e0101}B\u{fe00}",
-            &[(1, "A\u{fe00}"), (5, "一\u{fe00}"), (6, "一\u{e0101}"), (3, "一\u{fe01}"), (7, "B\u{e0101}"), (2, "B\u{fe00}")],
-            &[],
-        ),
-    ];
-    for (index, (text, glyphs, missing)) in (0..).zip(wanted) {
-        let shown = glyphs_of(&fonts, index, text).unwrap();
-        let glyphs: Vec<_> = glyphs.iter().map(|(glyph, text)| Shown::new(*glyph, text)).collect();
-        assert_eq!((&shown[..], shown.missing()), (&glyphs[..], missing), "{index}");
-    }
-    assert_eq!(glyphs_of(&fonts, 6, "A"), Err(FontError::NoCmap));
-}
-
-#[test]
-fn the_index_of_a_face_has_32_bits() {
-    let (fonts, options) = (made("made.ttc"), FontOptions::new());
-    assert_eq!(glyphs_of(&fonts, 0, "A").unwrap()[..], [Shown::new(1, "A")]);
-    assert!(pdf_font(&fonts, 0, &[], &SHOWN, &options).is_ok());
-    // (with fewer bits the second would be that of the face)
-    for index in [1, 1 << 31, u32::MAX] {
-        let refused = glyphs_of(&fonts, index, "A");
-        assert_eq!(refused, Err(Error::MalformedFont.into()), "{index}");
-        let refused = pdf_font(&fonts, index, &[], &SHOWN, &options).unwrap_err();
-        assert_eq!(refused, Error::MalformedFont.into(), "{index}");
+    for row in rows_of("characters.txt") {
+        let words: Vec<&str> = row.split(' ').collect();
+        let entries: Vec<(Option<u16>, String)> = words[5..].iter().map(|it| entry(it)).collect();
+        let text: String = entries.iter().map(|it| it.1.as_str()).collect();
+        let found = glyphs_of(&made(words[2]), words[3].parse().unwrap(), &text);
+        if words[4] == "NoCmap" {
+            assert_eq!(found, Err(FontError::NoCmap), "{row}");
+            continue;
+        }
+        let places = numbers(words[4]).into_iter().map(|it| text.char_indices().nth(it as usize).unwrap().0);
+        let shown = entries.iter().filter_map(|(glyph, text)| Some(Shown::new((*glyph)?, text)));
+        let found = found.unwrap();
+        assert_eq!(found.missing(), places.collect::<Vec<_>>(), "{row}");
+        assert_eq!(found.into_vec(), shown.collect::<Vec<_>>(), "{row}");
     }
 }
 
@@ -269,8 +229,7 @@ fn the_first_error_is_answered() {
     assert_eq!(refusal(&font, &long), FontError::TextTooLong);
     let beyond = [Shown::new(12, "A")];
     assert_eq!(refusal(&font, &beyond), Error::MalformedFont.into());
-    let counted = without(&font, b"maxp");
-    assert_eq!(refusal(&counted, &SHOWN), Error::MalformedFont.into());
+    assert_eq!(refusal(&changed("made.ttf", "maxp=none"), &SHOWN), Error::MalformedFont.into());
     // 256 units are the most, of which a character beyond 16 bits has two.
     for (count, character) in [(256, "a"), (128, "\u{1f600}")] {
         let longest = character.repeat(count);
@@ -285,88 +244,57 @@ fn the_first_error_is_answered() {
     assert!(pdf_font(&font, 0, &[], &[Shown::new(1, &short)], &options).is_ok());
 }
 
-#[test]
-fn the_font_shows_why() {
-    let limits = |tokens| Limits::new(tokens, 64).unwrap();
-    let why = |call, font: &[u8], glyph, tokens| {
-        let reason = explain(call, font, 0, &[], &[glyph], &Options::new().limits(limits(tokens)))?;
-        Some((reason.to_string(), reason.table(), reason.glyph()))
+/// A made font with other bytes in a table (`OS/2+8=0002`), or with another tag (`glyf=sbix`).
+fn changed(name: &str, change: &str) -> Vec<u8> {
+    let (mut font, parts) = (made(name), change.split(['+', '=']).collect::<Vec<_>>());
+    let record = font.windows(4).position(|it| it == parts[0].as_bytes()).unwrap_or(0);
+    let place = u32::from_be_bytes(font[record + 8..record + 12].try_into().unwrap()) as usize;
+    let (at, new) = match parts[1..] {
+        [at, new] => (place + at.parse::<usize>().unwrap(), bytes(new)),
+        _ => (record, parts[1..].concat().into_bytes()),
     };
-    let found = |text: &str, tag, glyph| Some((text.to_string(), Some(Tag::new(tag)), glyph));
-    let (font, cff, cff2) = (made("made.ttf"), made("made_version_1.otf"), made("made_cff2.otf"));
-    let beyond = found("glyph 12: the font's glyphs are 0 to 11", b"maxp", Some(12));
-    for call in [Call::Subset, Call::Embed, Call::SubsetWithVariations, Call::EmbedWithVariations, Call::Advances] {
-        assert_eq!(why(call(Error::MalformedFont), &font, 12, 5), beyond);
-        assert_eq!(why(call(Error::MalformedFont), &font, 11, 5), None);
-    }
-    let refused = pdf_font(&made("made.otf"), 0, &[], &SHOWN, &FontOptions::new()).unwrap_err();
-    let forbidden = found("OS/2: fsType 0x0104 forbids subsets", b"OS/2", None);
-    assert_eq!(why(Call::PdfFont(refused), &made("made.otf"), 1, 5), forbidden);
-    assert_eq!(why(Call::PdfFont(FontError::TextTooLong), &font, 12, 5), None);
-    assert_eq!(why(Call::PdfFont(Error::MalformedFont.into()), &font, 12, 5), beyond);
-    let lacking = found("the face has no table cmap", b"cmap", None);
-    assert_eq!(why(Call::GlyphsOf(FontError::NoCmap), &without(&font, b"cmap"), 1, 5), lacking);
-    let fixed = found("CFF2: its outlines are taken at coordinates alone", b"CFF2", None);
-    assert_eq!(why(Call::Embed(Error::Unimplemented), &cff2, 1, 5), fixed);
-    let long = found("glyph 0: its charstring in CFF is wrong, or passes the limits", b"CFF ", Some(0));
-    assert_eq!(why(Call::Subset(Error::CFFError), &cff, 1, 5), long);
-    assert_eq!(why(Call::Subset(Error::CFFError), &cff, 1, 1_000_000), None);
-}
-
-/// The font with another number of 16 bits in a table.
-fn with_number(font: &[u8], tag: &[u8; 4], at: usize, number: u16) -> Vec<u8> {
-    let mut font = font.to_vec();
-    let record = font.windows(4).position(|it| it == tag).unwrap();
-    let offset = u32::from_be_bytes(font[record + 8..record + 12].try_into().unwrap()) as usize;
-    font[offset + at..offset + at + 2].copy_from_slice(&number.to_be_bytes());
+    font[at..at + new.len()].copy_from_slice(&new);
     font
 }
 
-#[test]
-fn tables_of_a_variable_font_show_why() {
-    let (font, cff2) = (made("made_variable.ttf"), made("made_cff2.otf"));
-    let heavy = [(Tag::new(b"wght"), 650.0)];
-    assert!(embed_with_variations(&font, 0, &heavy, &[1]).is_ok());
-    // (the tables that are read at the default are wrong there, too)
-    let rows = [
-        (&font, b"fvar", 0, 2, Error::Unimplemented, "fvar: its major version isn't 1", true),
-        (&font, b"gvar", 0, 2, Error::Unimplemented, "gvar: its major version isn't 1", false),
-        (&font, b"MVAR", 0, 2, Error::Unimplemented, "MVAR: its major version isn't 1", false),
-        (&font, b"fvar", 10, 19, Error::MalformedFont, "fvar: axisSize is 19, needs 20", true),
-        (&font, b"fvar", 8, 3, Error::MalformedFont, "fvar: 56 bytes, needs 76", true),
-        (&font, b"fvar", 8, 1, Error::MalformedFont, "gvar: axisCount is 2, that of fvar 1", false),
-        (&font, b"gvar", 12, 65535, Error::MalformedFont, "gvar: the table can't be read", false),
-        (&font, b"gvar", 48, 32767, Error::MalformedFont, "glyph 1: its variation data in gvar can't be read", false),
-        (&font, b"MVAR", 6, 7, Error::MalformedFont, "MVAR: the value of hasc can't be read", false),
-        (&font, b"hmtx", 0, 0, Error::MalformedFont, "", false),
-        (&cff2, b"HVAR", 6, 0, Error::MalformedFont, "HVAR: the table can't be read", true),
-        (&cff2, b"HVAR", 48, 0, Error::MalformedFont, "glyph 0: its variation data in HVAR can't be read", true),
-        (&cff2, b"CFF2", 0, 0x0300, Error::MalformedFont, "CFF2: the table can't be read", true),
-    ];
-    for (font, tag, at, number, error, text, is_at_default) in rows {
-        let changed = with_number(font, tag, at, number);
-        let why = |coordinates: &[_], call: fn(Error) -> Call| {
-            let reason = explain(call(error), &changed, 0, coordinates, &[1], &Options::new());
-            reason.map_or(String::new(), |it| it.to_string())
-        };
-        let refused = embed_with_variations(&changed, 0, &heavy, &[1]).err();
-        assert_eq!(refused, Some(error).filter(|_| !text.is_empty()), "{text}");
-        assert_eq!(why(&heavy, Call::EmbedWithVariations), text);
-        let refused = embed_with_variations(&changed, 0, &[], &[1]).err();
-        assert_eq!(refused, Some(error).filter(|_| is_at_default), "{text}");
-        assert_eq!(why(&[], Call::EmbedWithVariations), if is_at_default { text } else { "" });
-        assert_eq!(why(&heavy, Call::Embed), "");
+/// The text of a refusal and the call with its error; of a call that succeeds `-`, and with each error.
+fn asked<T, E: From<Error> + ToString + Copy>(made: Result<T, E>, call: fn(E) -> Call) -> (String, Vec<Call>) {
+    match made {
+        Ok(_) => ("-".to_string(), ERRORS.iter().map(|it| call((*it).into())).collect()),
+        Err(error) => (error.to_string(), vec![call(error)]),
     }
 }
 
+/// Each row of `reasons.txt`.
 #[test]
-fn errors_have_texts() {
-    let of_font = FontError::from(Error::CFFError);
-    assert_eq!(of_font, FontError::Subset(Error::CFFError));
-    assert_eq!(of_font.to_string(), Error::CFFError.to_string());
-    assert_eq!(format!("{of_font:?}"), "Subset(CFFError)");
-    assert_eq!(FontError::TextTooLong.to_string(), "text too long");
-    let refused = pdf_font(&made("made.otf"), 0, &[], &SHOWN, &FontOptions::new());
-    let text = refused.unwrap_err().to_string();
-    assert_eq!(text, "embedding not permitted");
+fn the_font_shows_why() {
+    for row in rows_of("reasons.txt") {
+        let words: Vec<&str> = row.splitn(10, ' ').collect();
+        let (font, face, glyph) = (&changed(words[2], words[4]), words[3].parse().unwrap(), words[7].parse().unwrap());
+        let at: &[(Tag, f32)] = &words[5].parse().map_or(vec![], |it| vec![(Tag::new(b"wght"), it)]);
+        let options = &match words[6] {
+            "tokens=5" => Options::new().limits(Limits::new(5, 64).unwrap()),
+            "names=no" => Options::new().names(false),
+            _ => Options::new(),
+        };
+        let (mapper, glyphs) = (&GlyphRemapper::new_from_glyphs(&[glyph]), &[glyph]);
+        let (mut text, calls) = match words[1] {
+            "subset" => asked(subset_with_options(font, face, mapper, options), Call::Subset),
+            "embed" => asked(embed_with_options(font, face, glyphs, options), Call::Embed),
+            "subset_at" => asked(subset_at(font, face, at, mapper, options), Call::SubsetWithVariations),
+            "embed_at" => asked(embed_at(font, face, at, glyphs, options), Call::EmbedWithVariations),
+            "pdf_font" => asked(pdf_font(font, face, at, &[shown(glyph, "")], &FontOptions::new()), Call::PdfFont),
+            "glyphs_of" => asked(glyphs_of(font, face, "A"), Call::GlyphsOf),
+            _ => asked(advances(font, face, glyphs, at), Call::Advances),
+        };
+        for reason in calls.into_iter().filter_map(|it| explain(it, font, face, at, glyphs, options)) {
+            text = format!("{text}: {reason}");
+            let glyph = reason.glyph().map(|it| format!(": glyph {it}: "));
+            assert!(glyph.map_or(!text.contains(": glyph "), |it| text.contains(&it)), "{row}");
+            assert_eq!(reason.table().map_or("-".to_string(), |it| it.to_string()).trim_end(), words[8], "{row}");
+        }
+        assert_eq!(text, words[9]);
+    }
+    let too_long = explain(Call::PdfFont(FontError::TextTooLong), &made("made.ttf"), 0, &[], &[12], &Options::new());
+    assert_eq!((too_long, FontError::TextTooLong.to_string()), (None, "text too long".to_string()));
 }

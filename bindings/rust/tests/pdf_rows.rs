@@ -7,6 +7,7 @@ use subsetter::pdf::{pdf_font, FontError, FontOptions, Objects, Part, PdfFont, P
 use subsetter::pdf::{Bounds, Codes, Direction, ProgramChoice, Rights, Shown, Usage};
 use subsetter::Tag;
 use table::made;
+use table::words::entry;
 
 /// A row: what is asked, and the fields of the answer with their values.
 struct PdfRow {
@@ -24,19 +25,6 @@ impl PdfRow {
         let mut found = self.fields.iter().filter(|(name, _)| name == field);
         found.next().map(|(_, value)| value.as_str())
     }
-}
-
-fn character(word: &str) -> char {
-    char::from_u32(u32::from_str_radix(word, 16).unwrap()).unwrap()
-}
-
-fn shown(words: &str) -> Vec<(u16, String)> {
-    let one = |word: &str| {
-        let (glyph, text) = word.split_once(':').unwrap();
-        let text = text.split(',').filter(|it| !it.is_empty());
-        (glyph.parse().unwrap(), text.map(character).collect())
-    };
-    words.split_whitespace().map(one).collect()
 }
 
 fn coordinates(words: &str) -> Vec<(Tag, f32)> {
@@ -73,7 +61,7 @@ fn row(fields: Vec<(String, String)>) -> PdfRow {
         name: value("row").to_string(),
         font: made(value("font")),
         coordinates: coordinates(value("coordinates")),
-        shown: shown(value("shown")),
+        shown: value("shown").split_whitespace().map(entry).map(|(glyph, text)| (glyph.unwrap(), text)).collect(),
         options: words.fold(without_hinting, chosen),
         fields: fields[5..].to_vec(),
     }

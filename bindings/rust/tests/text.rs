@@ -10,7 +10,8 @@ use subsetter::pdf::{
     Text, TextError, TextOptions,
 };
 use subsetter::{Error, Limits, Tag};
-use table::made;
+use table::words::{characters, numbers, short_numbers};
+use table::{made, rows_of};
 use RunDirection::{LeftToRight, RightToLeft, TopToBottom};
 
 fn item(glyph: u16, text: Option<&str>, x_advance: i32) -> Item<'_> {
@@ -21,52 +22,56 @@ fn operators(run: Result<Run, TextError>) -> String {
     String::from_utf8(run.unwrap().operators).unwrap()
 }
 
-/// The em has 2048 units; W is 667 for glyphs 1 and 2 (1366), 556 for 5 (1139) and 333 for 7 (683).
-#[test]
-fn runs_are_shown_as_worked_by_hand() {
-    let font = made("made.ttf");
-    let options = TextOptions::new().own_glyphs(false);
-    let mut text = Text::new(&font, 0, &[], &options).unwrap();
-    // A ligature, a pair drawn nearer by 100 (from 1841 on, not 1890), and a B whose 0.67 thousandths come after it.
-    let line =
-        [item(1, Some("A"), 1366), item(5, Some("fi"), 1139), item(1, Some("A"), 1266), item(2, Some("B"), 1366)];
-    let run = text.run(&line, LeftToRight, 12_000).unwrap();
-    assert_eq!(run.advance, 2508);
-    assert_eq!(operators(Ok(run)), "[<0001000200030001>49<0004>]TJ\n");
-    // From right to left: the characters of a glyph go leftwards, and codes stay.
-    let word = [item(5, Some("if"), 1139), item(1, Some("A"), 1366)];
-    assert_eq!(operators(text.run(&word, RightToLeft, 12_000)), "[<000200030001>]TJ\n");
-    let font = text.font(&FontOptions::new()).unwrap();
-    assert_eq!(font.widths(), [500, 667, 556, 0, 667]);
-    // A mark 1024 back and 205 up, a tenth of the em: the rise of 12 points is 1.2.
-    let mark = Item { glyph: 7, x_offset: -1024, y_offset: 205, ..Item::default() };
-    let marked = [item(1, Some("A\u{301}"), 1366), mark];
-    let span = "/Span << /ActualText <FEFF00410301> >> BDC\n[<0001>]TJ\n1.200 Ts\n[500<0005>]TJ\nEMC\n[-167]TJ\n0 Ts\n";
-    assert_eq!(operators(text.run(&marked, LeftToRight, 12_000)), span);
-    // A later font has the codes of the earlier one.
-    let later = text.font(&FontOptions::new()).unwrap();
-    assert_eq!(later.widths(), [500, 667, 556, 0, 667, 333]);
-    let line = later.to_unicode().windows(13).any(|it| it == b"<0005> <0301>");
-    assert!(line && text.font(&FontOptions::new()).unwrap().program() == later.program());
-    assert_eq!(text.advances(&[0, 5, 7, 11]), Ok(vec![500, 556, 333, 0]));
-    assert_eq!(text.advances(&[12]), Err(Error::MalformedFont));
+/// GLYPH:CHARACTERS:ADVANCE,.. as a glyph, a text and four numbers; of FIRST..LAST each.
+fn read_items(word: &str) -> Vec<(u16, Option<String>, Vec<i32>)> {
+    let parts: Vec<&str> = word.split(':').collect();
+    let mut places: Vec<i32> = parts[2].split(',').map(|it| it.parse().unwrap()).collect();
+    places.resize(4, 0);
+    let number = |digits: &str| u32::from_str_radix(digits, 16).unwrap();
+    let texts: Vec<Option<String>> = match parts[1].split_once("..") {
+        Some((first, last)) => (number(first)..=number(last)).map(|it| Some(characters(&format!("{it:x}")))).collect(),
+        None => vec![Some(parts[1]).filter(|it| *it != "-").map(characters)],
+    };
+    texts.into_iter().map(|text| (parts[0].parse().unwrap(), text, places.clone())).collect()
 }
 
-/// An "fi" of 1139 units is a glyph of 569 and a blank of 570, 278 each; a letter with a mark is one glyph, and the mark says itself.
+/// Each text of `runs.txt`: its runs, and its font.
 #[test]
-fn own_glyphs_draw_parts_and_clusters() {
-    let font = made("made.ttf");
-    let mut text = Text::new(&font, 0, &[], &TextOptions::new()).unwrap();
-    let line = [item(1, Some("A"), 1366), item(5, Some("fi"), 1139)];
-    assert_eq!(operators(text.run(&line, LeftToRight, 12_000)), "[<000100020003>]TJ\n");
-    let mark = Item { glyph: 7, x_offset: -1024, y_offset: 205, ..Item::default() };
-    let marked = [item(1, Some("A\u{301}"), 1366), mark];
-    assert_eq!(operators(text.run(&marked, LeftToRight, 12_000)), "[<00040005>]TJ\n");
-    let font = text.font(&FontOptions::new()).unwrap();
-    assert_eq!(font.widths(), [500, 667, 278, 278, 667, 0]);
-    // Glyphs 0, 1, 5 and 7, three own ones, and the blank of the mark: codes lead to 0, 1, 4, 5, 6 and 7.
-    let map: Vec<u8> = [0, 1, 4, 5, 6, 7].iter().flat_map(|it: &u16| it.to_be_bytes()).collect();
-    assert_eq!(font.cid_to_gid_map(), Some(&map[..]));
+fn runs_are_shown_as_worked_by_hand() {
+    let rows = rows_of("runs.txt");
+    let firsts: Vec<usize> = (0..rows.len()).filter(|at| rows[*at].starts_with("text ")).collect();
+    for (first, end) in firsts.iter().zip(firsts[1..].iter().chain([&rows.len()])) {
+        let words: Vec<&str> = rows[*first].split(' ').collect();
+        let (font, choice) = (made(words[1]), words[2]);
+        let order = if choice == "logical" { Order::Logical } else { Order::Visual };
+        let direction = if choice == "vertical" { Direction::Vertical } else { Direction::Horizontal };
+        let options = TextOptions::new().order(order).direction(direction).own_glyphs(choice == "own");
+        let mut text = Text::new(&font, 0, &[], &options).unwrap();
+        for row in &rows[first + 1..*end] {
+            let (asked, wanted) = row.split_once(" = ").unwrap();
+            let direction = match &asked[4..7] {
+                "ltr" => LeftToRight,
+                "rtl" => RightToLeft,
+                _ => TopToBottom,
+            };
+            let items: Vec<_> = asked.split(' ').skip(2).flat_map(read_items).collect();
+            let items = items.iter().map(|(glyph, text, places)| Item {
+                x_offset: places[2],
+                y_offset: places[3],
+                y_advance: places[1],
+                ..item(*glyph, text.as_deref(), places[0])
+            });
+            let found = match text.run(&items.collect::<Vec<_>>(), direction, 12_000) {
+                Ok(run) => format!("{} {}", run.advance, String::from_utf8_lossy(&run.operators)).replace('\n', "~"),
+                Err(error) => format!("{error:?}"),
+            };
+            assert!(wanted == "*" || found == wanted, "{row:.200}: {found:.200}");
+        }
+        let font = text.font(&FontOptions::new().rights(Rights::Held)).unwrap();
+        let map: Vec<u8> = short_numbers(words[4]).into_iter().flat_map(u16::to_be_bytes).collect();
+        assert_eq!(font.widths(), numbers(words[3]), "{:.30}", rows[*first]);
+        assert_eq!(font.cid_to_gid_map().unwrap_or_default(), map, "{:.30}", rows[*first]);
+    }
 }
 
 /// Without own glyphs the ligature stays whole, as its picture may be another: its width is 556, and a blank says "i".
@@ -113,48 +118,31 @@ fn glyphs_with_an_empty_outline_have_no_ink() {
 }
 
 #[test]
-fn logical_order_is_a_choice() {
+fn a_later_font_has_the_codes_of_an_earlier_one() {
     let font = made("made.ttf");
-    let word = [item(2, Some("b"), 1366), item(1, Some("a"), 1024)];
-    for (order, wanted) in [
-        (Order::Visual, "[<00010002>167]TJ\n"),
-        (Order::Logical, "[-667<0002>1334<0001>-500]TJ\n"),
-    ] {
-        let options = TextOptions::new().own_glyphs(false).order(order);
-        let mut text = Text::new(&font, 0, &[], &options).unwrap();
-        assert_eq!(operators(text.run(&word, RightToLeft, 12_000)), wanted);
-    }
+    let mut text = Text::new(&font, 0, &[], &TextOptions::new()).unwrap();
+    text.run(&[item(1, Some("A"), 1366)], LeftToRight, 12_000).unwrap();
+    assert_eq!(text.font(&FontOptions::new()).unwrap().widths(), [500, 667]);
+    text.run(&[item(7, Some("\u{301}"), 683)], LeftToRight, 12_000).unwrap();
+    let later = text.font(&FontOptions::new()).unwrap();
+    assert!(later.to_unicode().windows(13).any(|it| it == b"<0002> <0301>"));
+    assert_eq!(text.advances(&[0, 5, 7, 11]), Ok(vec![500, 556, 333, 0]));
+    assert_eq!(text.advances(&[12]), Err(Error::MalformedFont));
+    assert_eq!(text.run(&[], TopToBottom, 12_000), Err(TextError::InvalidText));
 }
 
-/// What `hb-shape --direction=ttb` says of "Aﬁ😀": glyph, x_offset, y_offset, y_advance. Columns have the same origins.
 #[test]
 fn columns_go_downwards() {
-    for (name, line) in [
-        ("made.ttf", [(1, -683, -1802, -2048), (5, -569, -1802, -1024), (6, -1024, -1902, -2048)]),
-        ("made.otf", [(1, -333, -880, -1000), (5, -278, -700, -500), (6, -500, -880, -1000)]),
-    ] {
+    for name in ["made.ttf", "made.otf"] {
         let font = made(name);
         let mut text = Text::new(&font, 0, &[], &TextOptions::new().direction(Direction::Vertical)).unwrap();
-        let mut items = line.map(|(glyph, x_offset, y_offset, y_advance)| Item {
-            glyph,
-            text: None,
-            x_advance: 0,
-            y_advance,
-            x_offset,
-            y_offset,
-        });
-        for (item, text) in items.iter_mut().zip(["A", "\u{fb01}", "\u{1f600}"]) {
-            item.text = Some(text);
-        }
-        let run = text.run(&items, TopToBottom, 12_000).unwrap();
-        assert_eq!((run.advance, operators(Ok(run))), (-2500, "[<000100020003>]TJ\n".to_string()), "{name}");
         let shown = glyphs_of(&font, 0, "A\u{fb01}\u{1f600}").unwrap();
         assert_eq!(operators(text.plain(&shown, 12_000)), "[<000100020003>]TJ\n", "{name}");
         assert_eq!(text.advances(&[1, 5]), Ok(vec![-1000, -500]));
         let made = text.font(&FontOptions::new().rights(Rights::Held)).unwrap();
         let downwards: Vec<i32> = made.columns().unwrap().each.iter().map(|it| it.advance).collect();
         assert_eq!(downwards, [-1000, -1000, -500, -1000]);
-        assert_eq!(text.run(&items, LeftToRight, 12_000), Err(TextError::InvalidText));
+        assert_eq!(text.run(&[], LeftToRight, 12_000), Err(TextError::InvalidText));
     }
 }
 
@@ -183,33 +171,6 @@ fn clusters_are_counted_in_three_units() {
 }
 
 #[test]
-fn what_is_no_run_is_refused() {
-    let font = made("made.ttf");
-    let mut text = Text::new(&font, 0, &[], &TextOptions::new()).unwrap();
-    let raised = Item { y_advance: 1, ..item(1, Some("A"), 1366) };
-    for (items, direction) in [
-        ([item(1, None, 1366), item(1, Some("A"), 1366)], LeftToRight),
-        ([item(1, Some("A"), 1366), item(12, Some("A"), 1366)], LeftToRight),
-        ([item(1, Some("A"), i32::MAX), item(1, Some("A"), i32::MAX)], LeftToRight),
-        ([item(1, Some("A"), 1366), raised], RightToLeft),
-        ([item(1, Some("A"), 0), item(1, Some("A"), 0)], TopToBottom),
-    ] {
-        let refused = text.run(&items, direction, 12_000);
-        assert_eq!(refused, Err(TextError::InvalidText), "{items:?}");
-    }
-    let none = text.run(&[], LeftToRight, 12_000);
-    assert_eq!(none, Ok(Run { operators: vec![], advance: 0 }));
-    // Nothing has a code but glyph 0.
-    assert_eq!(text.font(&FontOptions::new()).unwrap().glyph_count(), 1);
-    // More than 65,534 characters of a glyph.
-    let characters: Vec<String> = ('\u{e000}'..'\u{1f000}').map(String::from).collect();
-    let each: Vec<Item> = characters.iter().map(|it| item(1, Some(it), 1366)).collect();
-    assert!(text.run(&each[..40_000], LeftToRight, 1).is_ok());
-    assert_eq!(text.run(&each, LeftToRight, 1), Err(TextError::Overfull));
-    assert_eq!(text.run(&each[..40_000], LeftToRight, 1).map(|it| it.advance), Ok(26_679_688));
-}
-
-#[test]
 fn errors_and_rights() {
     let limits = Limits::new(1, 1).unwrap();
     let new = |data, limits| Text::new(data, 0, &[], &TextOptions::new().limits(limits)).err();
@@ -218,12 +179,11 @@ fn errors_and_rights() {
     let closed = made("made.otf");
     let mut text = Text::new(&closed, 0, &[], &TextOptions::new()).unwrap();
     let line = [item(1, Some("A"), 667), item(1, Some("a"), 667), item(5, Some("fi"), 556)];
-    assert_eq!(operators(text.run(&line, LeftToRight, 1)), "[<0001000200030004>]TJ\n");
+    text.run(&line, LeftToRight, 1).unwrap();
     let refused = text.font(&FontOptions::new());
     assert!(matches!(refused, Err(FontError::NotPermitted(_))));
     // The charstring of A again, for "a", and that of the ligature with half of its width, 278 10 hmoveto; last 278 endchar.
     let font = text.font(&FontOptions::new().rights(Rights::Held)).unwrap();
-    assert_eq!((font.widths(), font.cid_to_gid_map()), (&[500, 667, 667, 278, 278][..], None));
     assert!(font.program().windows(4).any(|it| it == b"\xf7\xaa\x95\x16") && font.program().ends_with(b"\xf7\xaa\x0e"));
     assert_eq!(TextError::InvalidText.to_string(), "invalid text");
     assert_eq!(TextError::from(Error::CFFError).to_string(), Error::CFFError.to_string());

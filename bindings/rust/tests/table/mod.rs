@@ -52,6 +52,19 @@ pub const ERRORS: [Error; 7] = [
     Error::OutOfMemory,
 ];
 
+/// The rows of a table, with `{x*3}` as xxx.
+pub fn rows_of(name: &str) -> Vec<String> {
+    let repeated = |(at, part): (usize, &str)| match part.rsplit_once('*') {
+        Some((text, count)) if at % 2 == 1 => text.repeat(count.parse().unwrap()),
+        _ => part.to_string(),
+    };
+    let text = String::from_utf8(made(name)).unwrap();
+    let rows = text.lines().filter(|it| !it.is_empty() && !it.starts_with('#'));
+    let rows: Vec<_> = rows.map(|row| row.split(['{', '}']).enumerate().map(repeated).collect()).collect();
+    assert!(rows.len() > 10);
+    rows
+}
+
 /// The coordinates of a list, as far as Rust has such numbers.
 pub fn variations(word: &str) -> Option<Vec<(Tag, f32)>> {
     let of_tag = |(tag, value): ([u8; 4], f32)| (Tag::new(&tag), value);

@@ -23,6 +23,18 @@ pub fn short_numbers(word: &str) -> Vec<u16> {
     numbers(word).into_iter().map(narrow).collect()
 }
 
+/// The text of characters as `66,69`.
+pub fn characters(word: &str) -> String {
+    let one = |digits: &str| char::from_u32(u32::from_str_radix(digits, 16).unwrap()).unwrap();
+    word.split(',').filter(|it| !it.is_empty()).map(one).collect()
+}
+
+/// A glyph and a text, as `5:66,69`; no glyph for `-`.
+pub fn entry(word: &str) -> (Option<u16>, String) {
+    let (glyph, text) = word.split_once(':').unwrap();
+    (glyph.parse().ok(), characters(text))
+}
+
 /// The coordinates of a list as `wght=42598400`, in 65536ths; None where one has no such number.
 pub fn coordinates(word: &str) -> Option<Vec<([u8; 4], f32)>> {
     let parts = word.split(',').filter(|part| *part != "-");
