@@ -17,7 +17,7 @@ use subsetter_base::Tag;
 use subsetter_variation::locations::axes::Axis;
 
 /// What is noted of a coordinate.
-#[derive(Clone, Copy, PartialEq, Eq, Debug)]
+#[derive(Clone, Copy)]
 pub enum Note {
     /// The font has no axis of this tag.
     NoAxis(Tag),

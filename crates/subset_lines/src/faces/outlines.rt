@@ -8,7 +8,7 @@ use plain_text::{Unwritten, write_quoted, write_text};
 use std::io::Write;
 
 /// What the outlines of a face are.
-#[derive(Clone, Copy, PartialEq, Eq, Debug)]
+#[derive(Clone, Copy)]
 pub enum Outlines {
     /// Those of the table `glyf`.
     TrueType,

@@ -14,7 +14,7 @@ use std::io::Write;
 use subsetter_base::Tag;
 
 /// A table, and its sizes in bytes in the font that is read and in the new one: none where it has no such table.
-#[derive(Clone, Copy, PartialEq, Eq, Debug)]
+#[derive(Clone, Copy)]
 pub struct TableSize {
     pub tag: Tag,
     pub old: Option<u32>,

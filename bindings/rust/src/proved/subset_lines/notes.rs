@@ -13,7 +13,7 @@ use crate::rattle::alloc::Global;
 use crate::rattle::io::Write;
 
 /// What is noted of a coordinate.
-#[derive(Clone, Copy, PartialEq, Eq, Debug)]
+#[derive(Clone, Copy)]
 pub enum Note {
     /// The font has no axis of this tag.
     NoAxis(Tag),

@@ -5,7 +5,7 @@ use crate::proved::plain_text::{write_quoted, write_text, Unwritten};
 use crate::rattle::io::Write;
 
 /// What the outlines of a face are.
-#[derive(Clone, Copy, PartialEq, Eq, Debug)]
+#[derive(Clone, Copy)]
 pub enum Outlines {
     /// Those of the table `glyf`.
     TrueType,

@@ -10,7 +10,7 @@ use crate::rattle::alloc::Global;
 use crate::rattle::io::Write;
 
 /// A table, and its sizes in bytes in the font that is read and in the new one: none where it has no such table.
-#[derive(Clone, Copy, PartialEq, Eq, Debug)]
+#[derive(Clone, Copy)]
 pub struct TableSize {
     pub tag: Tag,
     pub old: Option<u32>,
