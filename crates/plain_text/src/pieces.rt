@@ -10,7 +10,7 @@ use crate::text::{Written, write_decimal, write_text};
 use std::io::Write;
 
 /// A piece of a text.
-#[derive(Clone, Copy, Debug)]
+#[derive(Clone, Copy)]
 pub enum Piece<'a> {
     /// Bytes as they are.
     Text(&'a [u8]),

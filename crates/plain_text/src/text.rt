@@ -6,7 +6,7 @@ ghost use Rattle.std.specs.Io.KnownBytes.{Appends};
 use std::io::Write;
 
 /// The writer failed.
-#[derive(Debug, Drop)]
+#[derive(Drop)]
 pub struct Unwritten;
 
 /// What a function that writes returns.

@@ -6,7 +6,7 @@ ghost use Rattle.subset_args.specs.Mistakes.{Fault, fault_view};
 use std::alloc::AllocError;
 
 /// What is wrong with an argument, or with one of the values that it lists.
-#[derive(Clone, Copy, PartialEq, Eq, Debug)]
+#[derive(Clone, Copy)]
 pub enum Wrong {
     /// IN is missing.
     NoInput,
@@ -79,7 +79,7 @@ pub enum Wrong {
 }
 
 /// A mistake in the arguments.
-#[derive(Clone, Copy, Debug)]
+#[derive(Clone, Copy)]
 pub struct Mistake<'a> {
     /// What is wrong.
     pub wrong: Wrong,
@@ -95,7 +95,7 @@ pub fn mistake_in(wrong: Wrong, word: &str) -> Mistake<'_>
 }
 
 /// Why the arguments request nothing.
-#[derive(Clone, Copy, Debug)]
+#[derive(Clone, Copy)]
 pub enum Unread<'a> {
     /// A request for memory was refused.
     OutOfMemory,

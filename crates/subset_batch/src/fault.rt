@@ -9,7 +9,7 @@ use std::fmt;
 use subset_args::Plain;
 
 /// What is expected in a line.
-#[derive(Clone, Copy, Debug, PartialEq, Eq)]
+#[derive(Clone, Copy)]
 pub enum Wanted {
     /// `{`
     Object,
@@ -46,7 +46,7 @@ pub enum Wanted {
 }
 
 /// Why a line isn't a request. A number counts the bytes from its start, or those that are left.
-#[derive(Debug, Drop)]
+#[derive(Drop)]
 pub enum Fault {
     /// This is expected there.
     Expected(Wanted, usize),
@@ -109,7 +109,7 @@ impl fmt::Display for Fault {
 }
 
 /// Why a line wasn't read.
-#[derive(Debug, Drop)]
+#[derive(Drop)]
 pub enum Unread {
     /// A request for memory was refused.
     OutOfMemory,

@@ -7,7 +7,7 @@ ghost use Rattle.subset_batch.specs.View.{value_view};
 use crate::values::Value;
 
 /// What a member requests.
-#[derive(Clone, Copy, Debug)]
+#[derive(Clone, Copy)]
 pub enum Kind {
     /// IN
     Source,

@@ -8,7 +8,7 @@ use crate::json::blanks::skip_ws;
 use std::alloc::{AllocError, Global};
 
 /// A line of a file, with its number from 1.
-#[derive(Clone, Copy, Debug)]
+#[derive(Clone, Copy)]
 pub struct Line<'a> {
     pub number: usize,
     pub bytes: &'a [u8],

@@ -15,7 +15,7 @@ use crate::values::{Value, value_at};
 use std::alloc::Global;
 
 /// A member of a request.
-#[derive(Debug, Drop)]
+#[derive(Drop)]
 pub struct Member {
     pub name: String,
     pub value: Value,

@@ -14,7 +14,7 @@ use crate::json::strings::{string_at, text_of};
 use std::alloc::Global;
 
 /// What a value says.
-#[derive(Debug, Drop)]
+#[derive(Drop)]
 pub enum Value {
     /// `false` or `null`.
     Absent,

@@ -16,12 +16,10 @@ names_text before (c ∷ characters) = (before ++ character_text c) ++ names_tex
 abbrev pub others_text : List ℕ → List ℕ
 others_text characters = if nat_lt 3 (length characters) then codes " and others" else []
 
-unfoldable pub named_text : List ℕ → List ℕ
-named_text characters = names_text [] (take 3 characters) ++ others_text characters
-
 -- `no glyph for U+2603, U+2604, U+2605 and others: glyph 0 is shown`
 unfoldable pub missing_text : List ℕ → List ℕ
-missing_text characters = codes "no glyph for " ++ named_text characters ++ codes ": glyph 0 is shown"
+missing_text characters =
+    codes "no glyph for " ++ names_text [] (take 3 characters) ++ others_text characters ++ codes ": glyph 0 is shown"
 
 -- as a line; nothing where there are none
 abbrev pub missing_line : List ℕ → List ℕ

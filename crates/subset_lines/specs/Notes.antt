@@ -11,22 +11,17 @@ use Rattle.subset_lines.specs.declared.notes.Note.{Note}
 use Rattle.subset_lines.specs.declared.notes.Note.TheVariants.{NoAxis, Clamped}
 
 -- `no axis wdth in the font`, `wght=1000 is clamped to 900`
-abbrev pub no_axis_text : Tag → List ℕ
-no_axis_text tag = codes "no axis " ++ map shown tag.0 ++ codes " in the font"
-
-abbrev pub setting_text : Tag → ℤ → List ℕ
-setting_text tag value = map shown tag.0 ++ (codes "=" ++ fixed_text value)
-
-abbrev pub clamped_text : Tag → ℤ → ℤ → List ℕ
-clamped_text tag given taken = setting_text tag given ++ (codes " is clamped to " ++ fixed_text taken)
+unfoldable pub clamped_text : Tag → ℤ → ℤ → List ℕ
+clamped_text tag given taken =
+    map shown tag.0 ++ codes "=" ++ fixed_text given ++ codes " is clamped to " ++ fixed_text taken
 
 abbrev pub note_text : Note → List ℕ
-note_text (NoAxis tag) = no_axis_text tag
+note_text (NoAxis tag) = codes "no axis " ++ map shown tag.0 ++ codes " in the font"
 note_text (Clamped tag given taken) = clamped_text tag given taken
 
 -- `wght 100 to 900`
-abbrev pub range_text : Axis → List ℕ
-range_text a = map shown a.tag.0 ++ (codes " " ++ fixed_text a.minimum) ++ (codes " to " ++ fixed_text a.maximum)
+unfoldable pub range_text : Axis → List ℕ
+range_text a = map shown a.tag.0 ++ codes " " ++ fixed_text a.minimum ++ codes " to " ++ fixed_text a.maximum
 
 -- with a text before the first, and a comma between each two
 abbrev pub ranges_text : List ℕ → List Axis → List ℕ
@@ -67,10 +62,7 @@ abbrev pub comma_after_both : List Note → List ℕ → List ℕ
 comma_after_both notes [] = comma_after notes
 comma_after_both notes (c ∷ characters) = codes ","
 
-unfoldable pub all_strings : List Axis → List Note → List ℕ → Option ℕ → List ℕ
-all_strings axes notes characters index =
-    coordinate_strings axes notes ++ missing_string (comma_after notes) characters
-    ++ index_string (comma_after_both notes characters) index
-
 abbrev pub notes_array : List Axis → List Note → List ℕ → Option ℕ → List ℕ
-notes_array axes notes characters index = codes "[" ++ all_strings axes notes characters index ++ codes "]"
+notes_array axes notes characters index =
+    codes "[" ++ coordinate_strings axes notes ++ missing_string (comma_after notes) characters
+    ++ index_string (comma_after_both notes characters) index ++ codes "]"

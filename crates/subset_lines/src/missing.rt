@@ -3,15 +3,15 @@
 ghost use Rattle.std.specs.Prelude.{◌≡◌, ◌++◌, [], OnOk, IfOk, IsOk, take};
 ghost use Rattle.std.specs.Io.KnownBytes.{Appends};
 ghost use Rattle.plain_text.specs.Quoted.{quoted};
-ghost use Rattle.subset_lines.specs.Missing.{character_text, names_text, others_text, named_text, missing_text, missing_line, missing_string};
+ghost use Rattle.subset_lines.specs.Missing.{character_text, names_text, others_text, missing_text, missing_line, missing_string};
 
-use plain_text::{Unwritten, write_quoted, write_text};
+use plain_text::{Piece, Unwritten, Written, write_pieces, write_text};
 use std::alloc::Global;
 use std::io::Write;
 
 /// Writes a character as `U+` and its number, after a text.
 #[tactic(auto, using(plain_text::proofs::Written::both))]
-fn write_character<W: Write>(before: &[u8], character: char, out: &mut W) -> Result<(), Unwritten>
+fn write_character<W: Write>(before: &[u8], character: char, out: &mut W) -> Written
     ensures { OnOk result (Appends (W.contents out.old) (W.contents out.new) (before.now ++ character_text character)) }
 {
     write_text(before, out)?;
@@ -24,7 +24,7 @@ fn write_character<W: Write>(before: &[u8], character: char, out: &mut W) -> Res
 
 /// Writes characters with commas between them.
 #[tactic(auto, using(plain_text::proofs::Written::at_first, plain_text::proofs::Written::after_part, plain_text::proofs::Written::at_last))]
-fn write_names<W: Write>(characters: &[char], out: &mut W) -> Result<(), Unwritten>
+fn write_names<W: Write>(characters: &[char], out: &mut W) -> Written
     ensures { OnOk result (Appends (W.contents out.old) (W.contents out.new) (names_text [] characters.now)) }
 {
     let mut before = b"".as_slice();
@@ -46,38 +46,31 @@ fn first_three(characters: &[char]) -> &[char]
     }
 }
 
-/// Writes that there are others than three.
-fn write_others<W: Write>(characters: &[char], out: &mut W) -> Result<(), Unwritten>
-    ensures { OnOk result (Appends (W.contents out.old) (W.contents out.new) (others_text characters.now)) }
+/// What says that there are others than three.
+fn others_text(characters: &[char]) -> &'static [u8]
+    ensures { result.now ≡ others_text characters.now }
 {
     if characters.len() > 3 {
-        return write_text(b" and others", out);
+        b" and others"
+    } else {
+        b""
     }
-    Ok(())
-}
-
-/// Writes three characters, and that there are others.
-#[tactic(auto, using(plain_text::proofs::Written::both), unfolding(crate::specs::Missing::named_text))]
-fn write_named<W: Write>(characters: &[char], out: &mut W) -> Result<(), Unwritten>
-    ensures { OnOk result (Appends (W.contents out.old) (W.contents out.new) (named_text characters.now)) }
-{
-    write_names(first_three(characters), out)?;
-    write_others(characters, out)
 }
 
 /// Writes a note of characters, of which three are named: `no glyph for U+2603, U+2604: glyph 0 is shown`.
 #[tactic(auto, using(plain_text::proofs::Written::both), unfolding(crate::specs::Missing::missing_text))]
-fn write_missing<W: Write>(characters: &[char], out: &mut W) -> Result<(), Unwritten>
+fn write_missing<W: Write>(characters: &[char], out: &mut W) -> Written
     ensures { OnOk result (Appends (W.contents out.old) (W.contents out.new) (missing_text characters.now)) }
 {
     write_text(b"no glyph for ", out)?;
-    write_named(characters, out)?;
+    write_names(first_three(characters), out)?;
+    write_text(others_text(characters), out)?;
     write_text(b": glyph 0 is shown", out)
 }
 
 /// Writes the note as a line; nothing where there are no characters.
 #[tactic(auto, using(plain_text::proofs::Written::both))]
-pub fn write_missing_line<W: Write>(characters: &[char], out: &mut W) -> Result<(), Unwritten>
+pub fn write_missing_line<W: Write>(characters: &[char], out: &mut W) -> Written
     ensures { OnOk result (Appends (W.contents out.old) (W.contents out.new) (missing_line characters.now)) }
 {
     if characters.is_empty() {
@@ -97,18 +90,11 @@ fn missing_bytes(alloc: Global, characters: &[char]) -> Result<Vec<u8>, Unwritte
 }
 
 /// Writes the note as a JSON string after a text.
-#[tactic(auto, using(plain_text::proofs::Written::both))]
-fn write_string<W: Write>(
-    alloc: Global,
-    before: &[u8],
-    characters: &[char],
-    out: &mut W,
-) -> Result<(), Unwritten>
+fn write_string<W: Write>(alloc: Global, before: &[u8], characters: &[char], out: &mut W) -> Written
     ensures { OnOk result (Appends (W.contents out.old) (W.contents out.new) (before.now ++ quoted (missing_text characters.now))) }
 {
     let text = missing_bytes(alloc, characters)?;
-    write_text(before, out)?;
-    write_quoted(&text, out)
+    write_pieces(&[Piece::Text(before), Piece::Quoted(&text)], out)
 }
 
 /// Writes the note as a JSON string after a text; nothing where there are no characters.
@@ -117,7 +103,7 @@ pub fn write_missing_string<W: Write>(
     before: &[u8],
     characters: &[char],
     out: &mut W,
-) -> Result<(), Unwritten>
+) -> Written
     ensures text { OnOk result (Appends (W.contents out.old) (W.contents out.new) (missing_string before.now characters.now)) }
     ensures nothing { characters.now ≡ [] → IsOk result }
 {

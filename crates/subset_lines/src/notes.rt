@@ -1,23 +1,21 @@
 //! What is noted of coordinates, of characters and of a face that a font doesn't have.
 
-ghost use Rattle.std.specs.Prelude.{◌≡◌, ◌++◌, [], OnOk, IfOk, codes, map};
+ghost use Rattle.std.specs.Prelude.{◌≡◌, ◌++◌, [], OnOk, IfOk, codes};
 ghost use Rattle.std.specs.Io.KnownBytes.{Appends};
-ghost use Rattle.plain_text.specs.Characters.{shown};
-ghost use Rattle.plain_text.specs.Fixed.{fixed_text};
-ghost use Rattle.subset_lines.specs.Notes.{no_axis_text, setting_text, clamped_text, note_text, range_text, ranges_text, axes_note, note_lines, notes_text, all_text, note_strings, coordinate_strings, comma_after, comma_after_both, all_strings, notes_array};
+ghost use Rattle.subset_lines.specs.Notes.{clamped_text, note_text, range_text, ranges_text, axes_note, note_lines, notes_text, all_text, note_strings, coordinate_strings, comma_after, comma_after_both, notes_array};
 ghost use Rattle.plain_text.specs.Quoted.{quoted};
 
-use crate::faces::axes::write_tag;
+use crate::faces::axes::tag_bytes;
 use crate::index::{write_index_line, write_index_string};
 use crate::missing::{write_missing_line, write_missing_string};
-use plain_text::{Unwritten, write_labelled, write_quoted, write_text};
+use plain_text::{Piece, Unwritten, Written, write_pieces, write_quoted, write_text};
 use std::alloc::Global;
 use std::io::Write;
 use subsetter_base::Tag;
 use subsetter_variation::locations::axes::Axis;
 
 /// What is noted of a coordinate.
-#[derive(Clone, Copy, PartialEq, Eq, Debug)]
+#[derive(Clone, Copy)]
 pub enum Note {
     /// The font has no axis of this tag.
     NoAxis(Tag),
@@ -25,71 +23,66 @@ pub enum Note {
     Clamped(Tag, i32, i32),
 }
 
-/// Writes that the font has no axis of a tag.
-#[tactic(auto, using(plain_text::proofs::Written::both))]
-fn write_no_axis<W: Write>(tag: Tag, out: &mut W) -> Result<(), Unwritten>
-    ensures { OnOk result (Appends (W.contents out.old) (W.contents out.new) (no_axis_text tag)) }
-{
-    write_text(b"no axis ", out)?;
-    write_tag(tag, out)?;
-    write_text(b" in the font", out)
-}
-
-/// Writes a coordinate on an axis.
-#[tactic(auto, using(plain_text::proofs::Written::both))]
-fn write_setting<W: Write>(tag: Tag, value: i32, out: &mut W) -> Result<(), Unwritten>
-    ensures { OnOk result (Appends (W.contents out.old) (W.contents out.new) (setting_text tag value)) }
-{
-    write_tag(tag, out)?;
-    write_labelled(b"=", value, out)
-}
-
 /// Writes that a coordinate is taken as another.
-#[tactic(auto, using(plain_text::proofs::Written::both))]
-fn write_clamped<W: Write>(tag: Tag, given: i32, taken: i32, out: &mut W) -> Result<(), Unwritten>
+#[tactic(auto, unfolding(crate::specs::Notes::clamped_text))]
+fn write_clamped<W: Write>(tag: Tag, given: i32, taken: i32, out: &mut W) -> Written
     ensures { OnOk result (Appends (W.contents out.old) (W.contents out.new) (clamped_text tag given taken)) }
 {
-    write_setting(tag, given, out)?;
-    write_labelled(b" is clamped to ", taken, out)
+    write_pieces(
+        &[
+            Piece::Text(&tag_bytes(tag)),
+            Piece::Text(b"="),
+            Piece::Fixed(given),
+            Piece::Text(b" is clamped to "),
+            Piece::Fixed(taken),
+        ],
+        out,
+    )
 }
 
 /// Writes a note without the end of its line: `no axis wdth in the font`, or `wght=1000 is clamped to 900`.
-fn write_note<W: Write>(note: Note, out: &mut W) -> Result<(), Unwritten>
+fn write_note<W: Write>(note: Note, out: &mut W) -> Written
     ensures { OnOk result (Appends (W.contents out.old) (W.contents out.new) (note_text note)) }
 {
     match note {
-        Note::NoAxis(tag) => write_no_axis(tag, out),
+        Note::NoAxis(tag) => write_pieces(
+            &[
+                Piece::Text(b"no axis "),
+                Piece::Text(&tag_bytes(tag)),
+                Piece::Text(b" in the font"),
+            ],
+            out,
+        ),
         Note::Clamped(tag, given, taken) => write_clamped(tag, given, taken, out),
     }
 }
 
 /// Writes an axis with its ends: `wght 100 to 900`.
-#[tactic(auto, using(plain_text::proofs::Written::both))]
-fn write_range_text<W: Write>(axis: &Axis, out: &mut W) -> Result<(), Unwritten>
+#[tactic(auto, unfolding(crate::specs::Notes::range_text))]
+fn write_range<W: Write>(axis: &Axis, out: &mut W) -> Written
     ensures { OnOk result (Appends (W.contents out.old) (W.contents out.new) (range_text axis.now)) }
 {
-    write_tag(axis.tag, out)?;
-    write_labelled(b" ", axis.minimum, out)?;
-    write_labelled(b" to ", axis.maximum, out)
-}
-
-/// Writes the same after a text.
-#[tactic(auto, using(plain_text::proofs::Written::both))]
-fn write_range<W: Write>(before: &[u8], axis: &Axis, out: &mut W) -> Result<(), Unwritten>
-    ensures { OnOk result (Appends (W.contents out.old) (W.contents out.new) (before.now ++ range_text axis.now)) }
-{
-    write_text(before, out)?;
-    write_range_text(axis, out)
+    write_pieces(
+        &[
+            Piece::Text(&tag_bytes(axis.tag)),
+            Piece::Text(b" "),
+            Piece::Fixed(axis.minimum),
+            Piece::Text(b" to "),
+            Piece::Fixed(axis.maximum),
+        ],
+        out,
+    )
 }
 
 /// Writes the axes with their ends.
-#[tactic(auto, using(plain_text::proofs::Written::at_first, plain_text::proofs::Written::after_part, plain_text::proofs::Written::at_last))]
-fn write_ranges<W: Write>(axes: &[Axis], out: &mut W) -> Result<(), Unwritten>
+#[tactic(auto, using(plain_text::proofs::Written::both, plain_text::proofs::Written::at_first, plain_text::proofs::Written::after_part, plain_text::proofs::Written::at_last))]
+fn write_ranges<W: Write>(axes: &[Axis], out: &mut W) -> Written
     ensures { OnOk result (Appends (W.contents out.old) (W.contents out.new) (ranges_text [] axes.now)) }
 {
     let mut before = b"".as_slice();
     for axis in axes {
-        write_range(before, axis, out)?;
+        write_text(before, out)?;
+        write_range(axis, out)?;
         before = b", ".as_slice();
     }
     Ok(())
@@ -97,7 +90,7 @@ fn write_ranges<W: Write>(axes: &[Axis], out: &mut W) -> Result<(), Unwritten>
 
 /// Writes the note of the axes that a font has: `axes: wght 100 to 900, wdth 75 to 100`, or `axes: none`.
 #[tactic(auto, using(plain_text::proofs::Written::both))]
-fn write_axes_note<W: Write>(axes: &[Axis], out: &mut W) -> Result<(), Unwritten>
+fn write_axes_note<W: Write>(axes: &[Axis], out: &mut W) -> Written
     ensures { OnOk result (Appends (W.contents out.old) (W.contents out.new) (axes_note axes.now)) }
 {
     match axes {
@@ -109,29 +102,21 @@ fn write_axes_note<W: Write>(axes: &[Axis], out: &mut W) -> Result<(), Unwritten
     }
 }
 
-/// Writes a note as a line.
-#[tactic(auto, using(plain_text::proofs::Written::both))]
-fn write_note_line<W: Write>(note: Note, out: &mut W) -> Result<(), Unwritten>
-    ensures { OnOk result (Appends (W.contents out.old) (W.contents out.new) (note_text note ++ codes "\n")) }
-{
-    write_note(note, out)?;
-    write_text(b"\n", out)
-}
-
 /// Writes a line for each note.
-#[tactic(auto, using(plain_text::proofs::Written::at_first, plain_text::proofs::Written::after_part, plain_text::proofs::Written::at_last))]
-fn write_note_lines<W: Write>(notes: &[Note], out: &mut W) -> Result<(), Unwritten>
+#[tactic(auto, using(plain_text::proofs::Written::both, plain_text::proofs::Written::at_first, plain_text::proofs::Written::after_part, plain_text::proofs::Written::at_last))]
+fn write_note_lines<W: Write>(notes: &[Note], out: &mut W) -> Written
     ensures { OnOk result (Appends (W.contents out.old) (W.contents out.new) (note_lines notes.now)) }
 {
     for note in notes {
-        write_note_line(*note, out)?;
+        write_note(*note, out)?;
+        write_text(b"\n", out)?;
     }
     Ok(())
 }
 
 /// Writes a line for each note, and a last one of the axes that the font has; nothing where there are no notes.
 #[tactic(auto, using(plain_text::proofs::Written::both))]
-fn write_all_notes<W: Write>(axes: &[Axis], notes: &[Note], out: &mut W) -> Result<(), Unwritten>
+fn write_all_notes<W: Write>(axes: &[Axis], notes: &[Note], out: &mut W) -> Written
     ensures { OnOk result (Appends (W.contents out.old) (W.contents out.new) (notes_text axes.now notes.now)) }
 {
     if notes.is_empty() {
@@ -150,7 +135,7 @@ fn write_all<W: Write>(
     characters: &[char],
     index: Option<u32>,
     out: &mut W,
-) -> Result<(), Unwritten>
+) -> Written
     ensures { OnOk result (Appends (W.contents out.old) (W.contents out.new) (all_text axes.now notes.now characters.now index)) }
 {
     write_all_notes(axes, notes, out)?;
@@ -195,23 +180,14 @@ fn axes_bytes(alloc: Global, axes: &[Axis]) -> Result<Vec<u8>, Unwritten>
     Ok(text)
 }
 
-/// Writes a note as a JSON string with a comma after it.
-#[tactic(auto, using(plain_text::proofs::Written::both))]
-fn write_note_string<W: Write>(alloc: Global, note: Note, out: &mut W) -> Result<(), Unwritten>
-    ensures { OnOk result (Appends (W.contents out.old) (W.contents out.new) (quoted (note_text note) ++ codes ",")) }
-{
-    let text = note_bytes(alloc, note)?;
-    write_quoted(&text, out)?;
-    write_text(b",", out)
-}
-
-/// Writes each note so.
-#[tactic(auto, using(plain_text::proofs::Written::at_first, plain_text::proofs::Written::after_part, plain_text::proofs::Written::at_last))]
-fn write_note_strings<W: Write>(alloc: Global, notes: &[Note], out: &mut W) -> Result<(), Unwritten>
+/// Writes each note as a JSON string with a comma after it.
+#[tactic(auto, using(plain_text::proofs::Written::both, plain_text::proofs::Written::at_first, plain_text::proofs::Written::after_part, plain_text::proofs::Written::at_last))]
+fn write_note_strings<W: Write>(alloc: Global, notes: &[Note], out: &mut W) -> Written
     ensures { OnOk result (Appends (W.contents out.old) (W.contents out.new) (note_strings notes.now)) }
 {
     for note in notes {
-        write_note_string(alloc, *note, out)?;
+        write_quoted(&note_bytes(alloc, *note)?, out)?;
+        write_text(b",", out)?;
     }
     Ok(())
 }
@@ -223,15 +199,14 @@ fn write_coordinate_strings<W: Write>(
     axes: &[Axis],
     notes: &[Note],
     out: &mut W,
-) -> Result<(), Unwritten>
+) -> Written
     ensures { OnOk result (Appends (W.contents out.old) (W.contents out.new) (coordinate_strings axes.now notes.now)) }
 {
     if notes.is_empty() {
         return Ok(());
     }
     write_note_strings(alloc, notes, out)?;
-    let text = axes_bytes(alloc, axes)?;
-    write_quoted(&text, out)
+    write_quoted(&axes_bytes(alloc, axes)?, out)
 }
 
 /// A comma, if there are notes before it.
@@ -254,23 +229,6 @@ fn comma_after_both(notes: &[Note], characters: &[char]) -> &'static [u8]
     }
 }
 
-/// Writes all notes as JSON strings with commas between them.
-#[tactic(auto, using(plain_text::proofs::Written::both), unfolding(crate::specs::Notes::all_strings))]
-fn write_all_strings<W: Write>(
-    alloc: Global,
-    axes: &[Axis],
-    notes: &[Note],
-    characters: &[char],
-    index: Option<u32>,
-    out: &mut W,
-) -> Result<(), Unwritten>
-    ensures { OnOk result (Appends (W.contents out.old) (W.contents out.new) (all_strings axes.now notes.now characters.now index)) }
-{
-    write_coordinate_strings(alloc, axes, notes, out)?;
-    write_missing_string(alloc, comma_after(notes), characters, out)?;
-    write_index_string(alloc, comma_after_both(notes, characters), index, out)
-}
-
 /// Writes the same notes as a JSON array of strings.
 #[tactic(auto, using(plain_text::proofs::Written::both))]
 pub fn write_notes_array<W: Write>(
@@ -280,10 +238,12 @@ pub fn write_notes_array<W: Write>(
     characters: &[char],
     index: Option<u32>,
     out: &mut W,
-) -> Result<(), Unwritten>
+) -> Written
     ensures { OnOk result (Appends (W.contents out.old) (W.contents out.new) (notes_array axes.now notes.now characters.now index)) }
 {
     write_text(b"[", out)?;
-    write_all_strings(alloc, axes, notes, characters, index, out)?;
+    write_coordinate_strings(alloc, axes, notes, out)?;
+    write_missing_string(alloc, comma_after(notes), characters, out)?;
+    write_index_string(alloc, comma_after_both(notes, characters), index, out)?;
     write_text(b"]", out)
 }

@@ -27,7 +27,7 @@ pub struct Sheet {
 }
 
 /// Why there is no PDF.
-#[derive(Debug, Drop)]
+#[derive(Drop)]
 pub enum SheetError {
     /// The font is refused, the PDF would be too large, or memory ran out.
     Font(Error),

@@ -10,7 +10,7 @@ use std::alloc::AllocError;
 use subsetter_base::Tag;
 
 /// Why a list isn't read.
-#[derive(Clone, Copy, PartialEq, Eq, Debug)]
+#[derive(Clone, Copy)]
 pub enum ArgsError {
     /// It isn't as the usage says.
     Usage,
@@ -30,7 +30,7 @@ impl From<AllocError> for ArgsError {
 }
 
 /// Which glyphs are to be kept.
-#[derive(Debug, Drop)]
+#[derive(Drop)]
 pub enum Glyphs {
     /// Those of these old numbers, in the requested order.
     Listed(Vec<u16>),
@@ -45,7 +45,7 @@ pub enum Glyphs {
 }
 
 /// A PDF that is requested.
-#[derive(Debug, Drop)]
+#[derive(Drop)]
 pub struct PdfJob {
     /// The name of its file.
     pub file: String,
@@ -54,7 +54,7 @@ pub struct PdfJob {
 }
 
 /// The making of a subset.
-#[derive(Debug, Drop)]
+#[derive(Drop)]
 pub struct Job {
     /// The name of the source font's file.
     pub input: String,
@@ -79,7 +79,7 @@ pub struct Job {
 }
 
 /// Where on its axes a variable font is requested.
-#[derive(Debug, Drop)]
+#[derive(Drop)]
 pub enum Position {
     /// At these user coordinates, in 65536ths.
     Coordinates(Vec<(Tag, i32)>),
@@ -88,7 +88,7 @@ pub enum Position {
 }
 
 /// What can be shown of a face.
-#[derive(Clone, Copy, PartialEq, Eq, Debug)]
+#[derive(Clone, Copy)]
 pub enum Topic {
     /// Its axes and named instances.
     Axes,
@@ -97,7 +97,7 @@ pub enum Topic {
 }
 
 /// What a run of the program is to do.
-#[derive(Debug, Drop)]
+#[derive(Drop)]
 pub enum Command {
     /// To print the help.
     Help,

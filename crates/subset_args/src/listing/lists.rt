@@ -14,7 +14,7 @@ use crate::words::{parts_of, u16_of};
 use std::alloc::{AllocError, Global};
 
 /// What a file or an argument requests.
-#[derive(Debug, Drop)]
+#[derive(Drop)]
 pub enum GlyphList {
     /// Every glyph of the face.
     Every,
@@ -27,7 +27,7 @@ pub enum GlyphList {
 }
 
 /// What a file has by which glyphs are requested.
-#[derive(Clone, Copy, PartialEq, Eq, Debug)]
+#[derive(Clone, Copy)]
 pub enum FileKind {
     /// A list of glyphs.
     Glyphs,

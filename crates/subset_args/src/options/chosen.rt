@@ -14,7 +14,7 @@ use crate::options::values::{coding_of, holds_rights, limits_of};
 use crate::words::u32_of;
 
 /// The options without a value that were given.
-#[derive(Clone, Copy, PartialEq, Eq, Debug)]
+#[derive(Clone, Copy)]
 pub struct Switches {
     pub widths: bool,
     pub no_hinting: bool,
@@ -87,7 +87,7 @@ impl Switches {
 }
 
 /// How a PDF is made.
-#[derive(Clone, Copy, PartialEq, Eq, Debug)]
+#[derive(Clone, Copy)]
 pub struct PdfChoice {
     /// Whether its text runs from top to bottom.
     pub vertical: bool,
@@ -100,7 +100,7 @@ pub struct PdfChoice {
 }
 
 /// What the options choose.
-#[derive(Clone, Copy, Debug)]
+#[derive(Clone, Copy)]
 pub struct Chosen<'a> {
     /// The options without a value.
     pub switches: Switches,

@@ -36,7 +36,7 @@ pub fn looks_like_option(word: &str) -> bool
 }
 
 /// An option, the word that it is, and its value.
-#[derive(Clone, Copy, Debug)]
+#[derive(Clone, Copy)]
 pub struct Given<'a> {
     pub setting: Setting,
     pub word: &'a str,

@@ -10,7 +10,7 @@ use crate::options::names::Source;
 use std::alloc::{AllocError, Global};
 
 /// Where the glyphs are found: a place for each option that requests some, in their order. There are six such options.
-#[derive(Clone, Copy, Debug)]
+#[derive(Clone, Copy)]
 pub enum Sources<'a> {
     Nowhere,
     One(Source<'a>),

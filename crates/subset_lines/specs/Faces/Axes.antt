@@ -1,7 +1,6 @@
 -- The lines of the outlines of a font, of its axes, and of its named instances (OpenType, "fvar").
 use Rattle.std.specs.Prelude.{ℕ, zero, suc, ◌+◌, ◌*◌, ◌==◌, nat_lt, Bool, if◌then◌else◌, List, [], ◌∷◌, ◌++◌, map, drop}
-use Rattle.std.specs.Prelude.{Option, Some, None, codes, ℤ}
-use Rattle.std.specs.Int.{w32, cast_signed}
+use Rattle.std.specs.Prelude.{Option, Some, None, codes}
 use Rattle.std.specs.Option.{option_map, option_and_then}
 use Rattle.subsetter_base.specs.Bytes.{range, number}
 use Rattle.subsetter_variation.specs.declared.locations.axes.Axis.{Axis}
@@ -9,21 +8,17 @@ use Rattle.plain_text.specs.Characters.{shown}
 use Rattle.plain_text.specs.Fixed.{fixed_text}
 use Rattle.subset_lines.specs.Faces.Outlines.{outlines_line}
 use Rattle.subset_lines.specs.Faces.Names.{name_of, after_instance}
+use Rattle.subset_lines.specs.Faces.Settings.{settings_by}
 use Rattle.subset_lines.specs.declared.faces.outlines.Outlines.{Outlines}
+use Rattle.subset_lines.specs.declared.faces.settings.SettingForm.TheVariants.{Line}
 
 -- ---- axes
 
--- a coordinate after a blank
-unfoldable pub after_blank : ℤ → List ℕ
-after_blank v = codes " " ++ fixed_text v
-
--- the least coordinate, the default and the greatest one
-unfoldable pub numbers_text : Axis → List ℕ
-numbers_text a = after_blank a.minimum ++ after_blank a.default ++ after_blank a.maximum
-
--- `axis wght 100 400 900`
+-- `axis wght 100 400 900`: the least coordinate, the default and the greatest one
 unfoldable pub axis_line : Axis → List ℕ
-axis_line a = codes "axis " ++ map shown a.tag.0 ++ numbers_text a ++ 10 ∷ []
+axis_line a =
+    codes "axis " ++ map shown a.tag.0 ++ codes " " ++ fixed_text a.minimum ++ codes " " ++ fixed_text a.default
+    ++ codes " " ++ fixed_text a.maximum ++ 10 ∷ []
 
 abbrev pub axis_lines : List Axis → List ℕ
 axis_lines [] = []
@@ -55,24 +50,12 @@ instances fvar =
     (number fvar 8 2))
     (number fvar 4 2)
 
--- the coordinate that bits say
-abbrev pub coordinate_text : Option ℕ → List ℕ
-coordinate_text None = []
-coordinate_text (Some bits) = fixed_text (cast_signed w32 bits)
-
--- `wght=650,wdth=87.5`, as `--at` takes it: each axis with the coordinate that four bytes say, after a text
-abbrev pub settings_text : List ℕ → List Axis → List ℕ → List ℕ
-settings_text before [] bytes = []
-settings_text before (a ∷ axes) bytes =
-    (before ++ map shown a.tag.0 ++ codes "=" ++ coordinate_text (number bytes 0 4))
-    ++ settings_text (codes ",") axes (drop 4 bytes)
-
 -- `instance wght=650,wdth=87.5 Semi Bold`: its coordinates, which begin after its name's number and its flags, and its
 -- name, where the table `name` has it
 abbrev pub instance_line : List Axis → List ℕ → List ℕ → List ℕ
 instance_line axes names bytes =
-    codes "instance " ++ settings_text [] axes (drop 4 bytes) ++ after_instance (name_of names (number bytes 0 2)) ++ 10
-    ∷ []
+    codes "instance " ++ settings_by Line [] axes (drop 4 bytes) ++ after_instance (name_of names (number bytes 0 2))
+    ++ 10 ∷ []
 
 abbrev pub instance_lines : List Axis → List ℕ → List (List ℕ) → List ℕ
 instance_lines axes names [] = []

@@ -36,37 +36,31 @@ permission_words (Some bits) = words_of_bits bits
 
 -- ---- lines
 
-abbrev pub line_after : List ℕ → List ℕ → List ℕ
-line_after front word = front ++ word ++ codes "\n"
-
--- a line for each of the words, after a text
-abbrev pub lines_after : List ℕ → List (List ℕ) → List ℕ
-lines_after front [] = []
-lines_after front (word ∷ words) = line_after front word ++ lines_after front words
+unfoldable pub permission_line : List ℕ → List ℕ
+permission_line word = codes "permission " ++ word ++ codes "\n"
 
 abbrev pub permission_lines : List (List ℕ) → List ℕ
-permission_lines words = lines_after (codes "permission ") words
+permission_lines [] = []
+permission_lines (word ∷ words) = permission_line word ++ permission_lines words
 
 abbrev pub glyphs_line : Option ℕ → List ℕ
 glyphs_line None = codes "glyphs not given\n"
 glyphs_line (Some count) = codes "glyphs " ++ decimal count ++ codes "\n"
 
-abbrev pub counts_lines : ℕ → ℕ → List ℕ
+unfoldable pub counts_lines : ℕ → ℕ → List ℕ
 counts_lines faces bytes = codes "faces " ++ decimal faces ++ codes "\nbytes " ++ decimal bytes ++ codes "\n"
 
--- a text as a line after another, if there is one
-abbrev pub if_any : List ℕ → Option (List ℕ) → List ℕ
-if_any front None = []
-if_any front (Some text) = front ++ text ++ codes "\n"
+abbrev pub reason_line : Option (List ℕ) → List ℕ
+reason_line None = []
+reason_line (Some reason) = codes "reason: " ++ reason ++ codes "\n"
 
 -- what `subset` returns for all glyphs
 abbrev pub refusal_lines : Option (List ℕ) → Option (List ℕ) → List ℕ
 refusal_lines None reason = codes "subset accepts every glyph\n"
-refusal_lines (Some refusal) reason =
-    if_any (codes "subset refuses: ") (Some refusal) ++ if_any (codes "reason: ") reason
+refusal_lines (Some refusal) reason = codes "subset refuses: " ++ refusal ++ codes "\n" ++ reason_line reason
 
 -- `table glyf 46248`
-abbrev pub table_line : Tag → ℕ → List ℕ
+unfoldable pub table_line : Tag → ℕ → List ℕ
 table_line tag size = codes "table " ++ map shown tag.0 ++ codes " " ++ decimal size ++ codes "\n"
 
 abbrev pub table_lines : List (Tag × ℕ) → List ℕ
@@ -93,7 +87,7 @@ abbrev pub string_or_null : Option (List ℕ) → List ℕ
 string_or_null None = codes "null"
 string_or_null (Some text) = quoted text
 
-abbrev pub table_object : Tag → ℕ → List ℕ
+unfoldable pub table_object : Tag → ℕ → List ℕ
 table_object tag size =
     codes "{\"tag\":" ++ quoted (map shown tag.0) ++ codes ",\"bytes\":" ++ decimal size ++ codes "}"
 
@@ -101,23 +95,21 @@ abbrev pub table_objects : List ℕ → List (Tag × ℕ) → List ℕ
 table_objects before [] = []
 table_objects before (t ∷ tables) = (before ++ table_object t.0 t.1) ++ table_objects (codes ",") tables
 
-abbrev pub counts_members : Info → List ℕ
+unfoldable pub counts_members : Info → List ℕ
 counts_members info =
     codes ",\"faces\":" ++ decimal info.faces ++ codes ",\"bytes\":" ++ decimal info.bytes ++ codes ",\"glyphs\":"
     ++ number_or_null info.glyphs
 
-abbrev pub refusal_members : Info → List (List ℕ) → List ℕ
+unfoldable pub refusal_members : Info → List (List ℕ) → List ℕ
 refusal_members info words =
-    codes ",\"permission\":[" ++ strings [] words ++ codes "],\"refusal\":"
-    ++ string_or_null (option_copied info.refusal) ++ codes ",\"reason\":" ++ string_or_null (option_copied info.reason)
-
-abbrev pub tables_member : List (Tag × ℕ) → List ℕ
-tables_member tables = codes ",\"tables\":[" ++ table_objects [] tables ++ codes "]}\n"
+    codes ",\"permission\":[" ++ strings [] words
+    ++ (codes "],\"refusal\":" ++ string_or_null (option_copied info.refusal)
+    ++ codes ",\"reason\":" ++ string_or_null (option_copied info.reason))
 
 abbrev pub info_members : Info → List (List ℕ) → List ℕ
 info_members info words =
     outlines_members info.outlines info.is_variable ++ counts_members info ++ pictures_member info.pictures.now
-    ++ refusal_members info words ++ tables_member info.tables.now
+    ++ refusal_members info words ++ codes ",\"tables\":[" ++ table_objects [] info.tables.now ++ codes "]}\n"
 
 abbrev pub info_json : Info → List ℕ
 info_json info = info_members info (permission_words info.permission)

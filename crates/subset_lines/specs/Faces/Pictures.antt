@@ -23,7 +23,7 @@ kind_name kind =
     else codes "empty"
 
 -- with how many glyphs have it
-abbrev pub picture_text : List ℕ → ℕ → ℕ → List ℕ
+unfoldable pub picture_text : List ℕ → ℕ → ℕ → List ℕ
 picture_text middle kind count = kind_name kind ++ middle ++ decimal count
 
 -- each, with a text before the first and one between each two

@@ -10,10 +10,9 @@ abbrev pub character_member : Option ℕ → List ℕ
 character_member None = []
 character_member (Some c) = codes "\"character\":" ++ decimal c ++ codes ","
 
--- a new number, if there is one
 abbrev pub number_or_null : Option ℕ → List ℕ
 number_or_null None = codes "null"
-number_or_null (Some new) = decimal new
+number_or_null (Some number) = decimal number
 
 -- the member that has a glyph's name, which an empty one isn't; a byte that isn't a printable one of ASCII is shown as
 -- `?`

@@ -1,22 +1,20 @@
 //! The axes of a variable font and its named instances (OpenType, "fvar"), as lines.
 
-ghost use Rattle.std.specs.Prelude.{◌≡◌, ◌⊎◌, ◌++◌, [], map, OnOk, IfOk, IfErr, Some, None};
+ghost use Rattle.std.specs.Prelude.{◌≡◌, ◌⊎◌, map, OnOk, IfOk, IfErr, Some, None};
 ghost use Rattle.std.specs.Io.KnownBytes.{Appends};
 ghost use Rattle.std.specs.Option.{ok_or};
 ghost use Rattle.subsetter_base.specs.Gives.{Gives};
 ghost use Rattle.subsetter_base.specs.declared.error.Error.TheVariants.{MalformedFont, OutOfMemory};
 ghost use Rattle.subsetter_variation.specs.Locations.Axes.{axes};
-ghost use Rattle.subset_lines.specs.Faces.Axes.{after_blank, numbers_text, axis_line, axis_lines, records_at, instances_of, instances, coordinate_text, settings_text, instance_line, instance_lines, text_of};
+ghost use Rattle.subset_lines.specs.Faces.Axes.{axis_line, axis_lines, records_at, instances_of, instances, instance_line, instance_lines, text_of};
 ghost use Rattle.plain_text.specs.Characters.{shown};
-ghost use Rattle.plain_text.specs.Fixed.{fixed_text};
-ghost use Rattle.subsetter_base.specs.Bytes.{number};
 
 use crate::faces::names::{NameTable, write_after};
 use crate::faces::outlines::{Outlines, write_outlines};
 use crate::faces::settings::{SettingForm, write_each};
 use crate::plain::flush;
 use plain_text::characters::shown;
-use plain_text::{Unwritten, write_fixed, write_text};
+use plain_text::{Piece, Written, write_pieces, write_text};
 use std::alloc::Global;
 use std::io::Write;
 use subsetter_base::read::{Reader, after_four};
@@ -123,70 +121,36 @@ pub fn tag_bytes(tag: Tag) -> [u8; 4]
     [shown(a), shown(b), shown(c), shown(d)]
 }
 
-/// Writes a tag.
-pub fn write_tag<W: Write>(tag: Tag, out: &mut W) -> Result<(), Unwritten>
-    ensures { OnOk result (Appends (W.contents out.old) (W.contents out.new) (map shown tag.0)) }
-{
-    write_text(&tag_bytes(tag), out)
-}
-
-/// Writes a coordinate after a blank.
-#[tactic(auto, using(plain_text::proofs::Written::both), unfolding(crate::specs::Faces::Axes::after_blank))]
-fn write_after_blank<W: Write>(value: i32, out: &mut W) -> Result<(), Unwritten>
-    ensures { OnOk result (Appends (W.contents out.old) (W.contents out.new) (after_blank value)) }
-{
-    write_text(b" ", out)?;
-    write_fixed(value, out)
-}
-
-/// Writes the least coordinate of an axis, its default and its greatest coordinate.
-#[tactic(auto, using(plain_text::proofs::Written::both), unfolding(crate::specs::Faces::Axes::numbers_text))]
-fn write_numbers<W: Write>(axis: &Axis, out: &mut W) -> Result<(), Unwritten>
-    ensures { OnOk result (Appends (W.contents out.old) (W.contents out.new) (numbers_text axis.now)) }
-{
-    write_after_blank(axis.minimum, out)?;
-    write_after_blank(axis.default, out)?;
-    write_after_blank(axis.maximum, out)
-}
-
 /// Writes the line of an axis.
-#[tactic(auto, using(plain_text::proofs::Written::both), unfolding(crate::specs::Faces::Axes::axis_line))]
-fn write_axis<W: Write>(axis: &Axis, out: &mut W) -> Result<(), Unwritten>
+#[tactic(auto, unfolding(crate::specs::Faces::Axes::axis_line))]
+fn write_axis<W: Write>(axis: &Axis, out: &mut W) -> Written
     ensures { OnOk result (Appends (W.contents out.old) (W.contents out.new) (axis_line axis.now)) }
 {
-    write_text(b"axis ", out)?;
-    write_tag(axis.tag, out)?;
-    write_numbers(axis, out)?;
-    write_text(b"\n", out)
+    write_pieces(
+        &[
+            Piece::Text(b"axis "),
+            Piece::Text(&tag_bytes(axis.tag)),
+            Piece::Text(b" "),
+            Piece::Fixed(axis.minimum),
+            Piece::Text(b" "),
+            Piece::Fixed(axis.default),
+            Piece::Text(b" "),
+            Piece::Fixed(axis.maximum),
+            Piece::Text(b"\n"),
+        ],
+        out,
+    )
 }
 
 /// Writes a line for each axis.
 #[tactic(auto, using(plain_text::proofs::Written::at_first, plain_text::proofs::Written::after_part, plain_text::proofs::Written::at_last))]
-fn write_axis_lines<W: Write>(axes: &[Axis], out: &mut W) -> Result<(), Unwritten>
+fn write_axis_lines<W: Write>(axes: &[Axis], out: &mut W) -> Written
     ensures { OnOk result (Appends (W.contents out.old) (W.contents out.new) (axis_lines axes.now)) }
 {
     for axis in axes {
         write_axis(axis, out)?;
     }
     Ok(())
-}
-
-/// Writes the coordinate that four bytes say.
-pub fn write_coordinate<W: Write>(bytes: &[u8], out: &mut W) -> Result<(), Unwritten>
-    ensures { OnOk result (Appends (W.contents out.old) (W.contents out.new) (coordinate_text (number bytes.now 0 4))) }
-{
-    match Reader::new(bytes).read::<u32>() {
-        Some(bits) => write_fixed(bits.cast_signed(), out),
-        None => Ok(()),
-    }
-}
-
-/// Writes each axis with its coordinate, as `--at` takes them.
-#[tactic(auto, using(crate::proofs::Settings::line_written))]
-fn write_settings<W: Write>(axes: &[Axis], bytes: &[u8], out: &mut W) -> Result<(), Unwritten>
-    ensures { OnOk result (Appends (W.contents out.old) (W.contents out.new) (settings_text [] axes.now bytes.now)) }
-{
-    write_each(SettingForm::Line, axes, bytes, out)
 }
 
 /// Writes the line of a named instance.
@@ -196,11 +160,11 @@ fn write_instance<W: Write>(
     names: &NameTable<'_>,
     bytes: &[u8],
     out: &mut W,
-) -> Result<(), Unwritten>
+) -> Written
     ensures { OnOk result (Appends (W.contents out.old) (W.contents out.new) (instance_line axes.now names.now bytes.now)) }
 {
     write_text(b"instance ", out)?;
-    write_settings(axes, after_four(bytes), out)?;
+    write_each(SettingForm::Line, axes, after_four(bytes), out)?;
     write_after(names.of_instance(bytes), out)?;
     write_text(b"\n", out)
 }
@@ -212,7 +176,7 @@ fn write_instance_lines<W: Write>(
     names: &NameTable<'_>,
     records: &[&[u8]],
     out: &mut W,
-) -> Result<(), Unwritten>
+) -> Written
     ensures { OnOk result (Appends (W.contents out.old) (W.contents out.new) (instance_lines axes.now names.now (map (λ bytes. bytes.now) records.now))) }
 {
     for bytes in records {
@@ -230,7 +194,7 @@ pub fn write_axes<W: Write>(
     is_variable: bool,
     all: &FontAxes<'_>,
     out: &mut W,
-) -> Result<(), Unwritten>
+) -> Written
     ensures { OnOk result (Appends (W.contents out.old) (W.contents out.new) (text_of outlines is_variable all.now.axes.items all.now.names (map (λ bytes. bytes.now) all.now.instances.items))) }
 {
     write_outlines(outlines, is_variable, out)?;

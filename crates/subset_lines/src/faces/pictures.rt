@@ -4,7 +4,7 @@ ghost use Rattle.std.specs.Prelude.{◌≡◌, ◌++◌, OnOk};
 ghost use Rattle.std.specs.Io.KnownBytes.{Appends};
 ghost use Rattle.subset_lines.specs.Faces.Pictures.{kind_name, picture_text, pictures_line, pictures_member, pictures_text};
 
-use plain_text::{Unwritten, write_count, write_text};
+use plain_text::{Piece, Written, write_pieces, write_text};
 use std::io::Write;
 
 /// The name of a kind of pictures, by its bit.
@@ -32,43 +32,29 @@ fn kind_name(kind: u8) -> &'static [u8]
     }
 }
 
-/// Writes the name of a kind.
-fn write_name<W: Write>(kind: u8, out: &mut W) -> Result<(), Unwritten>
-    ensures { OnOk result (Appends (W.contents out.old) (W.contents out.new) (kind_name kind)) }
-{
-    write_text(kind_name(kind), out)
-}
-
 /// Writes a kind with how many glyphs have it.
-#[tactic(auto, using(plain_text::proofs::Written::both))]
-fn write_picture<W: Write>(
-    before: &[u8],
-    middle: &[u8],
-    kind: u8,
-    count: usize,
-    out: &mut W,
-) -> Result<(), Unwritten>
-    ensures { OnOk result (Appends (W.contents out.old) (W.contents out.new) (before.now ++ picture_text middle.now kind count)) }
+fn write_picture<W: Write>(middle: &[u8], picture: (u8, usize), out: &mut W) -> Written
+    ensures { OnOk result (Appends (W.contents out.old) (W.contents out.new) (picture_text middle.now picture.0 picture.1)) }
 {
-    write_text(before, out)?;
-    write_name(kind, out)?;
-    write_count(middle, count as u64, out)
+    let (kind, count) = (kind_name(picture.0), Piece::Number(picture.1 as u64));
+    write_pieces(&[Piece::Text(kind), Piece::Text(middle), count], out)
 }
 
 /// Writes each so, with a text before the first and one between each two.
-#[tactic(auto, using(plain_text::proofs::Written::at_first, plain_text::proofs::Written::after_part, plain_text::proofs::Written::at_last))]
+#[tactic(auto, using(plain_text::proofs::Written::both, plain_text::proofs::Written::at_first, plain_text::proofs::Written::after_part, plain_text::proofs::Written::at_last))]
 fn write_pictures<W: Write>(
     first: &[u8],
     between: &[u8],
     middle: &[u8],
     pictures: &[(u8, usize)],
     out: &mut W,
-) -> Result<(), Unwritten>
+) -> Written
     ensures { OnOk result (Appends (W.contents out.old) (W.contents out.new) (pictures_text first.now between.now middle.now pictures.now)) }
 {
     let mut before = first;
     for picture in pictures {
-        write_picture(before, middle, picture.0, picture.1, out)?;
+        write_text(before, out)?;
+        write_picture(middle, *picture, out)?;
         before = between;
     }
     Ok(())
@@ -76,7 +62,7 @@ fn write_pictures<W: Write>(
 
 /// Writes the line of pictures: `pictures colr0 48, outline 120`; nothing where there are none.
 #[tactic(auto, using(plain_text::proofs::Written::both))]
-pub fn write_pictures_line<W: Write>(pictures: &[(u8, usize)], out: &mut W) -> Result<(), Unwritten>
+pub fn write_pictures_line<W: Write>(pictures: &[(u8, usize)], out: &mut W) -> Written
     ensures { OnOk result (Appends (W.contents out.old) (W.contents out.new) (pictures_line pictures.now)) }
 {
     if pictures.is_empty() {
@@ -88,10 +74,7 @@ pub fn write_pictures_line<W: Write>(pictures: &[(u8, usize)], out: &mut W) -> R
 
 /// Writes the member of pictures.
 #[tactic(auto, using(plain_text::proofs::Written::both))]
-pub fn write_pictures_member<W: Write>(
-    pictures: &[(u8, usize)],
-    out: &mut W,
-) -> Result<(), Unwritten>
+pub fn write_pictures_member<W: Write>(pictures: &[(u8, usize)], out: &mut W) -> Written
     ensures { OnOk result (Appends (W.contents out.old) (W.contents out.new) (pictures_member pictures.now)) }
 {
     write_text(b",\"pictures\":{", out)?;

@@ -1,72 +1,56 @@
 //! The tables of a font before and after, with their sizes in bytes.
 
-ghost use Rattle.std.specs.Prelude.{◌≡◌, ◌++◌, [], OnOk, IfOk, codes, decimal, map};
+ghost use Rattle.std.specs.Prelude.{◌≡◌, ◌++◌, [], OnOk, IfOk, codes};
 ghost use Rattle.std.specs.Io.KnownBytes.{Appends};
-ghost use Rattle.plain_text.specs.Characters.{shown};
-ghost use Rattle.plain_text.specs.Quoted.{quoted};
-ghost use Rattle.subset_lines.specs.Objects.Json.{number_or_null};
-ghost use Rattle.subset_lines.specs.Faces.Sizes.{tag_open, size_or_none, table_front, change_text, sizes_close, tables_open, table_line, table_lines, font_line, sizes_text, table_object, table_objects, sizes_member, tables_member};
+ghost use Rattle.plain_text.specs.Pieces.{piece_text};
+ghost use Rattle.subset_lines.specs.Faces.Sizes.{size_or, table_line, table_lines, sizes_text, table_object, table_objects, sizes_member, tables_member};
 
-use crate::faces::axes::{tag_bytes, write_tag};
-use plain_text::{Unwritten, write_count, write_quoted, write_text};
+use crate::faces::axes::tag_bytes;
+use plain_text::{Piece, Unwritten, Written, write_pieces, write_text};
 use std::alloc::Global;
 use std::io::Write;
 use subsetter_base::Tag;
 
 /// A table, and its sizes in bytes in the font that is read and in the new one: none where it has no such table.
-#[derive(Clone, Copy, PartialEq, Eq, Debug)]
+#[derive(Clone, Copy)]
 pub struct TableSize {
     pub tag: Tag,
     pub old: Option<u32>,
     pub new: Option<u32>,
 }
 
-/// Writes a size, or `none`.
-fn write_size<W: Write>(size: Option<u32>, out: &mut W) -> Result<(), Unwritten>
-    ensures { OnOk result (Appends (W.contents out.old) (W.contents out.new) (size_or_none size)) }
+/// A size, or a text where there is none.
+fn size_or(size: Option<u32>, none: &[u8]) -> Piece<'_>
+    ensures { piece_text result ≡ size_or none.now size }
 {
-    let Some(size) = size else {
-        return write_text(b"none", out);
-    };
-    if write!(out, "{size}").is_err() {
-        return Err(Unwritten);
+    match size {
+        Some(size) => Piece::Number(u64::from(size)),
+        None => Piece::Text(none),
     }
-    Ok(())
-}
-
-/// Writes what a line of a table begins with: `table glyf `.
-#[tactic(auto, using(plain_text::proofs::Written::both))]
-fn write_table_front<W: Write>(tag: Tag, out: &mut W) -> Result<(), Unwritten>
-    ensures { OnOk result (Appends (W.contents out.old) (W.contents out.new) (table_front tag)) }
-{
-    write_text(b"table ", out)?;
-    write_tag(tag, out)?;
-    write_text(b" ", out)
-}
-
-/// Writes the sizes of a table.
-#[tactic(auto, using(plain_text::proofs::Written::both))]
-fn write_change<W: Write>(old: Option<u32>, new: Option<u32>, out: &mut W) -> Result<(), Unwritten>
-    ensures { OnOk result (Appends (W.contents out.old) (W.contents out.new) (change_text old new)) }
-{
-    write_size(old, out)?;
-    write_text(b" -> ", out)?;
-    write_size(new, out)
 }
 
 /// Writes the line of a table: `table glyf 46248 -> 612`.
-#[tactic(auto, using(plain_text::proofs::Written::both))]
-fn write_table<W: Write>(table: &TableSize, out: &mut W) -> Result<(), Unwritten>
+#[tactic(auto, unfolding(crate::specs::Faces::Sizes::table_line))]
+fn write_table<W: Write>(table: &TableSize, out: &mut W) -> Written
     ensures { OnOk result (Appends (W.contents out.old) (W.contents out.new) (table_line table.now)) }
 {
-    write_table_front(table.tag, out)?;
-    write_change(table.old, table.new, out)?;
-    write_text(b"\n", out)
+    write_pieces(
+        &[
+            Piece::Text(b"table "),
+            Piece::Text(&tag_bytes(table.tag)),
+            Piece::Text(b" "),
+            size_or(table.old, b"none"),
+            Piece::Text(b" -> "),
+            size_or(table.new, b"none"),
+            Piece::Text(b"\n"),
+        ],
+        out,
+    )
 }
 
 /// Writes a line for each table.
 #[tactic(auto, using(plain_text::proofs::Written::at_first, plain_text::proofs::Written::after_part, plain_text::proofs::Written::at_last))]
-fn write_tables<W: Write>(tables: &[TableSize], out: &mut W) -> Result<(), Unwritten>
+fn write_tables<W: Write>(tables: &[TableSize], out: &mut W) -> Written
     ensures { OnOk result (Appends (W.contents out.old) (W.contents out.new) (table_lines tables.now)) }
 {
     for table in tables {
@@ -75,28 +59,22 @@ fn write_tables<W: Write>(tables: &[TableSize], out: &mut W) -> Result<(), Unwri
     Ok(())
 }
 
-/// Writes the line of both files: `font 759720 -> 1234`.
-fn write_font_line<W: Write>(old: u64, new: u64, out: &mut W) -> Result<(), Unwritten>
-    ensures { OnOk result (Appends (W.contents out.old) (W.contents out.new) (font_line old new)) }
-{
-    if writeln!(out, "font {old} -> {new}").is_err() {
-        return Err(Unwritten);
-    }
-    Ok(())
-}
-
-/// Writes these lines.
+/// Writes these lines, and the one of both files: `font 759720 -> 1234`.
 #[tactic(auto, using(plain_text::proofs::Written::both))]
-fn write_sizes<W: Write>(
-    tables: &[TableSize],
-    old: u64,
-    new: u64,
-    out: &mut W,
-) -> Result<(), Unwritten>
+fn write_sizes<W: Write>(tables: &[TableSize], old: u64, new: u64, out: &mut W) -> Written
     ensures { OnOk result (Appends (W.contents out.old) (W.contents out.new) (sizes_text tables.now old new)) }
 {
     write_tables(tables, out)?;
-    write_font_line(old, new, out)
+    write_pieces(
+        &[
+            Piece::Text(b"font "),
+            Piece::Number(old),
+            Piece::Text(b" -> "),
+            Piece::Number(new),
+            Piece::Text(b"\n"),
+        ],
+        out,
+    )
 }
 
 /// The lines of tables with their sizes in bytes, as `table glyf 46248 -> 612`, and one of both files, as `font 759720 -> 1234`.
@@ -115,110 +93,61 @@ pub fn size_lines(
     Ok(text)
 }
 
-/// Writes a size, or `null`.
-fn write_size_or_null<W: Write>(size: Option<u32>, out: &mut W) -> Result<(), Unwritten>
-    ensures { OnOk result (Appends (W.contents out.old) (W.contents out.new) (number_or_null size)) }
-{
-    let Some(size) = size else {
-        return write_text(b"null", out);
-    };
-    if write!(out, "{size}").is_err() {
-        return Err(Unwritten);
-    }
-    Ok(())
-}
-
-/// Writes the tag of a table, which opens its object.
-#[tactic(auto, using(plain_text::proofs::Written::both))]
-fn write_tag_open<W: Write>(tag: Tag, out: &mut W) -> Result<(), Unwritten>
-    ensures { OnOk result (Appends (W.contents out.old) (W.contents out.new) (tag_open tag)) }
-{
-    write_text(b"{\"tag\":", out)?;
-    write_quoted(&tag_bytes(tag), out)
-}
-
-/// Writes a member that has a size.
-#[tactic(auto, using(plain_text::proofs::Written::both))]
-fn write_size_member<W: Write>(
-    label: &[u8],
-    size: Option<u32>,
-    out: &mut W,
-) -> Result<(), Unwritten>
-    ensures { OnOk result (Appends (W.contents out.old) (W.contents out.new) (label.now ++ number_or_null size)) }
-{
-    write_text(label, out)?;
-    write_size_or_null(size, out)
-}
-
-/// Writes the sizes of a table, which close its object.
-#[tactic(auto, using(plain_text::proofs::Written::both))]
-fn write_sizes_close<W: Write>(table: &TableSize, out: &mut W) -> Result<(), Unwritten>
-    ensures { OnOk result (Appends (W.contents out.old) (W.contents out.new) (sizes_close table.now)) }
-{
-    write_size_member(b",\"old\":", table.old, out)?;
-    write_size_member(b",\"new\":", table.new, out)?;
-    write_text(b"}", out)
-}
-
 /// Writes the object of a table.
-#[tactic(auto, using(plain_text::proofs::Written::both))]
-fn write_object<W: Write>(table: &TableSize, out: &mut W) -> Result<(), Unwritten>
+#[tactic(auto, unfolding(crate::specs::Faces::Sizes::table_object))]
+fn write_object<W: Write>(table: &TableSize, out: &mut W) -> Written
     ensures { OnOk result (Appends (W.contents out.old) (W.contents out.new) (table_object table.now)) }
 {
-    write_tag_open(table.tag, out)?;
-    write_sizes_close(table, out)
-}
-
-/// Writes the same after a text.
-#[tactic(auto, using(plain_text::proofs::Written::both))]
-fn write_table_object<W: Write>(
-    before: &[u8],
-    table: &TableSize,
-    out: &mut W,
-) -> Result<(), Unwritten>
-    ensures { OnOk result (Appends (W.contents out.old) (W.contents out.new) (before.now ++ table_object table.now)) }
-{
-    write_text(before, out)?;
-    write_object(table, out)
+    write_pieces(
+        &[
+            Piece::Text(b"{\"tag\":"),
+            Piece::Shown(table.tag.get()),
+            Piece::Text(b",\"old\":"),
+            size_or(table.old, b"null"),
+            Piece::Text(b",\"new\":"),
+            size_or(table.new, b"null"),
+            Piece::Text(b"}"),
+        ],
+        out,
+    )
 }
 
 /// Writes the objects of tables.
-#[tactic(auto, using(plain_text::proofs::Written::at_first, plain_text::proofs::Written::after_part, plain_text::proofs::Written::at_last))]
-fn write_table_objects<W: Write>(tables: &[TableSize], out: &mut W) -> Result<(), Unwritten>
+#[tactic(auto, using(plain_text::proofs::Written::both, plain_text::proofs::Written::at_first, plain_text::proofs::Written::after_part, plain_text::proofs::Written::at_last))]
+fn write_objects<W: Write>(tables: &[TableSize], out: &mut W) -> Written
     ensures { OnOk result (Appends (W.contents out.old) (W.contents out.new) (table_objects [] tables.now)) }
 {
     let mut before = b"".as_slice();
     for table in tables {
-        write_table_object(before, table, out)?;
+        write_text(before, out)?;
+        write_object(table, out)?;
         before = b",".as_slice();
     }
     Ok(())
 }
 
 /// Writes the member `"sizes"` of the JSON object, in bytes of both files, with a comma before it.
-#[tactic(auto, using(plain_text::proofs::Written::both))]
-pub fn write_sizes_member<W: Write>(old: u64, new: u64, out: &mut W) -> Result<(), Unwritten>
+pub fn write_sizes_member<W: Write>(old: u64, new: u64, out: &mut W) -> Written
     ensures { OnOk result (Appends (W.contents out.old) (W.contents out.new) (sizes_member old new)) }
 {
-    write_count(b",\"sizes\":{\"old\":", old, out)?;
-    write_count(b",\"new\":", new, out)?;
-    write_text(b"}", out)
-}
-
-/// Writes what opens the member of the tables, and their objects.
-#[tactic(auto, using(plain_text::proofs::Written::both))]
-fn write_tables_open<W: Write>(tables: &[TableSize], out: &mut W) -> Result<(), Unwritten>
-    ensures { OnOk result (Appends (W.contents out.old) (W.contents out.new) (tables_open tables.now)) }
-{
-    write_text(b",\"tables\":[", out)?;
-    write_table_objects(tables, out)
+    write_pieces(
+        &[
+            Piece::Text(b",\"sizes\":{\"old\":"),
+            Piece::Number(old),
+            Piece::Text(b",\"new\":"),
+            Piece::Number(new),
+            Piece::Text(b"}"),
+        ],
+        out,
+    )
 }
 
 /// Writes the member `"tables"` of the JSON object, with a comma before it.
 #[tactic(auto, using(plain_text::proofs::Written::both))]
-pub fn write_tables_member<W: Write>(tables: &[TableSize], out: &mut W) -> Result<(), Unwritten>
+pub fn write_tables_member<W: Write>(tables: &[TableSize], out: &mut W) -> Written
     ensures { OnOk result (Appends (W.contents out.old) (W.contents out.new) (tables_member tables.now)) }
 {
-    write_tables_open(tables, out)?;
+    write_text(b",\"tables\":[", out)?;
+    write_objects(tables, out)?;
     write_text(b"]", out)
 }

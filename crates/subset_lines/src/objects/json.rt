@@ -25,12 +25,12 @@ fn write_character<W: Write>(character: Option<char>, out: &mut W) -> Written
     Ok(())
 }
 
-/// Writes a new number, if there is one.
-fn write_new<W: Write>(new: Option<u16>, out: &mut W) -> Written
-    ensures { OnOk result (Appends (W.contents out.old) (W.contents out.new) (number_or_null new)) }
+/// Writes a number, or `null`.
+pub fn write_number_or_null<W: Write>(number: Option<u16>, out: &mut W) -> Written
+    ensures { OnOk result (Appends (W.contents out.old) (W.contents out.new) (number_or_null number)) }
 {
-    match new {
-        Some(new) => write_decimal(u64::from(new), out),
+    match number {
+        Some(number) => write_decimal(u64::from(number), out),
         None => write_text(b"null", out),
     }
 }
@@ -62,7 +62,7 @@ fn write_object<W: Write>(
     write_character(character, out)?;
     write_count(b"\"old\":", u64::from(old), out)?;
     write_text(b",\"new\":", out)?;
-    write_new(new, out)?;
+    write_number_or_null(new, out)?;
     write_name(name, out)?;
     write_text(b"}", out)
 }

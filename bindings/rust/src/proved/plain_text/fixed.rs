@@ -49,9 +49,3 @@ pub fn write_fixed<W: Write>(value: i32, out: &mut W) -> Written {
     write_sign(value, out)?;
     write_size(value.unsigned_abs(), out)
 }
-
-/// Writes a coordinate after a text.
-pub fn write_labelled<W: Write>(label: &[u8], value: i32, out: &mut W) -> Written {
-    write_text(label, out)?;
-    write_fixed(value, out)
-}

@@ -14,7 +14,6 @@ mod pieces;
 mod quoted;
 mod text;
 
-pub use fixed::{write_fixed, write_labelled};
 pub use pieces::{write_pieces, Piece};
 pub use quoted::{write_quoted, write_shown};
 pub use text::{write_count, write_decimal, write_text, Unwritten, Written};

@@ -7,7 +7,7 @@ use crate::proved::plain_text::text::{write_decimal, write_text, Written};
 use crate::rattle::io::Write;
 
 /// A piece of a text.
-#[derive(Clone, Copy, Debug)]
+#[derive(Clone, Copy)]
 pub enum Piece<'a> {
     /// Bytes as they are.
     Text(&'a [u8]),

@@ -4,7 +4,6 @@
 use crate::rattle::io::Write;
 
 /// The writer failed.
-#[derive(Debug)]
 pub struct Unwritten;
 
 /// What a function that writes returns.

@@ -5,7 +5,7 @@
 //! which is then no number.
 
 /// How many tokens the charstring of a glyph may take, how deep it may go, and how many bytes the font may have.
-#[derive(Clone, Copy, PartialEq, Eq, Debug)]
+#[derive(Clone, Copy)]
 pub struct RunLimits {
     pub tokens: u32,
     pub depth: u8,

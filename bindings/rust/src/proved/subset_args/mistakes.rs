@@ -4,7 +4,7 @@
 use crate::rattle::alloc::AllocError;
 
 /// What is wrong with an argument, or with one of the values that it lists.
-#[derive(Clone, Copy, PartialEq, Eq, Debug)]
+#[derive(Clone, Copy)]
 pub enum Wrong {
     /// IN is missing.
     NoInput,
@@ -77,7 +77,7 @@ pub enum Wrong {
 }
 
 /// A mistake in the arguments.
-#[derive(Clone, Copy, Debug)]
+#[derive(Clone, Copy)]
 pub struct Mistake<'a> {
     /// What is wrong.
     pub wrong: Wrong,
@@ -91,7 +91,7 @@ pub fn mistake_in(wrong: Wrong, word: &str) -> Mistake<'_> {
 }
 
 /// Why the arguments request nothing.
-#[derive(Clone, Copy, Debug)]
+#[derive(Clone, Copy)]
 pub enum Unread<'a> {
     /// A request for memory was refused.
     OutOfMemory,

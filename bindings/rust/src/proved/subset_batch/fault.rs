@@ -8,7 +8,7 @@ use crate::rattle::alloc::{AllocError, AllocFailed};
 use crate::rattle::fmt;
 
 /// What is expected in a line.
-#[derive(Clone, Copy, Debug, PartialEq, Eq)]
+#[derive(Clone, Copy)]
 pub enum Wanted {
     /// `{`
     Object,
@@ -45,7 +45,6 @@ pub enum Wanted {
 }
 
 /// Why a line isn't a request. A number counts the bytes from its start, or those that are left.
-#[derive(Debug)]
 pub enum Fault {
     /// This is expected there.
     Expected(Wanted, usize),
@@ -106,7 +105,6 @@ impl fmt::Display for Fault {
 }
 
 /// Why a line wasn't read.
-#[derive(Debug)]
 pub enum Unread {
     /// A request for memory was refused.
     OutOfMemory,

@@ -4,7 +4,7 @@
 use crate::proved::subset_batch::values::Value;
 
 /// What a member requests.
-#[derive(Clone, Copy, Debug)]
+#[derive(Clone, Copy)]
 pub enum Kind {
     /// IN
     Source,

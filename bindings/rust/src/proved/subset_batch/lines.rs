@@ -7,7 +7,7 @@ use crate::proved::subset_batch::json::blanks::skip_ws;
 use crate::rattle::alloc::{AllocError, Global};
 
 /// A line of a file, with its number from 1.
-#[derive(Clone, Copy, Debug)]
+#[derive(Clone, Copy)]
 pub struct Line<'a> {
     pub number: usize,
     pub bytes: &'a [u8],

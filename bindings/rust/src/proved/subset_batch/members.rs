@@ -11,7 +11,6 @@ use crate::proved::subset_batch::values::{value_at, Value};
 use crate::rattle::alloc::Global;
 
 /// A member of a request.
-#[derive(Debug)]
 pub struct Member {
     pub name: String,
     pub value: Value,

@@ -10,7 +10,6 @@ use crate::proved::subset_batch::json::strings::{string_at, text_of};
 use crate::rattle::alloc::Global;
 
 /// What a value says.
-#[derive(Debug)]
 pub enum Value {
     /// `false` or `null`.
     Absent,

@@ -3,25 +3,24 @@
 
 use crate::rattle::prelude::Vec;
 
-use crate::proved::plain_text::{write_quoted, write_text, Unwritten};
+use crate::proved::plain_text::{write_pieces, write_text, Piece, Unwritten, Written};
 use crate::rattle::alloc::Global;
 use crate::rattle::io::Write;
 
 /// Writes that a face is taken as the only one: `face 3 is taken as face 0: the file has no other`.
-fn write_index<W: Write>(index: u32, out: &mut W) -> Result<(), Unwritten> {
-    if write!(
+fn write_index<W: Write>(index: u32, out: &mut W) -> Written {
+    write_pieces(
+        &[
+            Piece::Text(b"face "),
+            Piece::Number(u64::from(index)),
+            Piece::Text(b" is taken as face 0: the file has no other"),
+        ],
         out,
-        "face {index} is taken as face 0: the file has no other"
     )
-    .is_err()
-    {
-        return Err(Unwritten);
-    }
-    Ok(())
 }
 
 /// Writes the note as a line, if there is one.
-pub fn write_index_line<W: Write>(index: Option<u32>, out: &mut W) -> Result<(), Unwritten> {
+pub fn write_index_line<W: Write>(index: Option<u32>, out: &mut W) -> Written {
     let index = match index {
         Some(index) => index,
         _ => {
@@ -45,7 +44,7 @@ pub fn write_index_string<W: Write>(
     before: &[u8],
     index: Option<u32>,
     out: &mut W,
-) -> Result<(), Unwritten> {
+) -> Written {
     let index = match index {
         Some(index) => index,
         _ => {
@@ -53,6 +52,5 @@ pub fn write_index_string<W: Write>(
         }
     };
     let text = index_bytes(alloc, index)?;
-    write_text(before, out)?;
-    write_quoted(&text, out)
+    write_pieces(&[Piece::Text(before), Piece::Quoted(&text)], out)
 }

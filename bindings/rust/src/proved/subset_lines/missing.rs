@@ -3,12 +3,12 @@
 
 use crate::rattle::prelude::Vec;
 
-use crate::proved::plain_text::{write_quoted, write_text, Unwritten};
+use crate::proved::plain_text::{write_pieces, write_text, Piece, Unwritten, Written};
 use crate::rattle::alloc::Global;
 use crate::rattle::io::Write;
 
 /// Writes a character as `U+` and its number, after a text.
-fn write_character<W: Write>(before: &[u8], character: char, out: &mut W) -> Result<(), Unwritten> {
+fn write_character<W: Write>(before: &[u8], character: char, out: &mut W) -> Written {
     write_text(before, out)?;
     let code = u32::from(character);
     if write!(out, "U+{code:04X}").is_err() {
@@ -18,7 +18,7 @@ fn write_character<W: Write>(before: &[u8], character: char, out: &mut W) -> Res
 }
 
 /// Writes characters with commas between them.
-fn write_names<W: Write>(characters: &[char], out: &mut W) -> Result<(), Unwritten> {
+fn write_names<W: Write>(characters: &[char], out: &mut W) -> Written {
     let mut before = b"".as_slice();
     for character in characters {
         write_character(before, *character, out)?;
@@ -36,29 +36,25 @@ fn first_three(characters: &[char]) -> &[char] {
     }
 }
 
-/// Writes that there are others than three.
-fn write_others<W: Write>(characters: &[char], out: &mut W) -> Result<(), Unwritten> {
+/// What says that there are others than three.
+fn others_text(characters: &[char]) -> &'static [u8] {
     if characters.len() > 3 {
-        return write_text(b" and others", out);
+        b" and others"
+    } else {
+        b""
     }
-    Ok(())
-}
-
-/// Writes three characters, and that there are others.
-fn write_named<W: Write>(characters: &[char], out: &mut W) -> Result<(), Unwritten> {
-    write_names(first_three(characters), out)?;
-    write_others(characters, out)
 }
 
 /// Writes a note of characters, of which three are named: `no glyph for U+2603, U+2604: glyph 0 is shown`.
-fn write_missing<W: Write>(characters: &[char], out: &mut W) -> Result<(), Unwritten> {
+fn write_missing<W: Write>(characters: &[char], out: &mut W) -> Written {
     write_text(b"no glyph for ", out)?;
-    write_named(characters, out)?;
+    write_names(first_three(characters), out)?;
+    write_text(others_text(characters), out)?;
     write_text(b": glyph 0 is shown", out)
 }
 
 /// Writes the note as a line; nothing where there are no characters.
-pub fn write_missing_line<W: Write>(characters: &[char], out: &mut W) -> Result<(), Unwritten> {
+pub fn write_missing_line<W: Write>(characters: &[char], out: &mut W) -> Written {
     if characters.is_empty() {
         return Ok(());
     }
@@ -79,10 +75,9 @@ fn write_string<W: Write>(
     before: &[u8],
     characters: &[char],
     out: &mut W,
-) -> Result<(), Unwritten> {
+) -> Written {
     let text = missing_bytes(alloc, characters)?;
-    write_text(before, out)?;
-    write_quoted(&text, out)
+    write_pieces(&[Piece::Text(before), Piece::Quoted(&text)], out)
 }
 
 /// Writes the note as a JSON string after a text; nothing where there are no characters.
@@ -91,7 +86,7 @@ pub fn write_missing_string<W: Write>(
     before: &[u8],
     characters: &[char],
     out: &mut W,
-) -> Result<(), Unwritten> {
+) -> Written {
     match characters {
         [] => Ok(()),
         [_, ..] => write_string(alloc, before, characters, out),

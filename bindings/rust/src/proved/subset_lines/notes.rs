@@ -3,8 +3,10 @@
 
 use crate::rattle::prelude::Vec;
 
-use crate::proved::plain_text::{write_labelled, write_quoted, write_text, Unwritten};
-use crate::proved::subset_lines::faces::axes::write_tag;
+use crate::proved::plain_text::{
+    write_pieces, write_quoted, write_text, Piece, Unwritten, Written,
+};
+use crate::proved::subset_lines::faces::axes::tag_bytes;
 use crate::proved::subset_lines::index::{write_index_line, write_index_string};
 use crate::proved::subset_lines::missing::{write_missing_line, write_missing_string};
 use crate::proved::subsetter_base::Tag;
@@ -13,7 +15,7 @@ use crate::rattle::alloc::Global;
 use crate::rattle::io::Write;
 
 /// What is noted of a coordinate.
-#[derive(Clone, Copy, PartialEq, Eq, Debug)]
+#[derive(Clone, Copy)]
 pub enum Note {
     /// The font has no axis of this tag.
     NoAxis(Tag),
@@ -21,58 +23,62 @@ pub enum Note {
     Clamped(Tag, i32, i32),
 }
 
-/// Writes that the font has no axis of a tag.
-fn write_no_axis<W: Write>(tag: Tag, out: &mut W) -> Result<(), Unwritten> {
-    write_text(b"no axis ", out)?;
-    write_tag(tag, out)?;
-    write_text(b" in the font", out)
-}
-
-/// Writes a coordinate on an axis.
-fn write_setting<W: Write>(tag: Tag, value: i32, out: &mut W) -> Result<(), Unwritten> {
-    write_tag(tag, out)?;
-    write_labelled(b"=", value, out)
-}
-
 /// Writes that a coordinate is taken as another.
-fn write_clamped<W: Write>(tag: Tag, given: i32, taken: i32, out: &mut W) -> Result<(), Unwritten> {
-    write_setting(tag, given, out)?;
-    write_labelled(b" is clamped to ", taken, out)
+fn write_clamped<W: Write>(tag: Tag, given: i32, taken: i32, out: &mut W) -> Written {
+    write_pieces(
+        &[
+            Piece::Text(&tag_bytes(tag)),
+            Piece::Text(b"="),
+            Piece::Fixed(given),
+            Piece::Text(b" is clamped to "),
+            Piece::Fixed(taken),
+        ],
+        out,
+    )
 }
 
 /// Writes a note without the end of its line: `no axis wdth in the font`, or `wght=1000 is clamped to 900`.
-fn write_note<W: Write>(note: Note, out: &mut W) -> Result<(), Unwritten> {
+fn write_note<W: Write>(note: Note, out: &mut W) -> Written {
     match note {
-        Note::NoAxis(tag) => write_no_axis(tag, out),
+        Note::NoAxis(tag) => write_pieces(
+            &[
+                Piece::Text(b"no axis "),
+                Piece::Text(&tag_bytes(tag)),
+                Piece::Text(b" in the font"),
+            ],
+            out,
+        ),
         Note::Clamped(tag, given, taken) => write_clamped(tag, given, taken, out),
     }
 }
 
 /// Writes an axis with its ends: `wght 100 to 900`.
-fn write_range_text<W: Write>(axis: &Axis, out: &mut W) -> Result<(), Unwritten> {
-    write_tag(axis.tag, out)?;
-    write_labelled(b" ", axis.minimum, out)?;
-    write_labelled(b" to ", axis.maximum, out)
-}
-
-/// Writes the same after a text.
-fn write_range<W: Write>(before: &[u8], axis: &Axis, out: &mut W) -> Result<(), Unwritten> {
-    write_text(before, out)?;
-    write_range_text(axis, out)
+fn write_range<W: Write>(axis: &Axis, out: &mut W) -> Written {
+    write_pieces(
+        &[
+            Piece::Text(&tag_bytes(axis.tag)),
+            Piece::Text(b" "),
+            Piece::Fixed(axis.minimum),
+            Piece::Text(b" to "),
+            Piece::Fixed(axis.maximum),
+        ],
+        out,
+    )
 }
 
 /// Writes the axes with their ends.
-fn write_ranges<W: Write>(axes: &[Axis], out: &mut W) -> Result<(), Unwritten> {
+fn write_ranges<W: Write>(axes: &[Axis], out: &mut W) -> Written {
     let mut before = b"".as_slice();
     for axis in axes {
-        write_range(before, axis, out)?;
+        write_text(before, out)?;
+        write_range(axis, out)?;
         before = b", ".as_slice();
     }
     Ok(())
 }
 
 /// Writes the note of the axes that a font has: `axes: wght 100 to 900, wdth 75 to 100`, or `axes: none`.
-fn write_axes_note<W: Write>(axes: &[Axis], out: &mut W) -> Result<(), Unwritten> {
+fn write_axes_note<W: Write>(axes: &[Axis], out: &mut W) -> Written {
     match axes {
         [] => write_text(b"axes: none", out),
         _ => {
@@ -82,22 +88,17 @@ fn write_axes_note<W: Write>(axes: &[Axis], out: &mut W) -> Result<(), Unwritten
     }
 }
 
-/// Writes a note as a line.
-fn write_note_line<W: Write>(note: Note, out: &mut W) -> Result<(), Unwritten> {
-    write_note(note, out)?;
-    write_text(b"\n", out)
-}
-
 /// Writes a line for each note.
-fn write_note_lines<W: Write>(notes: &[Note], out: &mut W) -> Result<(), Unwritten> {
+fn write_note_lines<W: Write>(notes: &[Note], out: &mut W) -> Written {
     for note in notes {
-        write_note_line(*note, out)?;
+        write_note(*note, out)?;
+        write_text(b"\n", out)?;
     }
     Ok(())
 }
 
 /// Writes a line for each note, and a last one of the axes that the font has; nothing where there are no notes.
-fn write_all_notes<W: Write>(axes: &[Axis], notes: &[Note], out: &mut W) -> Result<(), Unwritten> {
+fn write_all_notes<W: Write>(axes: &[Axis], notes: &[Note], out: &mut W) -> Written {
     if notes.is_empty() {
         return Ok(());
     }
@@ -113,7 +114,7 @@ fn write_all<W: Write>(
     characters: &[char],
     index: Option<u32>,
     out: &mut W,
-) -> Result<(), Unwritten> {
+) -> Written {
     write_all_notes(axes, notes, out)?;
     write_missing_line(characters, out)?;
     write_index_line(index, out)
@@ -150,21 +151,11 @@ fn axes_bytes(alloc: Global, axes: &[Axis]) -> Result<Vec<u8>, Unwritten> {
     Ok(text)
 }
 
-/// Writes a note as a JSON string with a comma after it.
-fn write_note_string<W: Write>(alloc: Global, note: Note, out: &mut W) -> Result<(), Unwritten> {
-    let text = note_bytes(alloc, note)?;
-    write_quoted(&text, out)?;
-    write_text(b",", out)
-}
-
-/// Writes each note so.
-fn write_note_strings<W: Write>(
-    alloc: Global,
-    notes: &[Note],
-    out: &mut W,
-) -> Result<(), Unwritten> {
+/// Writes each note as a JSON string with a comma after it.
+fn write_note_strings<W: Write>(alloc: Global, notes: &[Note], out: &mut W) -> Written {
     for note in notes {
-        write_note_string(alloc, *note, out)?;
+        write_quoted(&note_bytes(alloc, *note)?, out)?;
+        write_text(b",", out)?;
     }
     Ok(())
 }
@@ -175,13 +166,12 @@ fn write_coordinate_strings<W: Write>(
     axes: &[Axis],
     notes: &[Note],
     out: &mut W,
-) -> Result<(), Unwritten> {
+) -> Written {
     if notes.is_empty() {
         return Ok(());
     }
     write_note_strings(alloc, notes, out)?;
-    let text = axes_bytes(alloc, axes)?;
-    write_quoted(&text, out)
+    write_quoted(&axes_bytes(alloc, axes)?, out)
 }
 
 /// A comma, if there are notes before it.
@@ -200,20 +190,6 @@ fn comma_after_both(notes: &[Note], characters: &[char]) -> &'static [u8] {
     }
 }
 
-/// Writes all notes as JSON strings with commas between them.
-fn write_all_strings<W: Write>(
-    alloc: Global,
-    axes: &[Axis],
-    notes: &[Note],
-    characters: &[char],
-    index: Option<u32>,
-    out: &mut W,
-) -> Result<(), Unwritten> {
-    write_coordinate_strings(alloc, axes, notes, out)?;
-    write_missing_string(alloc, comma_after(notes), characters, out)?;
-    write_index_string(alloc, comma_after_both(notes, characters), index, out)
-}
-
 /// Writes the same notes as a JSON array of strings.
 pub fn write_notes_array<W: Write>(
     alloc: Global,
@@ -222,8 +198,10 @@ pub fn write_notes_array<W: Write>(
     characters: &[char],
     index: Option<u32>,
     out: &mut W,
-) -> Result<(), Unwritten> {
+) -> Written {
     write_text(b"[", out)?;
-    write_all_strings(alloc, axes, notes, characters, index, out)?;
+    write_coordinate_strings(alloc, axes, notes, out)?;
+    write_missing_string(alloc, comma_after(notes), characters, out)?;
+    write_index_string(alloc, comma_after_both(notes, characters), index, out)?;
     write_text(b"]", out)
 }

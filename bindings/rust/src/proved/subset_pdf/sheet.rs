@@ -22,7 +22,6 @@ pub struct Sheet {
 }
 
 /// Why there is no PDF.
-#[derive(Debug)]
 pub enum SheetError {
     /// The font is refused, the PDF would be too large, or memory ran out.
     Font(Error),

@@ -3,96 +3,94 @@
 ghost use Rattle.std.specs.Prelude.{OnOk, Some, map};
 ghost use Rattle.std.specs.Io.KnownBytes.{Appends};
 ghost use Rattle.std.specs.Option.{option_copied};
-ghost use Rattle.subset_lines.specs.Faces.Info.{line_after, lines_after, permission_lines, glyphs_line, counts_lines, if_any, refusal_lines, table_line, table_lines, head_lines, info_lines};
+ghost use Rattle.subset_lines.specs.Faces.Info.{permission_line, permission_lines, glyphs_line, counts_lines, reason_line, refusal_lines, table_line, table_lines, head_lines, info_lines};
 
-use crate::faces::axes::write_tag;
+use crate::faces::axes::tag_bytes;
 use crate::faces::info::face::{Info, permission_words};
 use crate::faces::outlines::write_outlines;
 use crate::faces::pictures::write_pictures_line;
 use crate::plain::flush;
-use plain_text::{Unwritten, write_text};
+use plain_text::{Piece, Unwritten, Written, write_pieces, write_text};
 use std::alloc::Global;
 use std::io::Write;
 use subsetter_base::Tag;
 
-/// Writes words as a line after a text.
-#[tactic(auto, using(plain_text::proofs::Written::both))]
-fn write_line_after<W: Write>(front: &[u8], word: &str, out: &mut W) -> Result<(), Unwritten>
-    ensures { OnOk result (Appends (W.contents out.old) (W.contents out.new) (line_after front.now word.now)) }
+/// Writes the line of a word of permission.
+#[tactic(auto, unfolding(crate::specs::Faces::Info::permission_line))]
+fn write_permission<W: Write>(word: &str, out: &mut W) -> Written
+    ensures { OnOk result (Appends (W.contents out.old) (W.contents out.new) (permission_line word.now)) }
 {
-    write_text(front, out)?;
-    write_text(word.as_bytes(), out)?;
-    write_text(b"\n", out)
+    let word = Piece::Text(word.as_bytes());
+    write_pieces(
+        &[Piece::Text(b"permission "), word, Piece::Text(b"\n")],
+        out,
+    )
 }
 
-/// Writes a line for each.
+/// Writes a line for each of the words of permission.
 #[tactic(auto, using(plain_text::proofs::Written::at_first, plain_text::proofs::Written::after_part, plain_text::proofs::Written::at_last))]
-fn write_lines_after<W: Write>(front: &[u8], words: &[&str], out: &mut W) -> Result<(), Unwritten>
-    ensures { OnOk result (Appends (W.contents out.old) (W.contents out.new) (lines_after front.now (map (λ w. w.now) words.now))) }
+fn write_permissions<W: Write>(words: &[&str], out: &mut W) -> Written
+    ensures { OnOk result (Appends (W.contents out.old) (W.contents out.new) (permission_lines (map (λ w. w.now) words.now))) }
 {
     for word in words {
-        write_line_after(front, word, out)?;
+        write_permission(word, out)?;
     }
     Ok(())
 }
 
-/// Writes a line for each of the words of permission.
-fn write_permissions<W: Write>(words: &[&str], out: &mut W) -> Result<(), Unwritten>
-    ensures { OnOk result (Appends (W.contents out.old) (W.contents out.new) (permission_lines (map (λ w. w.now) words.now))) }
-{
-    write_lines_after(b"permission ", words, out)
-}
-
 /// Writes the line of the count of glyphs.
-fn write_glyphs<W: Write>(glyphs: Option<u16>, out: &mut W) -> Result<(), Unwritten>
+fn write_glyphs<W: Write>(glyphs: Option<u16>, out: &mut W) -> Written
     ensures { OnOk result (Appends (W.contents out.old) (W.contents out.new) (glyphs_line glyphs)) }
 {
     let Some(count) = glyphs else {
         return write_text(b"glyphs not given\n", out);
     };
-    if writeln!(out, "glyphs {count}").is_err() {
-        return Err(Unwritten);
-    }
-    Ok(())
+    let count = Piece::Number(u64::from(count));
+    write_pieces(&[Piece::Text(b"glyphs "), count, Piece::Text(b"\n")], out)
 }
 
 /// Writes the lines of two numbers.
-fn write_counts<W: Write>(faces: u32, bytes: u64, out: &mut W) -> Result<(), Unwritten>
+#[tactic(auto, unfolding(crate::specs::Faces::Info::counts_lines))]
+fn write_counts<W: Write>(faces: u32, bytes: u64, out: &mut W) -> Written
     ensures { OnOk result (Appends (W.contents out.old) (W.contents out.new) (counts_lines faces bytes)) }
 {
-    if writeln!(out, "faces {faces}\nbytes {bytes}").is_err() {
-        return Err(Unwritten);
-    }
-    Ok(())
+    write_pieces(
+        &[
+            Piece::Text(b"faces "),
+            Piece::Number(u64::from(faces)),
+            Piece::Text(b"\nbytes "),
+            Piece::Number(bytes),
+            Piece::Text(b"\n"),
+        ],
+        out,
+    )
 }
 
-/// Writes a text as a line after another, if there is one.
-#[tactic(auto, using(plain_text::proofs::Written::both))]
-fn write_if_any<W: Write>(front: &[u8], text: Option<&[u8]>, out: &mut W) -> Result<(), Unwritten>
-    ensures { OnOk result (Appends (W.contents out.old) (W.contents out.new) (if_any front.now (option_copied text.entry))) }
+/// Writes the line of what is known of the cause of an error, if anything is.
+fn write_reason<W: Write>(reason: Option<&[u8]>, out: &mut W) -> Written
+    ensures { OnOk result (Appends (W.contents out.old) (W.contents out.new) (reason_line (option_copied reason.entry))) }
 {
-    let Some(text) = text else {
+    let Some(reason) = reason else {
         return Ok(());
     };
-    write_text(front, out)?;
-    write_text(text, out)?;
-    write_text(b"\n", out)
+    let reason = Piece::Text(reason);
+    write_pieces(&[Piece::Text(b"reason: "), reason, Piece::Text(b"\n")], out)
 }
 
 /// Writes with which error `subset` refuses every glyph, and what is known of its cause.
-fn write_refused<W: Write>(text: &[u8], reason: Option<&[u8]>, out: &mut W) -> Result<(), Unwritten>
+fn write_refused<W: Write>(text: &[u8], reason: Option<&[u8]>, out: &mut W) -> Written
     ensures { OnOk result (Appends (W.contents out.old) (W.contents out.new) (refusal_lines (Some text.now) (option_copied reason.entry))) }
 {
-    write_if_any(b"subset refuses: ", Some(text), out)?;
-    write_if_any(b"reason: ", reason, out)
+    let text = Piece::Text(text);
+    write_pieces(
+        &[Piece::Text(b"subset refuses: "), text, Piece::Text(b"\n")],
+        out,
+    )?;
+    write_reason(reason, out)
 }
 
 /// Writes what `subset` returns for every glyph: that it accepts it, or why it refuses.
-fn write_refusal<W: Write>(
-    refusal: Option<&[u8]>,
-    reason: Option<&[u8]>,
-    out: &mut W,
-) -> Result<(), Unwritten>
+fn write_refusal<W: Write>(refusal: Option<&[u8]>, reason: Option<&[u8]>, out: &mut W) -> Written
     ensures { OnOk result (Appends (W.contents out.old) (W.contents out.new) (refusal_lines (option_copied refusal.entry) (option_copied reason.entry))) }
 {
     match refusal {
@@ -102,21 +100,25 @@ fn write_refusal<W: Write>(
 }
 
 /// Writes the line of a table: `table glyf 46248`.
-#[tactic(auto, using(plain_text::proofs::Written::both))]
-fn write_table<W: Write>(tag: Tag, size: u32, out: &mut W) -> Result<(), Unwritten>
+#[tactic(auto, unfolding(crate::specs::Faces::Info::table_line))]
+fn write_table<W: Write>(tag: Tag, size: u32, out: &mut W) -> Written
     ensures { OnOk result (Appends (W.contents out.old) (W.contents out.new) (table_line tag size)) }
 {
-    write_text(b"table ", out)?;
-    write_tag(tag, out)?;
-    if writeln!(out, " {size}").is_err() {
-        return Err(Unwritten);
-    }
-    Ok(())
+    write_pieces(
+        &[
+            Piece::Text(b"table "),
+            Piece::Text(&tag_bytes(tag)),
+            Piece::Text(b" "),
+            Piece::Number(u64::from(size)),
+            Piece::Text(b"\n"),
+        ],
+        out,
+    )
 }
 
 /// Writes a line for each table.
 #[tactic(auto, using(plain_text::proofs::Written::at_first, plain_text::proofs::Written::after_part, plain_text::proofs::Written::at_last))]
-fn write_tables<W: Write>(tables: &[(Tag, u32)], out: &mut W) -> Result<(), Unwritten>
+fn write_tables<W: Write>(tables: &[(Tag, u32)], out: &mut W) -> Written
     ensures { OnOk result (Appends (W.contents out.old) (W.contents out.new) (table_lines tables.now)) }
 {
     for table in tables {
@@ -127,7 +129,7 @@ fn write_tables<W: Write>(tables: &[(Tag, u32)], out: &mut W) -> Result<(), Unwr
 
 /// Writes the lines before those of the tables.
 #[tactic(auto, using(plain_text::proofs::Written::both))]
-fn write_head<W: Write>(info: &Info<'_>, words: &[&str], out: &mut W) -> Result<(), Unwritten>
+fn write_head<W: Write>(info: &Info<'_>, words: &[&str], out: &mut W) -> Written
     ensures { OnOk result (Appends (W.contents out.old) (W.contents out.new) (head_lines info.now (map (λ w. w.now) words.now))) }
 {
     write_outlines(info.outlines, info.is_variable, out)?;
@@ -140,7 +142,7 @@ fn write_head<W: Write>(info: &Info<'_>, words: &[&str], out: &mut W) -> Result<
 
 /// Writes what a face is as lines. Then it passes on what the writer keeps back.
 #[tactic(auto, using(plain_text::proofs::Written::both, plain_text::proofs::Written::flushed))]
-pub fn write_info<W: Write>(alloc: Global, info: &Info<'_>, out: &mut W) -> Result<(), Unwritten>
+pub fn write_info<W: Write>(alloc: Global, info: &Info<'_>, out: &mut W) -> Written
     ensures { OnOk result (Appends (W.contents out.old) (W.contents out.new) (info_lines info.now)) }
 {
     let Ok(words) = permission_words(alloc, info.permission) else {

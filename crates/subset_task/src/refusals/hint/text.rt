@@ -4,7 +4,7 @@ use font_reasons::Reason;
 use std::fmt;
 
 /// What more is known of a refusal.
-#[derive(Clone, Copy, PartialEq, Eq, Debug, Drop)]
+#[derive(Clone, Copy, Drop)]
 pub enum Hint {
     /// What the tables of the font show.
     Font(Reason),

@@ -10,7 +10,7 @@ use crate::proved::subsetter_base::Tag;
 use crate::rattle::alloc::AllocError;
 
 /// Why a list isn't read.
-#[derive(Clone, Copy, PartialEq, Eq, Debug)]
+#[derive(Clone, Copy)]
 pub enum ArgsError {
     /// It isn't as the usage says.
     Usage,
@@ -25,7 +25,6 @@ impl From<AllocError> for ArgsError {
 }
 
 /// Which glyphs are to be kept.
-#[derive(Debug)]
 pub enum Glyphs {
     /// Those of these old numbers, in the requested order.
     Listed(Vec<u16>),
@@ -40,7 +39,6 @@ pub enum Glyphs {
 }
 
 /// A PDF that is requested.
-#[derive(Debug)]
 pub struct PdfJob {
     /// The name of its file.
     pub file: String,
@@ -49,7 +47,6 @@ pub struct PdfJob {
 }
 
 /// The making of a subset.
-#[derive(Debug)]
 pub struct Job {
     /// The name of the source font's file.
     pub input: String,
@@ -74,7 +71,6 @@ pub struct Job {
 }
 
 /// Where on its axes a variable font is requested.
-#[derive(Debug)]
 pub enum Position {
     /// At these user coordinates, in 65536ths.
     Coordinates(Vec<(Tag, i32)>),
@@ -83,7 +79,7 @@ pub enum Position {
 }
 
 /// What can be shown of a face.
-#[derive(Clone, Copy, PartialEq, Eq, Debug)]
+#[derive(Clone, Copy)]
 pub enum Topic {
     /// Its axes and named instances.
     Axes,
@@ -92,7 +88,6 @@ pub enum Topic {
 }
 
 /// What a run of the program is to do.
-#[derive(Debug)]
 pub enum Command {
     /// To print the help.
     Help,

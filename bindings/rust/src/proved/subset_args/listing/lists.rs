@@ -9,7 +9,6 @@ use crate::proved::subset_args::words::{parts_of, u16_of};
 use crate::rattle::alloc::{AllocError, Global};
 
 /// What a file or an argument requests.
-#[derive(Debug)]
 pub enum GlyphList {
     /// Every glyph of the face.
     Every,
@@ -22,7 +21,7 @@ pub enum GlyphList {
 }
 
 /// What a file has by which glyphs are requested.
-#[derive(Clone, Copy, PartialEq, Eq, Debug)]
+#[derive(Clone, Copy)]
 pub enum FileKind {
     /// A list of glyphs.
     Glyphs,

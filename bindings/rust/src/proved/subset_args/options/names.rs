@@ -4,7 +4,7 @@
 use crate::proved::subset_args::listing::lists::FileKind;
 
 /// An option without a value.
-#[derive(Clone, Copy, Debug)]
+#[derive(Clone, Copy)]
 pub enum Switch {
     /// `--widths`
     Widths,
@@ -31,7 +31,7 @@ pub enum Switch {
 }
 
 /// An option that a value follows.
-#[derive(Clone, Copy, Debug)]
+#[derive(Clone, Copy)]
 pub enum Setting {
     /// `--limits TOKENS,DEPTH[,BYTES]`
     Limits,
@@ -64,7 +64,7 @@ pub enum Setting {
 }
 
 /// How the glyphs of a PDF get codes.
-#[derive(Clone, Copy, PartialEq, Eq, Debug)]
+#[derive(Clone, Copy)]
 pub enum Coding {
     /// From 1 on, in order of use.
     Consecutive,
@@ -75,7 +75,7 @@ pub enum Coding {
 }
 
 /// Where the glyphs are found that no argument lists.
-#[derive(Clone, Copy, Debug)]
+#[derive(Clone, Copy)]
 pub enum Source<'a> {
     /// In the file of this name, by what it has.
     File(FileKind, &'a str),
@@ -88,7 +88,7 @@ pub enum Source<'a> {
 }
 
 /// What an argument before IN is.
-#[derive(Clone, Copy, Debug)]
+#[derive(Clone, Copy)]
 pub enum Kind {
     Switch(Switch),
     Setting(Setting),

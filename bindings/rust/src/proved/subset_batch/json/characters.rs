@@ -20,7 +20,7 @@ const BEHIND_UNITS: u32 = 65536;
 const OF_EACH_HIGH: u32 = 1024;
 
 /// What one step reads of a string.
-#[derive(Clone, Copy, Debug)]
+#[derive(Clone, Copy)]
 pub enum Character {
     /// A byte of an unescaped character, or what a letter after a backslash means.
     Byte(u8),

@@ -3,84 +3,65 @@
 
 use crate::rattle::prelude::Vec;
 
-use crate::proved::plain_text::{write_count, write_quoted, write_text, Unwritten};
-use crate::proved::subset_lines::faces::axes::{tag_bytes, write_tag};
+use crate::proved::plain_text::{write_pieces, write_text, Piece, Unwritten, Written};
+use crate::proved::subset_lines::faces::axes::tag_bytes;
 use crate::proved::subsetter_base::Tag;
 use crate::rattle::alloc::Global;
 use crate::rattle::io::Write;
 
 /// A table, and its sizes in bytes in the font that is read and in the new one: none where it has no such table.
-#[derive(Clone, Copy, PartialEq, Eq, Debug)]
+#[derive(Clone, Copy)]
 pub struct TableSize {
     pub tag: Tag,
     pub old: Option<u32>,
     pub new: Option<u32>,
 }
 
-/// Writes a size, or `none`.
-fn write_size<W: Write>(size: Option<u32>, out: &mut W) -> Result<(), Unwritten> {
-    let size = match size {
-        Some(size) => size,
-        _ => {
-            return write_text(b"none", out);
-        }
-    };
-    if write!(out, "{size}").is_err() {
-        return Err(Unwritten);
+/// A size, or a text where there is none.
+fn size_or(size: Option<u32>, none: &[u8]) -> Piece<'_> {
+    match size {
+        Some(size) => Piece::Number(u64::from(size)),
+        None => Piece::Text(none),
     }
-    Ok(())
-}
-
-/// Writes what a line of a table begins with: `table glyf `.
-fn write_table_front<W: Write>(tag: Tag, out: &mut W) -> Result<(), Unwritten> {
-    write_text(b"table ", out)?;
-    write_tag(tag, out)?;
-    write_text(b" ", out)
-}
-
-/// Writes the sizes of a table.
-fn write_change<W: Write>(
-    old: Option<u32>,
-    new: Option<u32>,
-    out: &mut W,
-) -> Result<(), Unwritten> {
-    write_size(old, out)?;
-    write_text(b" -> ", out)?;
-    write_size(new, out)
 }
 
 /// Writes the line of a table: `table glyf 46248 -> 612`.
-fn write_table<W: Write>(table: &TableSize, out: &mut W) -> Result<(), Unwritten> {
-    write_table_front(table.tag, out)?;
-    write_change(table.old, table.new, out)?;
-    write_text(b"\n", out)
+fn write_table<W: Write>(table: &TableSize, out: &mut W) -> Written {
+    write_pieces(
+        &[
+            Piece::Text(b"table "),
+            Piece::Text(&tag_bytes(table.tag)),
+            Piece::Text(b" "),
+            size_or(table.old, b"none"),
+            Piece::Text(b" -> "),
+            size_or(table.new, b"none"),
+            Piece::Text(b"\n"),
+        ],
+        out,
+    )
 }
 
 /// Writes a line for each table.
-fn write_tables<W: Write>(tables: &[TableSize], out: &mut W) -> Result<(), Unwritten> {
+fn write_tables<W: Write>(tables: &[TableSize], out: &mut W) -> Written {
     for table in tables {
         write_table(table, out)?;
     }
     Ok(())
 }
 
-/// Writes the line of both files: `font 759720 -> 1234`.
-fn write_font_line<W: Write>(old: u64, new: u64, out: &mut W) -> Result<(), Unwritten> {
-    if writeln!(out, "font {old} -> {new}").is_err() {
-        return Err(Unwritten);
-    }
-    Ok(())
-}
-
-/// Writes these lines.
-fn write_sizes<W: Write>(
-    tables: &[TableSize],
-    old: u64,
-    new: u64,
-    out: &mut W,
-) -> Result<(), Unwritten> {
+/// Writes these lines, and the one of both files: `font 759720 -> 1234`.
+fn write_sizes<W: Write>(tables: &[TableSize], old: u64, new: u64, out: &mut W) -> Written {
     write_tables(tables, out)?;
-    write_font_line(old, new, out)
+    write_pieces(
+        &[
+            Piece::Text(b"font "),
+            Piece::Number(old),
+            Piece::Text(b" -> "),
+            Piece::Number(new),
+            Piece::Text(b"\n"),
+        ],
+        out,
+    )
 }
 
 /// The lines of tables with their sizes in bytes, as `table glyf 46248 -> 612`, and one of both files, as `font 759720 -> 1234`.
@@ -97,84 +78,50 @@ pub fn size_lines(
     Ok(text)
 }
 
-/// Writes a size, or `null`.
-fn write_size_or_null<W: Write>(size: Option<u32>, out: &mut W) -> Result<(), Unwritten> {
-    let size = match size {
-        Some(size) => size,
-        _ => {
-            return write_text(b"null", out);
-        }
-    };
-    if write!(out, "{size}").is_err() {
-        return Err(Unwritten);
-    }
-    Ok(())
-}
-
-/// Writes the tag of a table, which opens its object.
-fn write_tag_open<W: Write>(tag: Tag, out: &mut W) -> Result<(), Unwritten> {
-    write_text(b"{\"tag\":", out)?;
-    write_quoted(&tag_bytes(tag), out)
-}
-
-/// Writes a member that has a size.
-fn write_size_member<W: Write>(
-    label: &[u8],
-    size: Option<u32>,
-    out: &mut W,
-) -> Result<(), Unwritten> {
-    write_text(label, out)?;
-    write_size_or_null(size, out)
-}
-
-/// Writes the sizes of a table, which close its object.
-fn write_sizes_close<W: Write>(table: &TableSize, out: &mut W) -> Result<(), Unwritten> {
-    write_size_member(b",\"old\":", table.old, out)?;
-    write_size_member(b",\"new\":", table.new, out)?;
-    write_text(b"}", out)
-}
-
 /// Writes the object of a table.
-fn write_object<W: Write>(table: &TableSize, out: &mut W) -> Result<(), Unwritten> {
-    write_tag_open(table.tag, out)?;
-    write_sizes_close(table, out)
-}
-
-/// Writes the same after a text.
-fn write_table_object<W: Write>(
-    before: &[u8],
-    table: &TableSize,
-    out: &mut W,
-) -> Result<(), Unwritten> {
-    write_text(before, out)?;
-    write_object(table, out)
+fn write_object<W: Write>(table: &TableSize, out: &mut W) -> Written {
+    write_pieces(
+        &[
+            Piece::Text(b"{\"tag\":"),
+            Piece::Shown(table.tag.get()),
+            Piece::Text(b",\"old\":"),
+            size_or(table.old, b"null"),
+            Piece::Text(b",\"new\":"),
+            size_or(table.new, b"null"),
+            Piece::Text(b"}"),
+        ],
+        out,
+    )
 }
 
 /// Writes the objects of tables.
-fn write_table_objects<W: Write>(tables: &[TableSize], out: &mut W) -> Result<(), Unwritten> {
+fn write_objects<W: Write>(tables: &[TableSize], out: &mut W) -> Written {
     let mut before = b"".as_slice();
     for table in tables {
-        write_table_object(before, table, out)?;
+        write_text(before, out)?;
+        write_object(table, out)?;
         before = b",".as_slice();
     }
     Ok(())
 }
 
 /// Writes the member `"sizes"` of the JSON object, in bytes of both files, with a comma before it.
-pub fn write_sizes_member<W: Write>(old: u64, new: u64, out: &mut W) -> Result<(), Unwritten> {
-    write_count(b",\"sizes\":{\"old\":", old, out)?;
-    write_count(b",\"new\":", new, out)?;
-    write_text(b"}", out)
-}
-
-/// Writes what opens the member of the tables, and their objects.
-fn write_tables_open<W: Write>(tables: &[TableSize], out: &mut W) -> Result<(), Unwritten> {
-    write_text(b",\"tables\":[", out)?;
-    write_table_objects(tables, out)
+pub fn write_sizes_member<W: Write>(old: u64, new: u64, out: &mut W) -> Written {
+    write_pieces(
+        &[
+            Piece::Text(b",\"sizes\":{\"old\":"),
+            Piece::Number(old),
+            Piece::Text(b",\"new\":"),
+            Piece::Number(new),
+            Piece::Text(b"}"),
+        ],
+        out,
+    )
 }
 
 /// Writes the member `"tables"` of the JSON object, with a comma before it.
-pub fn write_tables_member<W: Write>(tables: &[TableSize], out: &mut W) -> Result<(), Unwritten> {
-    write_tables_open(tables, out)?;
+pub fn write_tables_member<W: Write>(tables: &[TableSize], out: &mut W) -> Written {
+    write_text(b",\"tables\":[", out)?;
+    write_objects(tables, out)?;
     write_text(b"]", out)
 }

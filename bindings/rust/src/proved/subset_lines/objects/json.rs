@@ -26,10 +26,10 @@ fn write_character<W: Write>(character: Option<char>, out: &mut W) -> Written {
     Ok(())
 }
 
-/// Writes a new number, if there is one.
-fn write_new<W: Write>(new: Option<u16>, out: &mut W) -> Written {
-    match new {
-        Some(new) => write_decimal(u64::from(new), out),
+/// Writes a number, or `null`.
+pub fn write_number_or_null<W: Write>(number: Option<u16>, out: &mut W) -> Written {
+    match number {
+        Some(number) => write_decimal(u64::from(number), out),
         None => write_text(b"null", out),
     }
 }
@@ -55,7 +55,7 @@ fn write_object<W: Write>(
     write_character(character, out)?;
     write_count(b"\"old\":", u64::from(old), out)?;
     write_text(b",\"new\":", out)?;
-    write_new(new, out)?;
+    write_number_or_null(new, out)?;
     write_name(name, out)?;
     write_text(b"}", out)
 }

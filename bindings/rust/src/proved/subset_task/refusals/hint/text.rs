@@ -5,7 +5,7 @@ use crate::proved::font_reasons::Reason;
 use crate::rattle::fmt;
 
 /// What more is known of a refusal.
-#[derive(Clone, Copy, PartialEq, Eq, Debug)]
+#[derive(Clone, Copy)]
 pub enum Hint {
     /// What the tables of the font show.
     Font(Reason),
