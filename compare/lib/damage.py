@@ -178,7 +178,7 @@ def of_loose_tables(rng, data, index, others):
     start = u32(data, 12 + 4 * index) if data[:4] == b"ttcf" else 0
     tables, done = tables_of(data, index), []
     for _ in range(rng.choice((1, 1, 2, 3))):
-        tag = rng.choice([it for it in (*LOOSE, "head", "hhea", "OS/2", "OS/2") if it in tables])
+        tag = rng.choice([it for it in (*LOOSE, "head", "hhea", "OS/2", "OS/2") if tables.get(it)])
         table, way = bytearray(tables[tag]), rng.choice(("missing", "cut", "field", "bytes", "other"))
         if tag == "OS/2" and way == "bytes":
             table[0:2], table[8:10] = struct.pack(">H", rng.randrange(5)), struct.pack(">H", rng.choice(RIGHTS))
