@@ -25,9 +25,10 @@ fn requests(rt: HostRuntime) -> Result<(), Fail> {
 #[test]
 fn answers(rt: HostRuntime) -> Result<(), Fail> {
     let mut out = Vec::new(rt.alloc());
-    write_done(3, b"", &mut out)?;
-    write_done(12, b"{\"glyphs\":[]}\n", &mut out)?;
-    write_failed(1, 3, "cannot read \"a\\b\"\n\u{1F}\u{E9}", &mut out)?;
+    let are_written = write_done(3, b"", &mut out).is_ok()
+        && write_done(12, b"{\"glyphs\":[]}\n", &mut out).is_ok()
+        && write_failed(1, 3, "cannot read \"a\\b\"\n\u{1F}\u{E9}", &mut out).is_ok();
+    assert_eq!(rt; are_written, true);
     let lines =
         b"{\"line\":3,\"status\":0}\n{\"line\":12,\"status\":0,\"glyphs\":[]}\n{\"line\":1,\"status\":3,\"error\":\"cannot read \\\"a\\\\b\\\"\\u000a\\u001f\xC3\xA9\"}\n";
     assert_eq!(rt; out.as_slice(), lines.as_slice());
