@@ -30,7 +30,7 @@ release: # the release files, into out/release (docs/PACKAGES.md); ARGS="--skip=
 
 release-test: # installs and tests the release files, and tests other platforms; ARGS="--skip=PART,.."
 	@release/test $(ARGS)
-	@tests/platforms/run x86-64 aarch64 i686 windows no-std
+	@tests/platforms/run x86-64 aarch64 i686 s390x windows no-std
 
 clean: # removes what was built, but not the proofs in crates/*/out
 	@rm -rf out compare/build bindings/*/out bindings/*/target
