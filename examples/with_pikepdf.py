@@ -14,6 +14,5 @@ page = pdf.add_blank_page(page_size=(300, 144))
 with pikepdf.open(io.BytesIO(font.sheet())) as sheet:
     face = pdf.copy_foreign(sheet.pages[0].Resources.Font.F0)
 page.Resources = pikepdf.Dictionary(Font=pikepdf.Dictionary(F1=face))
-codes = "".join(f"{code:04X}" for code in font.codes)
-page.Contents = pdf.make_stream(f"BT /F1 24 Tf 36 60 Td <{codes}> Tj ET".encode())
+page.Contents = pdf.make_stream(b"BT /F1 24 Tf 36 60 Td %s Tj ET" % font.string(font.codes))
 pdf.save("hello.pdf")

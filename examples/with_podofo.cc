@@ -49,13 +49,9 @@ int main()
     PdfMemDocument pdf;
     PdfPage *page = pdf.CreatePage(PdfRect(0, 0, 300, 144));
     page->AddResource(PdfName("F1"), add(pdf.GetObjects(), font), PdfName("Font"));
-    std::string content = "BT /F1 24 Tf 36 60 Td <";
-    for (size_t i = 0; i < font.pdf.code_count; i++) {
-        char digits[5];
-        snprintf(digits, sizeof digits, "%04X", font.pdf.codes[i]);
-        content += digits;
-    }
-    content += "> Tj ET";
+    std::string codes(subsetter_string(font.pdf.codes, font.pdf.code_count, nullptr, 0), ' ');
+    subsetter_string(font.pdf.codes, font.pdf.code_count, &codes[0], codes.size() + 1);
+    const std::string content = "BT /F1 24 Tf 36 60 Td " + codes + " Tj ET";
     page->GetContentsForAppending()->GetStream()->Set(content.data(), content.size());
     subsetter_free_font(&font);
     pdf.Write("hello.pdf");

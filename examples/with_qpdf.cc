@@ -53,17 +53,13 @@ int main()
     demand(subsetter_make_pdf_font_of_utf8(
         reinterpret_cast<const uint8_t *>(data.data()), data.size(), 0, nullptr, 0, text.data(), text.size(), nullptr, &font));
 
-    std::string content = "BT /F1 24 Tf 36 60 Td <";
-    for (size_t i = 0; i < font.pdf.code_count; i++) {
-        char digits[5];
-        snprintf(digits, sizeof digits, "%04X", font.pdf.codes[i]);
-        content += digits;
-    }
+    std::string codes(subsetter_string(font.pdf.codes, font.pdf.code_count, nullptr, 0), ' ');
+    subsetter_string(font.pdf.codes, font.pdf.code_count, &codes[0], codes.size() + 1);
     QPDF pdf;
     pdf.emptyPDF();
     QPDFObjectHandle page = QPDFObjectHandle::parse("<< /Type /Page /MediaBox [0 0 300 144] /Resources << /Font << >> >> >>");
     page.getKey("/Resources").getKey("/Font").replaceKey("/F1", add(pdf, font));
-    page.replaceKey("/Contents", QPDFObjectHandle::newStream(&pdf, content + "> Tj ET"));
+    page.replaceKey("/Contents", QPDFObjectHandle::newStream(&pdf, "BT /F1 24 Tf 36 60 Td " + codes + " Tj ET"));
     QPDFPageDocumentHelper(pdf).addPage(pdf.makeIndirectObject(page), false);
     subsetter_free_font(&font);
     QPDFWriter(pdf, "hello.pdf").write();

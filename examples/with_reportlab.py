@@ -33,7 +33,6 @@ page = canvas.Canvas("hello.pdf", pagesize=(300, 144))
 document = page._doc
 document.fontMapping["F9"] = "/F9"
 document.idToObject["BasicFonts"].dict["F9"] = add(document, font)
-codes = "".join(f"{code:04X}" for code in font.codes)
-page._code.append(f"BT /F9 24 Tf 36 60 Td <{codes}> Tj ET")
+page._code.append(f"BT /F9 24 Tf 36 60 Td {font.string(font.codes).decode()} Tj ET")
 page.showPage()
 page.save()

@@ -370,6 +370,21 @@ uint32_t subsetter_codes_of(const uint16_t *glyphs, size_t glyph_count,
                             const size_t *ends, size_t end_count,
                             uint32_t kind, uint16_t *codes, size_t code_count, size_t *length);
 
+/* The string that shows codes, as "<00010002>", with a zero at the end, where `out` has room for that; else `out` is as it was. It returns
+ * the string's length without the zero, 4 * code_count + 2, as snprintf does. */
+static inline size_t subsetter_string(const uint16_t *codes, size_t code_count, char *out, size_t out_size)
+{
+    const size_t length = 4 * code_count + 2;
+    if (out_size > length) {
+        *out++ = '<';
+        for (size_t i = 0; i < 4 * code_count; i++)
+            *out++ = "0123456789ABCDEF"[(codes[i / 4] >> (12 - 4 * (i % 4))) & 15];
+        *out++ = '>';
+        *out = 0;
+    }
+    return length;
+}
+
 /* How text runs (`direction`). */
 enum {
     SUBSETTER_HORIZONTAL = 0,

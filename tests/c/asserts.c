@@ -176,6 +176,7 @@ CALL(subsetter_free_pdf_parts, void, subsetter_pdf_parts *) CALL(subsetter_codes
 CALL(subsetter_advances_by_words, uint32_t, FONT, AT, GLYPHS, WORDS, uint16_t *, size_t, uint16_t *, size_t, uint32_t *)
 CALL(subsetter_advances, uint32_t, FONT, AT, GLYPHS, CHOSEN, uint16_t *, uint16_t *, uint32_t *)
 CALL(subsetter_glyph_kinds, uint32_t, FONT, GLYPHS, uint32_t *, size_t) CALL(subsetter_is_unseen, int, uint32_t)
+CALL(subsetter_string, size_t, GLYPHS, char *, size_t)
 #define RUN uint32_t, uint32_t, uint32_t, subsetter_pdf_objects *
 CALL(subsetter_new_text_by_words, uint32_t, FONT, AT, WORDS, subsetter_text *)
 CALL(subsetter_new_text, uint32_t, FONT, AT, const subsetter_pdf_options *, subsetter_text *) CALL(subsetter_free_text, void, subsetter_text *)

@@ -250,6 +250,10 @@ static void compare_sheets(const struct row *row, const subsetter_pdf_font *font
     check(memcmp(line.bytes, "%PDF-1.7\n", 9) == 0 && memcmp(line.bytes + line.size - 6, "%%EOF\n", 6) == 0, "a whole file", name);
     check(contains(&line, own.bytes, own.size), "the objects in the sheet", name);
     check(!contains(&line, "[0 0 595 842]", 13) && contains(&grid, "[0 0 595 842]", 13), "the pages", name);
+    for (size_t i = 0; i < font->code_count; i++) {
+        char string[16] = "";
+        check(subsetter_string(font->codes + i, 1, string, 7) == 6 && contains(&line, strcat(string, " Tj\n"), 10), "a string", name);
+    }
     subsetter_free_pdf_objects(&line);
     subsetter_free_pdf_objects(&grid);
     subsetter_free_pdf_objects(&own);
@@ -727,8 +731,12 @@ static void try_texts(const struct row *row)
 static void try_sheets(const struct row *row)
 {
     static const char name[] = "a sheet";
+    static const uint16_t codes[] = {10, 0xfb23};
+    char string[12] = "-";
     subsetter_pdf_font font;
     subsetter_pdf_objects made;
+    check(subsetter_string(codes, 2, string, 10) == 10 && strcmp(string, "-") == 0, "no room for a string", name);
+    check(subsetter_string(codes, 2, string, 11) == 10 && strcmp(string, "<000AFB23>") == 0 && subsetter_string(NULL, 0, NULL, 0) == 2, "a string", name);
     check(make(row, NULL, &font) == 0, "a font", name);
     for (uint32_t i = 2; i < 300 + 2 * HIGHS; i++) {
         uint32_t layout = i < 300 ? i : HIGH[(i - 300) / 2] + i % 2;

@@ -5,7 +5,6 @@ import { mkdtempSync, readFileSync, writeFileSync } from "node:fs";
 import { tmpdir } from "node:os";
 import { join } from "node:path";
 import { test } from "node:test";
-import { deflateSync } from "node:zlib";
 import { changed, fonts, latin1, library, made, subsetter, throws } from "./support.mjs";
 
 const { CFFError, InvalidText, MalformedFont, MissingCharacters, NotPermitted, OverflowError, UnknownKind } = library;
@@ -67,6 +66,8 @@ test("entries, numbers and layouts", () => {
     for (const [kind, first] of [[RangeError, 0], [RangeError, 2 ** 32], [RangeError, 1.5], [TypeError, "4"], [TypeError, null], [TypeError, undefined]]) throws(() => font.objects(first), kind, first);
     for (const [kind, layout] of [[RangeError, "page"], [RangeError, ""], [TypeError, 1], [TypeError, null]]) throws(() => font.sheet(layout), kind, layout);
     assert.deepEqual(font.sheet(), font.sheet("line"));
+    assert.ok(font.codes.every((it) => latin1(font.sheet()).includes(`\n${font.string([it])} Tj\n`)) && font.string([10, 0xfb23]) === "<000AFB23>");
+    for (const [kind, codes] of [[RangeError, [65536]], [TypeError, ["1"]], [TypeError, 5], [TypeError, "A"]]) throws(() => font.string(codes), kind, codes);
 });
 
 test("permissions, by fsType of OS/2", () => {
@@ -103,28 +104,6 @@ function textsOf(pdf) {
     return [said("pdftotext", ["-enc", "UTF-8", path, "-"]), said("mutool", ["draw", "-q", "-F", "txt", path])].map(pages);
 }
 
-/** A page that shows this in a font whose parts are packed. */
-function packed(font, operators) {
-    const numbers = [30, 29, 28, 27, 26, 25].slice(0, font.partCount), parts = font.parts(numbers, { pack: deflateSync });
-    assert.match(latin1(parts[3].entries), /\/Filter \/FlateDecode $/);
-    const shows = `BT /F1 24 Tf 36 60 Td ${operators} ET`, objects = [
-        [1, "<< /Type /Catalog /Pages 2 0 R >>"], [2, "<< /Type /Pages /Count 1 /Kids [3 0 R] >>"],
-        [3, "<< /Type /Page /Parent 2 0 R /MediaBox [0 0 300 144] /Contents 4 0 R /Resources << /Font << /F1 30 0 R >> >> >>"],
-        [4, `<< /Length ${shows.length} >>\nstream\n${shows}\nendstream`], ...parts.map((it) => [it.number, latin1(it.value)])];
-    let pdf = "%PDF-1.7\n", table = "xref\n0 1\n0000000000 65535 f \n";
-    for (const [number, value] of objects) {
-        table += `${number} 1\n${String(pdf.length).padStart(10, "0")} 00000 n \n`;
-        pdf += `${number} 0 obj\n${value}\nendobj\n`;
-    }
-    return Buffer.from(`${pdf}${table}trailer\n<< /Size 31 /Root 1 0 R >>\nstartxref\n${pdf.length}\n%%EOF\n`, "latin1");
-}
-
-test("a PDF of packed parts", () => {
-    const font = subsetter.pdfFont(DEJAVU, subsetter.glyphsOf(DEJAVU, "Hello, \u0395!"));
-    assert.deepEqual(textsOf(packed(font, `${font.string(font.codes)} Tj`)), [["Hello, \u0395!"], ["Hello, \u0395!"]]);
-    for (const [kind, codes] of [[RangeError, [65536]], [TypeError, ["1"]], [TypeError, 5], [TypeError, "A"]]) throws(() => font.string(codes), kind, codes);
-});
-
 test("runs of shaped text", () => {
     const rows = ([g, cl, ax, dx = 0]) => ({ g, cl, ax, ay: 0, dx, dy: 0, flags: 0 }), text = new subsetter.PdfText(DEJAVU, { order: "visual" });
     // What hb-shape has of two lines.
@@ -133,7 +112,6 @@ test("runs of shaped text", () => {
     const said = ["office q\u0304x", "\u0633\u0644\u0627\u0645 \u0644\u0627"], runs = [text.shaped(said[0], latin, { size: 36 }), text.shaped(said[1], new Set(arabic), { direction: "rtl", size: 36 })];
     const lines = runs.map(latin1), font = text.font({ hinting: false, cidSet: false }), sheet = text.sheet(new Set(runs), { hinting: false });
     assert.deepEqual(textsOf(sheet), [said, [said[0], [...said[1]].reverse().join("")]]);
-    assert.deepEqual(textsOf(packed(font, lines[0])), [[said[0]], [said[0]]]);
     // A page is as long as its run.
     assert.deepEqual([...runs.map((it) => it.advance), ...Array.from(latin1(sheet).matchAll(/MediaBox \[0 0 (\d+) 144\]/g), (it) => Number(it[1]))], [4288, 2942, 227, 178]);
     for (const wrong of [runs[0], lines, [sheet], [5], null]) throws(() => text.sheet(wrong), TypeError, "no runs");

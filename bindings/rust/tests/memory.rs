@@ -127,7 +127,7 @@ mod pdf {
         let references = References { cid_font: 2, descriptor: 3, program: 4, to_unicode: 5, cid_to_gid_map: 0, cid_set: 6, encoding: 7 };
         let shown = [Shown::new(1, "A"), Shown::new(5, "f"), Shown::new(1, "B")];
         let sheets = (font.sheet(&shown, Layout::Line)?, font.sheet(&shown, Layout::Grid)?);
-        let objects = (font.objects(4)?, font.dictionaries(&references)?);
+        let objects = (font.objects(4)?, font.dictionaries(&references)?, font.string(font.codes())?);
         let numbers = [1, 2, 3, 4, 5, 6, 7];
         let parts = font.parts(&numbers[..font.part_count()]);
         let parts = parts.map_err(|error| match error {

@@ -205,9 +205,12 @@ fn a_sheet_has_the_objects_of_its_font() {
     for file in [&line, &grid] {
         assert!(file.starts_with(b"%PDF-1.7\n") && position(file, &own).is_some());
         assert!(position(file, b" /Resources << /Font << /F0 5 0 R >> >> ").is_some());
+        let shows = |code: &u16| [font.string(&[*code]).unwrap(), b" Tj\n".to_vec()].concat();
+        assert!(font.codes().iter().all(|it| position(file, &shows(it)).is_some()));
         // The second "a" has the code of "A", so that its text is beside it.
         assert!(position(file, b"/Span << /ActualText <FEFF0061> >> BDC\n").is_some());
     }
+    assert_eq!(font.string(&[10, 0xfb23]), Ok(b"<000AFB23>".to_vec()));
     let is_grid = |file: &[u8]| position(file, b"[0 0 595 842]").is_some();
     assert!(is_grid(&grid) && !is_grid(&line));
 }

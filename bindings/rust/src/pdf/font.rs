@@ -89,6 +89,23 @@ impl PdfFont {
         &self.made.codes
     }
 
+    /// The string that shows these codes, as `<00010002>`.
+    ///
+    /// # Errors
+    ///
+    /// [`Error::OutOfMemory`] alone.
+    pub fn string(&self, codes: &[u16]) -> Result<Vec<u8>, Error> {
+        let mut string = with_room(codes.len().saturating_mul(4).saturating_add(2))?;
+        string.push(b'<');
+        for code in codes {
+            for at in [12, 8, 4, 0] {
+                string.push(b"0123456789ABCDEF"[usize::from((*code >> at) & 15)]);
+            }
+        }
+        string.push(b'>');
+        Ok(string)
+    }
+
     /// Of each entry whether readers find its text by its code; where they don't, ActualText says it (14.9.4).
     pub fn text_is_mapped(&self) -> &[bool] {
         &self.made.is_said
