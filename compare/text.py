@@ -7,6 +7,7 @@ the short form.
 - `qpdf --check` finds nothing in it; with all lines PDFBox's preflight finds it valid as PDF/A-1b.
 - Each outline lies within half a thousandth of the em of where the shaper has it, and so does the pen at the end of a run: operators, widths, map and
   program of the file are read here (ISO 32000-1, 9.4.4, 9.7.4), and HarfBuzz draws the glyphs of the program and of the source.
+- MuPDF draws the page as one that shows each glyph alone, by `pdf_font`, where the shaper has it: ink lies within a pixel of ink, at 144 an inch.
 - Compressed, all fonts and pages with one text for each cluster have at most 1.02 of the bytes of sheets (PdfFont.sheet).
 - The reader's text is the line's: exactly (2), after marks of direction are taken out, NFC, each space of category Zs as U+0020, no blanks at the ends, and
   no line ends in a column; or nearly (1), but for blanks and default ignorables. MuPDF and Ghostscript know no directions: of these the order of
@@ -114,10 +115,11 @@ class Line:
                 else:
                     shown.append(text.shaped(run.text, run.glyphs, run.glyphs, run.direction, SIZE))
                 ends = [end + sum(getattr(it, name) for it in run.glyphs) * SIZE // text.units_per_em for end, name in zip(ends, ("x_advance", "y_advance"))]
-            font = text.font(hinting=False, cid_set=True)
-        objects, content = font.objects(FIRST), f"BT /F0 {SIZE} Tf {60 if ends[1] else 30} {40 - ends[1]} Td\n" + "".join(it.decode() for it in shown) + "ET"
+            font, self.units = text.font(hinting=False, cid_set=True), text.units_per_em
+        self.start, self.box = (60 if ends[1] else 30, 40 - ends[1]), (120 + ends[0], 90 - ends[1])
+        objects, content = font.objects(FIRST), f"BT /F0 {SIZE} Tf {self.start[0]} {self.start[1]} Td\n" + "".join(it.decode() for it in shown) + "ET"
         self.packed = packed(font, content.encode())
-        fonts.put(path, archival(*objects, content, (120 + ends[0], 90 - ends[1])))
+        fonts.put(path, archival(*objects, content, self.box))
         return [it.decode() for it in shown], objects[0]
 
     def packed_sheet(self):
@@ -216,6 +218,20 @@ def faults_of_places(line, operators, path):
             yield f"{run.text}: {far:.3f} thousandths aside, {abs(end - pen):.3f} at the end"
 
 
+def faults_of_picture(line, path):
+    """What MuPDF draws otherwise than of the glyphs alone."""
+    glyphs, (x, y), scale, shows = [it for run in line.runs for it in run.glyphs], line.start, SIZE / line.units, []
+    font = calls().pdf_font(fonts.content(line.font), [(it.codepoint, "") for it in glyphs], rights="held", hinting=False)
+    for it, code in zip(glyphs, font.codes):
+        shows.append(f"1 0 0 1 {x + it.x_offset * scale:.4f} {y + it.y_offset * scale:.4f} Tm {font.string([code]).decode()} Tj\n")
+        x, y = x + it.x_advance * scale, y + it.y_advance * scale
+    alone = fonts.put(f"{path}.alone.pdf", archival(*font.objects(FIRST), f"BT /F0 {SIZE} Tf\n{''.join(shows)}ET", line.box))
+    has, wants = (readers.drawn("MuPDF", it, 144)[0][0] for it in (path, alone))
+    far = readers.ink_apart(has, wants, 1)
+    if far or readers.is_blank(has):
+        yield f"{far} pixels of ink aside" + " (blank)" * readers.is_blank(has)
+
+
 # ---- the texts
 
 def plain(text):
@@ -240,6 +256,7 @@ def compare_line(row, commands, room):
         if CANARY.is_due:
             CANARY.is_due, operators[0] = False, operators[0].replace("]TJ", "2]TJ", 1)
         found = [("file", it) for it in readers.faults_by_qpdf(path)] + [("places", it) for it in faults_of_places(line, operators, path)]
+        found += [("picture", it) for it in faults_of_picture(line, path)]
         if not line.texts:
             report.counts.update(packed=line.packed, sheets=line.packed_sheet())
         for name, command in commands.items() if not line.texts else ():
