@@ -117,15 +117,14 @@ def test_programs_of_documents(tmp_path, how, document, language):
 
 
 LINES = ["Hello, Ελλάδα, office", "سلام لا", "हिन्दी क्षत्रिय", "ภาษาไทยที่นี่", "吾輩は猫である"]
-DEMANDED = dict.fromkeys(("shaped.py", "shaped.mjs"), ([LINES[4], *LINES[:4]], [LINES[0], LINES[1][::-1], *LINES[2:]], 4))
-DEMANDED["shaped.c"] = (LINES[:2], [LINES[0], LINES[1][::-1]])
-EXAMPLES = {"writer.rs": rust, "shaped.c": shaped, "with_qpdf.cc": with_qpdf, "with_podofo.cc": with_podofo, "shaped.mjs": js}
+SHAPED = [LINES[4], *LINES[:4]], [LINES[0], LINES[1][::-1], *LINES[2:]], 4
+EXAMPLES = {"shaped.rs": rust, "shaped.c": shaped, "with_qpdf.cc": with_qpdf, "with_podofo.cc": with_podofo, "shaped.mjs": js}
 
 
 @pytest.mark.parametrize("name", sorted(it for it in os.listdir(os.path.join(ROOT, "examples")) if it != "README.md"))
 def test_examples(tmp_path, name):
     EXAMPLES.get(name, python)(tmp_path, read("examples", name))
-    demand_pdf(tmp_path, *DEMANDED.get(name, ()))
+    demand_pdf(tmp_path, *(SHAPED if name.startswith("shaped.") else ()))
 
 
 def test_commands_of_the_readme(tmp_path):

@@ -1,10 +1,8 @@
-//! The calls of `subsetter::pdf::Text`: operators that were worked by hand, and lines that readers find again.
+//! The calls of `subsetter::pdf::Text`: operators that were worked by hand, and sheets of them.
 #![cfg(feature = "variable-fonts")]
 
 mod table;
 
-use std::fs;
-use std::process::Command;
 use subsetter::pdf::{
     glyphs_of, ClusterUnit, Direction, FontError, FontOptions, Item, Order, Rights, Run, RunDirection, ShapedGlyph,
     Text, TextError, TextOptions,
@@ -200,48 +198,15 @@ fn the_metrics_are_those_of_the_coordinates() {
     assert_eq!((made.widths()[1], run.operators), (716, b"[<00010002>]TJ\n".to_vec()));
 }
 
-// ---- readers
-
-/// A text, and what `hb-shape --no-glyph-names` says of it in DejaVu Sans: glyph, cluster, advance.
-type Line = (&'static str, RunDirection, &'static [(u32, u32, i32)]);
-
-const LINES: [Line; 2] = [
-    (
-        "office ffi",
-        LeftToRight,
-        &[(82, 0, 1253), (5044, 1, 1980), (70, 4, 1126), (72, 5, 1260), (3, 6, 651), (5044, 7, 1980)],
-    ),
-    ("سلام لا", RightToLeft, &[(5365, 5, 1168), (3, 4, 651), (1390, 3, 1268), (5366, 1, 1222), (5293, 0, 1716)]),
-];
-
-/// The lines that a program prints, without marks of direction and blanks at the ends.
-fn printed(program: &str, words: &[&str]) -> Vec<String> {
-    let output = Command::new(program).args(words).output().unwrap();
-    assert!(output.status.success(), "{program}: {output:?}");
-    let text = String::from_utf8(output.stdout).unwrap();
-    let text = text.replace(['\u{202a}', '\u{202b}', '\u{202c}', '\u{200e}', '\u{200f}', '\u{c}'], "");
-    let lines = text.lines().map(|it| it.trim().to_string());
-    lines.filter(|it| !it.is_empty()).collect()
-}
-
+/// Each run is on a page as long as it, with margins of 36 points. (tests/test_documents.py has readers read examples/shaped.rs.)
 #[test]
-fn readers_find_the_text() {
-    let data = fs::read("/usr/share/fonts/truetype/dejavu/DejaVuSans.ttf").unwrap();
-    let mut text = Text::new(&data, 0, &[], &TextOptions::new().clusters(ClusterUnit::Utf32)).unwrap();
-    let lines = LINES.map(|(line, direction, glyphs)| {
-        let glyph =
-            |&(glyph_id, cluster, x_advance)| ShapedGlyph { glyph_id, cluster, x_advance, ..ShapedGlyph::default() };
-        let glyphs: Vec<ShapedGlyph> = glyphs.iter().map(glyph).collect();
-        text.shaped(line, &glyphs, direction, 36_000).unwrap()
-    });
-    let path = concat!(env!("CARGO_TARGET_TMPDIR"), "/text.pdf");
-    fs::write(path, text.sheet(&lines, &FontOptions::new()).unwrap()).unwrap();
-    printed("qpdf", &["--check", path]);
-    assert_eq!(printed("pdftotext", &["-enc", "UTF-8", path, "-"]), LINES.map(|it| it.0));
-    // MuPDF gives what is seen from left to right.
-    let seen = LINES.map(|(line, direction, _)| match direction {
-        RightToLeft => line.chars().rev().collect(),
-        _ => line.to_string(),
-    });
-    assert_eq!(printed("mutool", &["draw", "-q", "-F", "txt", path]), seen);
+fn a_sheet_has_a_page_for_each_run() {
+    let font = made("made.ttf");
+    let mut text = Text::new(&font, 0, &[], &TextOptions::new()).unwrap();
+    let runs = ["ABBA", ""].map(|it| text.plain(&glyphs_of(&font, 0, it).unwrap(), 36_000).unwrap());
+    let file = text.sheet(&runs, &FontOptions::new()).unwrap();
+    let objects = text.font(&FontOptions::new()).unwrap().objects(7).unwrap().bytes;
+    for part in [&objects[..], b" Tm\n[<0001000200020001>]TJ\nET\n", b" Tm\nET\n", b"[0 0 169 144]", b"[0 0 72 144]"] {
+        assert!(file.windows(part.len()).any(|it| it == part), "{}", String::from_utf8_lossy(part));
+    }
 }
