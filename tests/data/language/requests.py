@@ -91,9 +91,10 @@ class Library:
             font.faces = [self.named(line, it) for it in rest]
         elif word == "without":
             del font.tables[font.find(line, rest[0])]
-        elif word in ("part", "set"):
-            at = font.find(line, rest[0].rpartition(".")[0] if word == "part" else rest[0])
-            font.tables[at] = font.tables[at].part(line) if word == "part" else font.tables[at].set(line, self.formats)
+        elif word in ("part", "entry", "set"):
+            at = font.find(line, rest[0] if word == "set" else rest[0].rpartition(".")[0])
+            table = font.tables[at]
+            font.tables[at] = table.set(line, self.formats) if word == "set" else table.part(line) if word == "part" else table.entry(line)
         elif word == "cut" and len(rest) == 2:
             at = font.find(line, rest[0])
             font.tables[at] = sfnt.Table(font.tables[at].tag, font.tables[at].lines + [Line(["cut", rest[1]], line.where)])
