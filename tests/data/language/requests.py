@@ -54,14 +54,15 @@ def drop(line, text):
 
 
 class Library:
-    """What has a name: fonts and other bytes, the new fonts of rows, and the fields of rows for PDF."""
+    """What has a name: fonts and other bytes, the new fonts of rows, and the fields of rows for PDF; and the fonts of rows/fonts."""
 
-    def __init__(self, formats):
-        self.formats, self.fonts, self.new, self.pdf = formats, {}, {}, {}
+    def __init__(self, formats, shared=()):
+        self.formats, self.fonts, self.new, self.pdf, self.shared = formats, {}, {}, {}, dict(shared)
 
     def named(self, line, name):
-        """The font NAME, or `new:NAME`, the new font of a row."""
-        found = self.new.get(name[4:]) if name.startswith("new:") else self.fonts.get(name)
+        """The font NAME, `new:NAME`, the new font of a row, or `fonts:NAME`, one of rows/fonts."""
+        where, _, last = name.rpartition(":")
+        found = {"": self.fonts, "new": self.new, "fonts": self.shared}.get(where, {}).get(last)
         if found is None:
             line.fails(f"there is no {name} in front of it")
         return found
