@@ -1,10 +1,8 @@
-//! The calls of `subsetter::pdf::Text`: operators that were worked by hand, and lines that readers find again.
+//! The calls of `subsetter::pdf::Text`: operators that were worked by hand.
 #![cfg(feature = "variable-fonts")]
 
 mod table;
 
-use std::fs;
-use std::process::Command;
 use subsetter::pdf::{
     glyphs_of, ClusterUnit, Direction, FontError, FontOptions, Item, Order, Rights, Run, RunDirection, ShapedGlyph,
     Text, TextError, TextOptions,
@@ -200,48 +198,16 @@ fn the_metrics_are_those_of_the_coordinates() {
     assert_eq!((made.widths()[1], run.operators), (716, b"[<00010002>]TJ\n".to_vec()));
 }
 
-// ---- readers
-
-/// A text, and what `hb-shape --no-glyph-names` says of it in DejaVu Sans: glyph, cluster, advance.
-type Line = (&'static str, RunDirection, &'static [(u32, u32, i32)]);
-
-const LINES: [Line; 2] = [
-    (
-        "office ffi",
-        LeftToRight,
-        &[(82, 0, 1253), (5044, 1, 1980), (70, 4, 1126), (72, 5, 1260), (3, 6, 651), (5044, 7, 1980)],
-    ),
-    ("سلام لا", RightToLeft, &[(5365, 5, 1168), (3, 4, 651), (1390, 3, 1268), (5366, 1, 1222), (5293, 0, 1716)]),
-];
-
-/// The lines that a program prints, without marks of direction and blanks at the ends.
-fn printed(program: &str, words: &[&str]) -> Vec<String> {
-    let output = Command::new(program).args(words).output().unwrap();
-    assert!(output.status.success(), "{program}: {output:?}");
-    let text = String::from_utf8(output.stdout).unwrap();
-    let text = text.replace(['\u{202a}', '\u{202b}', '\u{202c}', '\u{200e}', '\u{200f}', '\u{c}'], "");
-    let lines = text.lines().map(|it| it.trim().to_string());
-    lines.filter(|it| !it.is_empty()).collect()
-}
-
+/// (`compare/run text` has the same operators read, and the sheets of Python and JavaScript.)
 #[test]
-fn readers_find_the_text() {
-    let data = fs::read("/usr/share/fonts/truetype/dejavu/DejaVuSans.ttf").unwrap();
-    let mut text = Text::new(&data, 0, &[], &TextOptions::new().clusters(ClusterUnit::Utf32)).unwrap();
-    let lines = LINES.map(|(line, direction, glyphs)| {
-        let glyph =
-            |&(glyph_id, cluster, x_advance)| ShapedGlyph { glyph_id, cluster, x_advance, ..ShapedGlyph::default() };
-        let glyphs: Vec<ShapedGlyph> = glyphs.iter().map(glyph).collect();
-        text.shaped(line, &glyphs, direction, 36_000).unwrap()
-    });
-    let path = concat!(env!("CARGO_TARGET_TMPDIR"), "/text.pdf");
-    fs::write(path, text.sheet(&lines, &FontOptions::new()).unwrap()).unwrap();
-    printed("qpdf", &["--check", path]);
-    assert_eq!(printed("pdftotext", &["-enc", "UTF-8", path, "-"]), LINES.map(|it| it.0));
-    // MuPDF gives what is seen from left to right.
-    let seen = LINES.map(|(line, direction, _)| match direction {
-        RightToLeft => line.chars().rev().collect(),
-        _ => line.to_string(),
-    });
-    assert_eq!(printed("mutool", &["draw", "-q", "-F", "txt", path]), seen);
+fn a_sheet_has_a_page_for_each_run() {
+    let font = made("made.ttf");
+    let mut text = Text::new(&font, 0, &[], &TextOptions::new()).unwrap();
+    let runs = [item(1, Some("A"), 1366), item(5, Some("f"), 1139)];
+    let runs = runs.map(|it| text.run(&[it], LeftToRight, 36_000).unwrap());
+    let sheet = text.sheet(&runs, &FontOptions::new()).unwrap();
+    let sheet = String::from_utf8_lossy(&sheet);
+    for (run, page) in runs.into_iter().zip(["[0 0 97 144]", "[0 0 93 144]"]) {
+        assert!(sheet.contains(page) && sheet.contains(&operators(Ok(run))), "{page}");
+    }
 }
