@@ -89,4 +89,4 @@ def row(line, library):
     library.pdf[name] = fields
     for _ in range(2):
         fields = {key: re.sub(r"\{(\w+)\}", lambda it: fields[it[1]], value) for key, value in fields.items()}
-    return "\n".join([f"row {name}"] + [f"{key} {fields[key]}".rstrip() for key in FIELDS if key in fields])
+    return "\n".join([f"row {name}"] + [f"{key} {fields[key]}".rstrip() for key in FIELDS if key in fields] + [""])

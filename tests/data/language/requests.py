@@ -188,11 +188,12 @@ class Library:
 
 
 def compiled(entries, library):
-    """The lines of today's file."""
-    made = []
+    """The lines of today's file: of comments and empty lines those in front of the first row."""
+    made, is_begun = [], False
     for entry in entries:
+        is_begun = is_begun or not isinstance(entry, str)
         try:
-            text = entry if isinstance(entry, str) else library.entry(entry)
+            text = library.entry(entry) if not isinstance(entry, str) else None if is_begun else entry
         except (ArithmeticError, AttributeError, IndexError, KeyError, TypeError, ValueError) as error:
             entry.fails(f"{' '.join(entry.words[:2])} can't be compiled: {error!r}")
         if text is not None:
