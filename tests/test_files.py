@@ -267,9 +267,9 @@ def test_input_waits(room, words, status):
     os.close(writing)
 
 
-AS_NULL = "by Cargo a closed stream is /dev/null, which Rust's library opens"
 BAD_OUTPUT = cannot("write", "standard output", "EBADF")
-# Words, the stream that is closed, the end (status, standard output, standard error; of the closed one nothing is read), and that by Cargo where it is another.
+# Words, the stream that is closed, the end (status, standard output, standard error; of the closed one nothing is read), and that by Cargo where it is another:
+# there Rust's library opens /dev/null in its place.
 CLOSED = [
     ("- out 0 2", 0, (3, b"", cannot("read", "-", "EISDIR")), (1, b"", b"unknown font kind\nthe file is empty\n")),
     ("--gids-file - six out 0", 0, (3, b"", cannot("read", "-", "EISDIR")), (0, b"", b"")),
