@@ -246,6 +246,8 @@ def rows(path):
             parts[-1].append(line[4:])
         elif line and not line.startswith("#"):
             raise ValueError(f"{path.name}:{number}: neither a row, a part of one, nor a comment")
+    for at in range(len(parts) - 1, 0, -1):
+        parts[at - 1] = parts[at - 1] or parts[at]
     for row, texts in zip(found, parts):
         for text in texts:
             add(row, *text.partition(" ")[::2])

@@ -1,9 +1,8 @@
-"""Files, streams, memory and time of the program: rights, links, attributes, full disks, closed streams, calls of the system that fail, runs at the
-same time, and hostile input.
+"""Files, streams, memory and time of the program: rights, links, attributes, closed streams, runs at the same time, and hostile input.
 
     SUBSET_FONT=FILE /usr/bin/python3 -m pytest -q tests/test_files.py
 
-For Linux. System calls fail by strace, requests for memory by compare/drivers/refuse.c.
+For Linux. Requests for memory fail by compare/drivers/refuse.c; calls of the system do so in `compare/run faults`.
 """
 import contextlib
 import errno
@@ -20,7 +19,7 @@ from dataclasses import dataclass
 
 import pytest
 import support
-from support import COMMAND, IS_CARGO, OLD, SYSTEM, cannot, few_bytes, fonts, glyph_lines, is_whole, read, reason, remove, run
+from support import COMMAND, IS_CARGO, OLD, cannot, few_bytes, fonts, glyph_lines, is_whole, read, reason, remove, run
 
 SIMPLE, WANTED, LINES = fonts()["simple"], fonts()["simple_2"], glyph_lines((2, 1))
 SHORT = ["in", "out", "0", "2"]
@@ -268,9 +267,9 @@ def test_input_waits(room, words, status):
     os.close(writing)
 
 
-AS_NULL = "by Cargo a closed stream is /dev/null, which Rust's library opens"
 BAD_OUTPUT = cannot("write", "standard output", "EBADF")
-# Words, the stream that is closed, the end (status, standard output, standard error; of the closed one nothing is read), and that by Cargo where it is another.
+# Words, the stream that is closed, the end (status, standard output, standard error; of the closed one nothing is read), and that by Cargo where it is another:
+# there Rust's library opens /dev/null in its place.
 CLOSED = [
     ("- out 0 2", 0, (3, b"", cannot("read", "-", "EISDIR")), (1, b"", b"unknown font kind\nthe file is empty\n")),
     ("--gids-file - six out 0", 0, (3, b"", cannot("read", "-", "EISDIR")), (0, b"", b"")),
@@ -318,140 +317,9 @@ def test_held_descriptors(room):
         assert ran.communicate(SIMPLE) == (LINES, b"") and (held.count("/"), ran.returncode) == (3, 0)
 
 
-# ---- system calls that fail
-
-@dataclass
-class Way:
-    """A run whose calls fail: its words, the files before it, and those that it writes."""
-    words: list
-    files: dict
-    written: tuple
-    in_place: bool = False
-
-
-BOTH = fonts()["both"]
-# (more bytes than the program writes at a time)
-MANY = ",".join(["1", "2"] * 1500)
-WAYS = {
-    "a new OUT": Way(["in", "out", "0", "1,2"], {}, ("out",)),
-    "OUT over a file": Way(["in", "out", "0", MANY], {"out": OLD}, ("out",)),
-    "a PDF and OUT": Way(["--pdf", "page", "--text", "A", "in", "out", "0"], {"out": OLD, "page": OLD}, ("page", "out")),
-    "OUT with a second name": Way(["in", "out", "0", "1,2"], {"out": OLD, "other": None}, ("out",), in_place=True),
-    "OUT of another group": Way(["in", "out", "0", "1,2"], {"out": OLD}, ("out",), in_place=True),
-}
-CALLS = "openat read write fdatasync fsync rename renameat2 linkat unlink unlinkat statx newfstatat fstat fchmod copy_file_range close fcntl open".split()
-
-
-class Traced:
-    """Runs of a way under strace."""
-
-    def __init__(self, name, top):
-        self.way, self.work, self.log, self.is_group = WAYS[name], top / "work", top / "log", "group" in name
-        self.base = self.run()
-        lines = self.log.read_text(errors="replace").split("\n")
-        # (what is in front is the start of the C library and of Rust's)
-        first = next(at for at, it in enumerate(lines) if re.search(r'"(in|out|page)"', it) and not it.startswith("execve"))
-        found = [it.partition("(")[0] for it in lines]
-        self.calls = [(it, found[:at + 1].count(it), lines[at]) for at, it in enumerate(found) if at >= first and it in CALLS]
-        self.before = self.lay()
-        assert self.base[0] == 0 and self.base[3] != self.before and len(self.calls) > 10, self.base
-
-    def files(self):
-        return {it.name: (read(it), mode_of(it)) for it in self.work.iterdir()}
-
-    def lay(self):
-        shutil.rmtree(self.work, ignore_errors=True)
-        self.work.mkdir()
-        put(self.work / "in", BOTH)
-        for name, data in self.way.files.items():
-            put(self.work / name, data, 0o640) if data is not None else os.link(self.work / "out", self.work / name)
-        if self.is_group:
-            os.chown(self.work / "out", -1, next(it for it in [NOBODY, *os.getgroups()] if it != os.getegid()))
-        return self.files()
-
-    def run(self, what=None):
-        """Status, standard output, standard error and files of a run in which something is done to a call."""
-        self.lay()
-        return *run(self.way.words, self.work, command=["strace", "-qq", "-o", self.log, *(["-e", f"inject={what}"] if what else []), *COMMAND]), self.files()
-
-    def end(self, got, error):
-        """How a run ended in which a call failed: whole, unread, unwritten or unlined; None where that is wrong."""
-        status, out, err, files = got
-        if got == self.base:
-            return "whole"
-        if status != 3:
-            return None
-        if err == cannot("write", "standard output", error) and files == self.base[3] and self.base[1].startswith(out):
-            return "unlined"
-        # (of two files the first may be whole; one that is written in place may be a part)
-        kept = [{**self.before, **{it: self.base[3][it] for it in self.way.written[:count]}} for count in range(len(self.way.written))]
-        is_kept = files in kept or self.way.in_place and {it: file for it, file in files.items() if file != files["out"]}.items() <= self.before.items() and files.keys() == self.before.keys()
-        ends = {cannot("read", "in", error): "unread", **{cannot("write", it, error): "unwritten" for it in self.way.written}}
-        return ends.get(err) if out == b"" and is_kept else None
-
-
-@pytest.fixture(params=WAYS)
-def traced(request, tmp_path):
-    if SYSTEM:
-        pytest.fail("strace traces programs of this system")
-    return Traced(request.param, tmp_path)
-
-
-@pytest.mark.parametrize("error", ["EIO", "ENOSPC", "EINTR"])
-def test_calls_fail(traced, error):
-    """Each call for files fails in turn: status 3 and the reason, or all is whole; no other file is left."""
-    ends = {}
-    for call, number, line in traced.calls:
-        got = traced.run(f"{call}:error={error}:when={number}")
-        end = traced.end(got, error)
-        # (a file beside OUT that can't be removed stays)
-        left = call.startswith("unlink") and error != "EINTR" and got[3].keys() - traced.before.keys() == {"out.part0"}
-        assert end or left, (call, number, line, got[:3], {name: (len(it[0]), it[1]) for name, it in got[3].items()})
-        ends.setdefault(call, []).append(end)
-    assert error == "EINTR" or {"unread", "unwritten"} <= {*ends["openat"], *ends["read"], *ends["write"]}, ends
-    assert error == "EINTR" or "unlined" in {*ends["write"], *ends.get("fcntl", [])}, ends
-    # the first write and the first sync are those of the new file
-    if error != "EINTR" and not traced.way.in_place:
-        assert [ends[it][0] for it in ("write", "fdatasync", "rename")] == ["unwritten"] * 3, ends
-    elif error == "EINTR" and IS_CARGO:
-        assert {it for call in ("openat", "read", "write", "fdatasync", "unlink") for it in ends.get(call, [])} <= {"whole"}, ends
-
-
-def test_killed(traced):
-    """The process is killed at each call: a file that isn't written in place is as it was or whole, and only files beside it are left."""
-    seen = set()
-    for call, number, line in [] if traced.way.in_place else traced.calls:
-        status, _, _, files = traced.run(f"{call}:signal=SIGKILL:when={number}")
-        assert status == -9 and all(files.get(it) in (traced.before.get(it), traced.base[3][it]) for it in traced.way.written), line
-        assert all(re.fullmatch(r"(out|page)\.part[01]", it) for it in files.keys() - traced.base[3].keys()), (line, files)
-        seen.add((files.get("out") == traced.base[3]["out"], bool(files.keys() - traced.base[3].keys())))
-    assert traced.way.in_place or {(False, False), (False, True), (True, False)} <= seen, seen
-
-
-@pytest.mark.parametrize(("error", "end"), [("ENOSPC", "unwritten"), ("EDQUOT", "unwritten"), ("EACCES", "whole"), ("EPERM", "whole"), ("EROFS", "whole")])
-def test_no_file_beside(tmp_path, error, end):
-    """No file can be made beside OUT: it is written in place. But where the disk has no room for one, or the user may take no more, OUT is what it was."""
-    traced = Traced("OUT over a file", tmp_path)
-    call, number, _ = next(it for it in traced.calls if '"out.part0", O_WRONLY|O_CREAT|O_EXCL' in it[2])
-    got = traced.run(f"{call}:error={error}:when={number}+1" if end == "whole" else f"{call}:error={error}:when={number}")
-    assert traced.end(got, error) == end or end == "whole" and traced.end(got, error) == "unwritten"
-
-
-def test_no_sync(tmp_path):
-    """A file system that has no sync."""
-    traced = Traced("OUT over a file", tmp_path)
-    assert traced.end(traced.run("fdatasync:error=ENOSYS:when=1"), "ENOSYS") == "whole"
-
-
-def test_unknown_out(tmp_path):
-    """Where nothing can be known of OUT it isn't touched."""
-    traced = Traced("OUT over a file", tmp_path)
-    call, number, _ = next(it for it in traced.calls if '"out"' in it[2] and "NOFOLLOW" in it[2])
-    assert traced.end(traced.run(f"{call}:error=EACCES:when={number}"), "EACCES") == "unwritten"
-
-
 # ---- memory
 
+BOTH = fonts()["both"]
 # What refused memory may end with: before OUT is made, and without a line.
 REFUSED = ((1, b"", b"out of memory\n"), *((3, b"", f"cannot read {it}\nout of memory\n".encode()) for it in ("in", "list", "-")))
 # What Rust's library requests by itself, in bytes: before main the name of the main thread and what its stack is, and the buffer of standard output.

@@ -924,18 +924,6 @@ static char *word(void)
     return strtok(NULL, " ");
 }
 
-/* The numbers of a list as `1,4..7`; none of `-`. */
-static size_t numbers_in(char *list, uint32_t *numbers)
-{
-    size_t count = 0;
-    for (; *list >= '0' && *list <= '9'; list += *list == ',') {
-        uint32_t first = (uint32_t)strtoul(list, &list, 10), last = *list == '.' ? (uint32_t)strtoul(list + 2, &list, 10) : first;
-        for (; first <= last; first++)
-            numbers[count++] = first;
-    }
-    return count;
-}
-
 /* Tries each row of a table. */
 static void each_row(const char *table, void (*try_row)(void))
 {
@@ -981,12 +969,6 @@ static void try_characters(void)
     __real_free(bytes);
 }
 
-/* The value of a digit of a hexadecimal number. */
-static uint8_t digit_of(char digit)
-{
-    return (uint8_t)(digit <= '9' ? digit - '0' : digit - 'a' + 10);
-}
-
 /* The bits of kinds by their names, joined by `+`, up to a comma or a blank. */
 static uint32_t bits_of(const char **words)
 {
@@ -1007,15 +989,12 @@ static uint32_t bits_of(const char **words)
  * outlines. */
 static void try_kinds(void)
 {
-
     const char *name = word(), *digits = word();
     uint8_t font[4096];
     size_t size;
     uint16_t glyphs[ENTRIES];
     uint32_t face = (uint32_t)strtoul(word(), NULL, 10), numbers[ENTRIES], kinds[ENTRIES], found = 0;
-    size_t font_size = 0, count = numbers_in(word(), numbers);
-    for (; *digits != 0 && *digits != '-'; digits += 2)
-        font[font_size++] = (uint8_t)(digit_of(digits[0]) << 4 | digit_of(digits[1]));
+    size_t font_size = bytes_in(digits, font), count = numbers_in(word(), numbers);
     for (size_t i = 0; i < count; i++)
         glyphs[i] = (uint16_t)numbers[i];
     uint32_t wanted = (uint32_t)strtoul(word(), NULL, 10);
@@ -1056,8 +1035,7 @@ static void change(uint8_t *font, const char *how)
     if (how[1] != 0 && how[4] == '=')
         memcpy(at, how + 5, 4);
     else if (how[1] != 0)
-        for (at = font + (at[10] << 8 | at[11]) + strtoul(how + 5, NULL, 10), how = strchr(how, '=') + 1; *how != 0; how += 2)
-            *at++ = (uint8_t)(digit_of(how[0]) << 4 | digit_of(how[1]));
+        bytes_in(strchr(how, '=') + 1, font + (at[10] << 8 | at[11]) + strtoul(how + 5, NULL, 10));
 }
 
 /* A row of reasons.txt, in a buffer that is exact, or is too small by a byte. */

@@ -45,31 +45,20 @@ static size_t row_count, font_count;
 /* The bytes of hexadecimal digits; null for `-`. */
 static uint8_t *hex(const char *digits, size_t *size)
 {
-    *size = strcmp(digits, "-") == 0 ? 0 : strlen(digits) / 2;
-    uint8_t *bytes = *size == 0 ? NULL : room(*size);
-    for (size_t i = 0; i < *size; i++) {
-        char two[3] = {digits[2 * i], digits[2 * i + 1], 0};
-        bytes[i] = (uint8_t)strtoul(two, NULL, 16);
-    }
+    uint8_t *bytes = *digits == '-' ? NULL : room(strlen(digits) / 2);
+    *size = bytes_in(digits, bytes);
     return bytes;
 }
 
 /* The numbers of a list as `3,10..12`; null for `-`. */
-static uint32_t *numbers(char *list, size_t *count)
+static uint32_t *numbers(const char *list, size_t *count)
 {
-    *count = 0;
-    if (strcmp(list, "-") == 0)
-        return NULL;
-    uint32_t *found = room(65537 * sizeof *found);
-    for (char *at = list; at != NULL; at = *at == ',' ? at + 1 : NULL) {
-        unsigned long first = strtoul(at, &at, 10), last = at[0] == '.' ? strtoul(at + 2, &at, 10) : first;
-        for (unsigned long number = first; number <= last; number++)
-            found[(*count)++] = (uint32_t)number;
-    }
+    uint32_t *found = *list == '-' ? NULL : room(65537 * sizeof *found);
+    *count = numbers_in(list, found);
     return found;
 }
 
-static uint16_t *short_numbers(char *list, size_t *count)
+static uint16_t *short_numbers(const char *list, size_t *count)
 {
     uint32_t *wide = numbers(list, count);
     uint16_t *narrow = wide == NULL ? NULL : room(*count * sizeof *narrow);

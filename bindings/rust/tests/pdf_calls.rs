@@ -1,16 +1,16 @@
-//! Characters, reasons, and what rows don't say of the calls in `subsetter::pdf`: numbers of 32 bits, each choice.
+//! Characters, advances, kinds, reasons, and what rows don't say of the calls in `subsetter::pdf`: numbers of 32 bits, each choice.
 #![cfg(feature = "variable-fonts")]
 
 mod table;
 
 use subsetter::pdf::{
-    advances, codes_of, glyphs_of, pdf_font, Bounds, Codes, Direction, FontError, FontOptions, Layout, PartsError,
-    PdfFont, ProgramChoice, Rights, Shown, SubsetTag,
+    advances, advances_with_limits, codes_of, glyphs_of, kinds_of, pdf_font, Advances, Bounds, Codes, Direction,
+    FontError, FontOptions, Layout, PartsError, PdfFont, ProgramChoice, Rights, Shown, SubsetTag,
 };
 use subsetter::{embed_with_options, embed_with_variations_and_options as embed_at, explain, subset_with_options};
 use subsetter::{subset_with_variations_and_options as subset_at, Call, Error, GlyphRemapper, Limits, Options, Tag};
-use table::words::{bytes, entry, numbers};
-use table::{made, rows_of, ERRORS};
+use table::words::{bytes, entry, numbers, short_numbers};
+use table::{made, rows_of, variations, ERRORS};
 
 const fn shown(glyph: u16, text: &'static str) -> Shown<'static> {
     Shown { glyph, text }
@@ -38,6 +38,83 @@ fn each_character_has_its_glyph() {
         assert_eq!(found.missing(), places.collect::<Vec<_>>(), "{row}");
         assert_eq!(found.into_vec(), shown.collect::<Vec<_>>(), "{row}");
     }
+}
+
+// ---- advances and kinds
+
+/// Each row of `advances.txt`.
+#[test]
+fn advances_are_those_of_the_rows() {
+    for row in rows_of("advances.txt") {
+        let words: Vec<&str> = row.split(' ').skip(1).collect();
+        let number = |at: usize| words[at].parse::<u32>().unwrap();
+        let (font, glyphs, at) = (bytes(words[1]), short_numbers(words[3]), variations(words[4]).unwrap());
+        let found = match Limits::new(number(5), 64) {
+            Some(limits) => advances_with_limits(&font, number(2), &glyphs, &at, &limits),
+            None => advances(&font, number(2), &glyphs, &at),
+        };
+        let wanted = match number(6) as usize {
+            0 => Ok(Advances {
+                units_per_em: number(7) as u16,
+                widths: short_numbers(words[8]),
+                heights: short_numbers(words[9]),
+            }),
+            status => Err(ERRORS[status - 1]),
+        };
+        assert_eq!(found, wanted, "{}", words[0]);
+    }
+}
+
+#[test]
+fn unknown_axes_are_named_once_in_order() {
+    let tags = ["wdth", "wght", "opsz", "wdth", "WGHT"].map(|it| it.parse().unwrap());
+    let given = tags.map(|it| (it, 75.0));
+    let unknown = |font: &[u8]| {
+        let made = pdf_font(font, 0, &given, &[Shown::new(1, "A")], &FontOptions::new());
+        made.unwrap().unknown_axes().to_vec()
+    };
+    let [wdth, wght, opsz, _, other] = tags;
+    assert_eq!(unknown(include_bytes!("data/made_variable.ttf")), [wdth, opsz, other]);
+    assert_eq!(unknown(include_bytes!("data/made.ttf")), [wdth, wght, opsz, other]);
+}
+
+/// Each row of `kinds.txt`.
+#[test]
+fn kinds_are_those_of_the_rows() {
+    for row in rows_of("kinds.txt") {
+        let words: Vec<&str> = row.split(' ').skip(1).collect();
+        let (font, face, glyphs) = (bytes(words[1]), words[2].parse().unwrap(), short_numbers(words[3]));
+        let found = kinds_of(&font, face, &glyphs).map(|all| {
+            let each = all.iter().map(|it| it.iter().map(|kind| kind.to_string()).collect::<Vec<_>>().join("+"));
+            each.collect::<Vec<_>>().join(",")
+        });
+        let wanted = match words[4].parse().unwrap() {
+            0 => Ok(words[5].trim_matches('-').to_string()),
+            status => Err(ERRORS[status - 1_usize]),
+        };
+        assert_eq!(found, wanted, "{}", words[0]);
+        for kinds in kinds_of(&font, face, &glyphs).unwrap_or_default() {
+            let names: Vec<_> = kinds.iter().map(|it| it.to_string()).collect();
+            assert_eq!(kinds.is_unseen(), names.len() > 1 && names.last().unwrap() == "empty", "{}", words[0]);
+        }
+        // (a face without outlines, and without `cmap`)
+        if words[6] == "0" {
+            continue;
+        }
+        assert_eq!(pdf_font(&font, face, &[], &[Shown::new(0, "")], &FontOptions::new()).err(), Some(FontError::BitmapsAlone), "{}", words[0]);
+        assert_eq!(glyphs_of(&font, face, "A"), Err(FontError::NoCmap), "{}", words[0]);
+    }
+}
+
+#[test]
+fn entries_that_are_blank_are_listed() {
+    let unseen = |font: &[u8], glyphs: &[u16]| {
+        let shown: Vec<Shown> = glyphs.iter().map(|it| Shown::new(*it, "A")).collect();
+        pdf_font(font, 0, &[], &shown, &FontOptions::new()).unwrap().unseen().to_vec()
+    };
+    assert_eq!(unseen(include_bytes!("data/made_colour.ttf"), &[1, 11, 10, 11]), [1, 3]);
+    assert_eq!(unseen(include_bytes!("data/made_colour.ttf"), &[1, 10]), [0; 0]);
+    assert_eq!(unseen(include_bytes!("data/made.ttf"), &[1, 11, 10, 11]), [0; 0]);
 }
 
 // ---- codes

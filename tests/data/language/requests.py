@@ -54,14 +54,15 @@ def drop(line, text):
 
 
 class Library:
-    """What has a name: fonts and other bytes, the new fonts of rows, and the fields of rows for PDF."""
+    """What has a name: fonts and other bytes, the new fonts of rows, and the fields of rows for PDF; and the fonts of rows/fonts."""
 
-    def __init__(self, formats):
-        self.formats, self.fonts, self.new, self.pdf = formats, {}, {}, {}
+    def __init__(self, formats, shared=()):
+        self.formats, self.fonts, self.new, self.pdf, self.shared = formats, {}, {}, {}, dict(shared)
 
     def named(self, line, name):
-        """The font NAME, or `new:NAME`, the new font of a row."""
-        found = self.new.get(name[4:]) if name.startswith("new:") else self.fonts.get(name)
+        """The font NAME, `new:NAME`, the new font of a row, or `fonts:NAME`, one of rows/fonts."""
+        where, _, last = name.rpartition(":")
+        found = {"": self.fonts, "new": self.new, "fonts": self.shared}.get(where, {}).get(last)
         if found is None:
             line.fails(f"there is no {name} in front of it")
         return found
@@ -91,9 +92,10 @@ class Library:
             font.faces = [self.named(line, it) for it in rest]
         elif word == "without":
             del font.tables[font.find(line, rest[0])]
-        elif word in ("part", "set"):
-            at = font.find(line, rest[0].rpartition(".")[0] if word == "part" else rest[0])
-            font.tables[at] = font.tables[at].part(line) if word == "part" else font.tables[at].set(line, self.formats)
+        elif word in ("part", "entry", "set"):
+            at = font.find(line, rest[0] if word == "set" else rest[0].rpartition(".")[0])
+            table = font.tables[at]
+            font.tables[at] = table.set(line, self.formats) if word == "set" else table.part(line) if word == "part" else table.entry(line)
         elif word == "cut" and len(rest) == 2:
             at = font.find(line, rest[0])
             font.tables[at] = sfnt.Table(font.tables[at].tag, font.tables[at].lines + [Line(["cut", rest[1]], line.where)])
@@ -186,11 +188,12 @@ class Library:
 
 
 def compiled(entries, library):
-    """The lines of today's file."""
-    made = []
+    """The lines of today's file: of comments and empty lines those in front of the first row."""
+    made, is_begun = [], False
     for entry in entries:
+        is_begun = is_begun or not isinstance(entry, str)
         try:
-            text = entry if isinstance(entry, str) else library.entry(entry)
+            text = library.entry(entry) if not isinstance(entry, str) else None if is_begun else entry
         except (ArithmeticError, AttributeError, IndexError, KeyError, TypeError, ValueError) as error:
             entry.fails(f"{' '.join(entry.words[:2])} can't be compiled: {error!r}")
         if text is not None:

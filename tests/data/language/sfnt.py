@@ -130,6 +130,23 @@ class Table:
             label.children = line.children
         return Table(self.tag, self.lines[:begin[0]] + [label] + ([] if line.words[2:] else line.children) + self.lines[end:])
 
+    def entry(self, line):
+        """Gives the DICT of a part another entry: in the place of the one of its operator, or a further one, `after=` or `before=` another."""
+        name, (pairs, words) = line.words[1].rpartition(".")[2], line.keys(line.words[2:])
+        [at] = [it for it, found in enumerate(self.lines) if found.words[:2] == ["at", name]]
+        whole, part = Line(self.lines[at].words, line.where), self.lines[at]
+        if part.words[2] == "INDEX":
+            [part] = part.children
+        other = pairs.get("after") or pairs.get("before") or words[0]
+        [place] = [it for it, found in enumerate(part.children) if found.words[0] == other]
+        made, old = Line(words, line.where), part.children[place]
+        entries = part.children[:place] + ([old, made] if "after" in pairs else [made, old] if pairs else [made]) + part.children[place + 1:]
+        whole.children = entries
+        if part is not self.lines[at]:
+            whole.children = [Line(["DICT"], line.where)]
+            whole.children[0].children = entries
+        return Table(self.tag, self.lines[:at] + [whole] + self.lines[at + 1:])
+
     def set(self, line, formats):
         """Gives fields of the table's first structure other values."""
         at = next((it for it, found in enumerate(self.lines) if found.words[0] in formats.structs), None)
