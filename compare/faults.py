@@ -6,7 +6,8 @@ file. (tests/test_files.py has standard streams, links, owners, rights and limit
 
     calls     each call gives each of its usual errors (also those of a quota, of a disk that is full or read-only, and of a signal),
               and each such call from there on; a write takes no byte
-    signals   at each call the program gets a signal: OUT is as it was or whole, and so it is after another run; not in the short form
+    signals   at each call the program gets a signal: OUT is as it was or whole, and so it is after another run
+              (the short form has those that kill while it writes a PDF)
     disk      OUT is on a disk of few pages, or of few files, and on one that is read-only (mounted in a namespace)
 
 --only takes what has this word in its name, as `calls:OUT-over-a-file`. Quotas can't be set everywhere: EDQUOT is injected.
@@ -191,7 +192,7 @@ def check_disk(report, room, way):
 # ---- all
 
 # The ways of the short form; and each part, with the ways that it takes: first those of few runs.
-SHORT = ("a new OUT", "OUT over a file", "OUT over IN", "a PDF and OUT", "OUT to standard output")
+SHORT = ("a new OUT", "OUT over a file", "OUT over IN", "OUT with a second name", "OUT of another group", "a PDF and OUT", "OUT to standard output")
 PARTS = {"disk": (check_disk, lambda way: way.name in ON_DISK), "signals": (check_signals, lambda way: way.name in SIGNALLED), "calls": (check_calls, lambda way: None not in way.groups.values())}
 
 
@@ -215,7 +216,7 @@ def task(program, part, way):
 def main():
     words, program = reports.words(), build.program()
     ways = [it for it in WAYS if not words.short or it.name in SHORT]
-    tasks = [(program, part, way) for part, (_, takes) in PARTS.items() for way in ways if takes(way) and words.only in f"{part}:{way.name}".replace(" ", "-") and not (words.short and part == "signals")]
+    tasks = [(program, part, way) for part, (_, takes) in PARTS.items() for way in ways if takes(way) and words.only in f"{part}:{way.name}".replace(" ", "-") and not (words.short and part == "signals" and way.name != "a PDF and OUT")]
     # (processes that have mounted a disk can't give files to groups any more)
     found = reports.beside(words, task, [it for it in tasks if it[1] == "disk"]) + reports.beside(words, task, [it for it in tasks if it[1] != "disk"])
     counts = reports.total(found)
