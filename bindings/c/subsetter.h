@@ -581,7 +581,8 @@ typedef struct subsetter_font {
  *
  * `glyphs` are in order of use, with repeats if need be. The text of each is none, a character, or several (a ligature): `text`
  * are the 32-bit characters of all entries, and `ends` says for each entry where its characters end there; they begin where
- * those of the entry before end. So `end_count` is `glyph_count`. Where each glyph has one character, `ends` is 1, 2, 3 and so on.
+ * those of the entry before end. So `end_count` is `glyph_count`, and the last end `text_count`: they are no lengths. Where each
+ * glyph has one character, `ends` is 1, 2, 3 and so on.
  *   0: `*made` is the font.
  *   1 to 7, 10 to 12, 14: all sizes, counts and numbers of `*made` are 0 (but for `made->size`), and nothing is to be freed. First
  *   comes 10, then a text that isn't one (12), 14, what is found in opening the font, 11, a text that is too long (12), and then what
@@ -612,7 +613,7 @@ static inline uint32_t subsetter_make_font(const uint8_t *font, size_t font_size
 }
 
 /* The same of a text in UTF-8, of `text_size` bytes: each character has the glyph that `cmap` gives it (see `subsetter_glyphs_of`),
- * and is the text of it. Statuses of both; 12 where it isn't UTF-8. */
+ * and is the text of it. Statuses of both; 12 where it isn't UTF-8. `subsetter_explain` takes the glyphs of `subsetter_glyphs_of`. */
 uint32_t subsetter_make_pdf_font_of_utf8_by_words(const uint8_t *font, size_t font_size, uint32_t index,
                                                   const subsetter_coordinate *coordinates, size_t coordinate_count,
                                                   const uint8_t *text, size_t text_size,

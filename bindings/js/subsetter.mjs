@@ -732,6 +732,10 @@ class Part {
 
 /** The sheet of runs of a font, which is for `PdfText` alone. */
 const SHEET = Symbol("sheet");
+/** The fonts of texts. */
+const OF_TEXTS = new WeakSet();
+/** Of each run the text that made it, and its size. */
+const RUNS = new WeakMap();
 
 /** All that a PDF has of a font. */
 class PdfFont {
@@ -836,6 +840,9 @@ class PdfFont {
 
     sheet(layout) {
         const number = oneOf(layout, ["line", "grid"], "layout");
+        if (OF_TEXTS.has(this)) {
+            throw new TypeError("the font of a PdfText has no entries: PdfText.sheet shows runs");
+        }
         return this.#written("subsetter_pdf_sheet", number, this.#entries).bytes;
     }
 
@@ -852,8 +859,9 @@ function withGlyphs(text, { entries, missing }, choice) {
     }
     const lacking = missing.map((at) => places[at]);
     if (choice === 1 && lacking.length > 0) {
-        const named = lacking.slice(0, 3).map((at) => `U+${text.codePointAt(at).toString(16).toUpperCase().padStart(4, "0")} at ${at}`);
-        throw new MissingCharacters(`missing characters: ${named.join(", ")}${lacking.length > 3 ? ", .." : ""}`, lacking);
+        const each = [...new Map(lacking.map((at) => [text.codePointAt(at), at]).reverse())].reverse();
+        const named = each.slice(0, 20).map(([it, at]) => `U+${it.toString(16).toUpperCase().padStart(4, "0")} at ${at}`);
+        throw new MissingCharacters(`missing characters: ${named.join(", ")}${each.length > 20 ? `, and ${each.length - 20} more` : ""}`, lacking);
     }
     const found = Array.from({ length: entries.length / 3 }, (_, i) => {
         const [glyph, start, end] = entries.slice(3 * i, 3 * i + 3);
@@ -998,6 +1006,7 @@ class PdfText {
         // (each glyph ends with its advances and its offsets)
         const step = sizes[0] / 4, at = step - (this.#isVertical ? 3 : 4);
         const length = glyphs.reduce((sum, it, i) => (i % step === at ? sum + it : sum), 0);
+        RUNS.set(shown.operators, { text: this, points });
         return Object.defineProperty(shown.operators, "advance", { value: Math.floor((2000 * length + unitsPerEm) / (2 * unitsPerEm)) });
     }
 
@@ -1058,14 +1067,20 @@ class PdfText {
     font(options) {
         const chosen = named(options, ["small", "hinting", "bounds", "cidSet", "tag"], "options");
         const choices = pdfChoicesOf({ ...chosen, ...this.#choices });
-        return this.#library.textFont(this.#held(), this.#index, this.#needs, this.#kept, choices);
+        const font = this.#library.textFont(this.#held(), this.#index, this.#needs, this.#kept, choices);
+        OF_TEXTS.add(font);
+        return font;
     }
 
     sheet(runs, options) {
         const wanted = "runs must be an iterable of what run and shaped return";
         const lines = listed(runs, wanted, (it) => {
-            if (kindOf(it) !== "Uint8Array" || typeof it.advance !== "number") {
-                throw new TypeError(wanted);
+            const { text, points } = RUNS.get(it) ?? {};
+            if (text !== this) {
+                throw new TypeError(text ? "a run is of another PdfText" : wanted);
+            }
+            if (points !== 36) {
+                throw new RangeError(`the size of a run is ${points}, and 36 on a sheet`);
             }
             return it;
         });

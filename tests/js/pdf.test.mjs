@@ -115,6 +115,8 @@ test("runs of shaped text", () => {
     // A page is as long as its run.
     assert.deepEqual([...runs.map((it) => it.advance), ...Array.from(latin1(sheet).matchAll(/MediaBox \[0 0 (\d+) 144\]/g), (it) => Number(it[1]))], [4288, 2942, 227, 178]);
     for (const wrong of [runs[0], lines, [sheet], [5], null]) throws(() => text.sheet(wrong), TypeError, "no runs");
+    assert.throws(() => text.sheet([text.run([])]), { message: "the size of a run is 12, and 36 on a sheet" });
+    assert.throws(() => font.sheet(), { message: "the font of a PdfText has no entries: PdfText.sheet shows runs" });
     assert.ok(font.cidToGidMap.length === 2 * font.glyphCount && font.parts([9, 8, 7, 6, 5, 4]).some(({ role }) => role === "cid_to_gid_map"));
     const items = [{ glyph: 82, text: "o" }, { glyph: 5044, text: "ffi" }, { glyph: 70, text: "c" }, { glyph: 72, text: "e", xAdvance: 1260 }];
     assert.deepEqual(text.run(items), text.shaped("office", latin.slice(0, 4)));

@@ -5,7 +5,7 @@ from common import made
 
 
 def parts(font):
-    return font.program, font.codes, font.widths, font.to_unicode, font.encoding, font.cid_set, font.objects(4), font.sheet("grid"), font.exact_widths, font.parts(range(1, font.part_count + 1), compress=True)
+    return font.program, font.codes, font.widths, font.to_unicode, font.encoding, font.cid_set, font.objects(4), font.codes and font.sheet("grid"), font.exact_widths, font.parts(range(1, font.part_count + 1), compress=True)
 
 
 def pdf(module, name, **choices):

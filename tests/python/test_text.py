@@ -55,6 +55,9 @@ def test_a_sheet(tmp_path):
         path.write_bytes(text.sheet(iter(runs), hinting=False))
         for wrong in (runs[0], [bytes(runs[0])], 5):
             assert type(raised(text.sheet, wrong)) is TypeError
+        assert str(raised(text.sheet, [text.run([(82, "o")])])) == "the size of a run is 12, and 36 on a sheet"
+        assert str(raised(subsetter.PdfText(DEJAVU).sheet, runs)) == "a run is of another PdfText"
+        assert str(raised(text.font().sheet)) == "the font of a PdfText has no entries: PdfText.sheet shows runs"
         assert b"/Count 0" in text.sheet([])
     assert [it.advance for it in runs] == [4288, 2942] and pickle.loads(pickle.dumps(runs[0])).advance == 4288
     assert re.findall(rb"/MediaBox \[0 0 (\d+) 144\]", path.read_bytes()) == [b"227", b"178"]

@@ -30,6 +30,7 @@ from __future__ import annotations
 
 import builtins
 import ctypes
+import itertools
 import math
 import operator
 import os
@@ -543,24 +544,35 @@ def _bytes_of(data: Buffer) -> Iterator[Tuple[Optional[int], int]]:
             _release_buffer(ctypes.byref(held))
 
 
-def _listed(items: Iterable[Any], wanted: str) -> List[Any]:
+def _each(items: Iterable[Any], wanted: str) -> Iterator[Any]:
     """The items of what is no text and no bytes."""
     try:
-        each = None if isinstance(items, (str, bytes, bytearray, memoryview)) else iter(items)
+        if not isinstance(items, (str, bytes, bytearray, memoryview)):
+            return iter(items)
     except TypeError:
-        each = None
-    if each is None:
-        raise TypeError(f"{wanted}, and no {type(items).__name__}")
-    return list(each)
+        pass
+    raise TypeError(f"{wanted}, and no {type(items).__name__}")
+
+
+def _listed(items: Iterable[Any], wanted: str) -> List[Any]:
+    return list(_each(items, wanted))
 
 
 def _glyph_numbers(glyphs: Iterable[SupportsIndex]) -> array[int]:
-    given = _listed(glyphs, "glyphs are a list of ints, as [36, 68] (glyphs_of has those of a text)")
+    given = _each(glyphs, "glyphs are a list of ints, as [36, 68] (those of a text: [glyph for glyph, _ in glyphs_of(data, text)])")
+    last: Any = None
+
+    def read() -> Iterator[Any]:
+        nonlocal last
+        for last in given:
+            yield last
+
     try:
-        return array("H", map(operator.index, given))
-    except (TypeError, builtins.OverflowError):
-        pass
-    return array("H", [_number("a glyph", it, 0, 65535) for it in given])
+        return array("H", map(operator.index, read()))
+    except (TypeError, builtins.OverflowError) as error:
+        wrong = error
+    _number("a glyph", last, 0, 65535)
+    raise wrong
 
 
 def _shown(value: object) -> str:
@@ -576,7 +588,8 @@ def _number(what: str, value: SupportsIndex, least: int, most: int) -> int:
     try:
         number = operator.index(value)
     except TypeError:
-        raise TypeError(f"{what} is an int, and no {type(value).__name__}") from None
+        first = " (of a pair of glyphs_of the first is one)" if what == "a glyph" and isinstance(value, tuple) else ""
+        raise TypeError(f"{what} is an int, and no {type(value).__name__}{first}") from None
     if not least <= number <= most:
         raise ValueError(f"{what} is {_shown(number)}, and none from {least} to {most}")
     return number
@@ -921,8 +934,9 @@ def glyphs_of(
     found = TextGlyphs((it.glyph, text[it.start:it.end]) for it in entries[:sizes.entries])
     found.missing = places[:sizes.missing]
     if is_strict and found.missing:
-        first = ", ".join(f"U+{ord(text[at]):04X} at {at}" for at in found.missing[:3])
-        error = MissingCharacters(f"missing characters: {first}{', ..' if len(found.missing) > 3 else ''}")
+        each = sorted({text[at]: at for at in reversed(found.missing)}.values())
+        first = ", ".join(f"U+{ord(text[at]):04X} at {at}" for at in each[:20])
+        error = MissingCharacters(f"missing characters: {first}{f', and {len(each) - 20} more' if len(each) > 20 else ''}")
         error.missing = found.missing
         raise error
     return found
@@ -1090,6 +1104,7 @@ class PdfFont:
     unknown_axes: List[str]
     unseen: List[int]
     part_count: int
+    _is_of_text = False
 
     def __init__(self, made: _PdfFont, entries: _Entries, new: Optional[_Font]) -> None:
         # (what is written is written of these copies, which nothing else changes)
@@ -1242,6 +1257,8 @@ class PdfFont:
         """A whole PDF file that shows the entries in 36 points: in one line (in vertical writing in one column) on a page that
         is as long, or in a grid, 12 by 16 a page."""
         number = _choice("layout", layout, ("line", "grid"))
+        if self._is_of_text:
+            raise ValueError("the font of a PdfText has no entries: PdfText.sheet shows runs")
         font = self._struct()
         entries = self._kept[2].arguments() if self._kept else ()
         return self._written("subsetter_make_pdf_sheet", font.pdf, *entries, number).bytes
@@ -1420,6 +1437,8 @@ class Run(bytes):
     """
 
     advance: int
+    _text: int
+    _size: int
 
 
 class PdfText:
@@ -1444,6 +1463,7 @@ class PdfText:
     """
 
     units_per_em: int
+    _serials = itertools.count()
 
     def __init__(
         self,
@@ -1461,7 +1481,7 @@ class PdfText:
     ) -> None:
         place = _coordinates({} if coordinates is None else coordinates)
         self._data, self._index, self._coordinates = data, _number("index", index, 0, 0xFFFFFFFF), dict(coordinates or {})
-        self._limits, self._vertical = (tokens, depth, most_bytes), vertical
+        self._limits, self._vertical, self._serial = (tokens, depth, most_bytes), vertical, next(PdfText._serials)
         self._rights, self._order = _rights(rights), _choice("order", order, ("visual", "logical"))
         words = self._words(True, False, "font", False, None)
         if not _flag("own_glyphs", own_glyphs):
@@ -1628,6 +1648,7 @@ class PdfText:
             run = Run(ctypes.string_at(made.bytes, made.size))
             length = sum(operator.index(row[-3 if self._vertical else -4]) for row in rows)
             run.advance = (2000 * length + self.units_per_em) // (2 * self.units_per_em)
+            run._text, run._size = self._serial, thousandths
             return run
         finally:
             self._library.subsetter_free_pdf_objects(ctypes.byref(made))
@@ -1645,7 +1666,7 @@ class PdfText:
             place = _coordinates(self._coordinates if status else {})
             _check(self._library, status, _Asked(_PDF_FONT, *self._font, self._index, glyphs, words, place, " of PdfText"))
             font = PdfFont(made.pdf, _Entries([]), made)
-            font.unseen = []
+            font.unseen, font._is_of_text = [], True
             return font
         finally:
             self._library.subsetter_free_font(ctypes.byref(made))
@@ -1660,6 +1681,11 @@ class PdfText:
         lines = _listed(runs, wanted)
         if not all(isinstance(it, Run) for it in lines):
             raise TypeError(wanted)
+        for it in lines:
+            if it._text != self._serial:
+                raise ValueError("a run is of another PdfText")
+            if it._size != 36_000:
+                raise ValueError(f"the size of a run is {it._size / 1000:g}, and 36 on a sheet")
         _library_with("subsetter_make_text_sheet")
         font = self.font(hinting=hinting, small=small, bounds=bounds, cid_set=cid_set, tag=tag)
         given = (_Line * len(lines))(*[_Line(_place(it), len(it), abs(it.advance)) for it in lines])
