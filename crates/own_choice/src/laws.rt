@@ -7,7 +7,7 @@ pub fn parts_fit()
     ensures { PartsFit }
 {}
 
-/// A glyph that can be a part at the font's default has a box of 16 bits wherever it is placed.
+/// A glyph that can be a part at the font's default has a box of which no side is cut, wherever it is placed.
 pub fn parts_have_boxes()
     ensures { PartsHaveBoxes }
 {}
