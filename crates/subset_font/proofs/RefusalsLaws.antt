@@ -1,3 +1,2 @@
 -- Why a run of the program ends without a subset.
 pub mod Failing
-pub mod Limiting

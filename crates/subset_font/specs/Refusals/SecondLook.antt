@@ -1,5 +1,5 @@
 -- What a second look at the glyphs that are picked shows of a font that is refused.
-use Rattle.std.specs.Prelude.{ℕ, ℤ, Bool, if◌then◌else◌, List, [], Option, Some, None, unwrap_or, codes}
+use Rattle.std.specs.Prelude.{ℕ, ℤ, Bool, if◌then◌else◌, List, [], Option, None, unwrap_or, codes}
 use Rattle.std.specs.Option.{option_copied, option_map}
 use Rattle.subsetter_base.specs.declared.error.Error.{Error as Refusal}
 use Rattle.subsetter_base.specs.declared.error.Error.TheVariants.{MalformedFont}

@@ -125,7 +125,7 @@ fn reason_of(
 }
 
 /// Whether memory ran out.
-fn is_of_memory(failure: &Failure) -> bool
+pub fn is_of_memory(failure: &Failure) -> bool
     ensures { result ≡ is_of_memory failure.now }
 {
     match failure {

@@ -1,16 +1,16 @@
 //! That the limits of `--limits` are why no font is made: with twice these one is made. So this look takes no longer than twice
 //! the limits let it.
 
-ghost use Rattle.std.specs.Prelude.{◌≡◌, ◌≤◌, ◌^◌, IfSome, None};
+ghost use Rattle.std.specs.Prelude.{◌≡◌, ◌≤◌, ◌^◌, IfOk, None};
 ghost use Rattle.std.specs.Option.{option_map};
-ghost use Rattle.subset_font.specs.Refusals.LimitHint.{within, twice, IsLimitHint};
+ghost use Rattle.subset_font.specs.Refusals.LimitHint.{within, twice, AreLonger, AreWider, IsSize, more_than, little, IsLongIf, IsLong, IsLittle, IsLimitHint, has_limits, IsLimitHintIf};
 
+use crate::faces::accepted::is_of_memory;
 use crate::making::outcome::make_planned;
-use std::alloc::Global;
-use subset_task::refusals::failure::Failure;
+use std::alloc::{AllocError, Global};
 use subset_task::refusals::hint::text::Hint;
 use subset_task::task::{Plan, Task};
-use subsetter::{Error, Limits, Options};
+use subsetter::{Limits, Options};
 
 /// A plan within other limits.
 fn within<'a>(plan: &Plan<'a>, limits: Limits) -> Plan<'a>
@@ -26,6 +26,28 @@ fn within<'a>(plan: &Plan<'a>, limits: Limits) -> Plan<'a>
         ..*plan
     }
 }
+
+/// How many bytes the font has that a plan makes within other limits; none where it makes none.
+fn size_within(
+    alloc: Global,
+    font: &[u8],
+    plan: &Plan<'_>,
+    limits: Limits,
+) -> Result<Option<usize>, AllocError>
+    ensures { IfOk result (IsSize (within limits plan.now) font.now) }
+{
+    match make_planned(alloc, font, &within(plan, limits)) {
+        Ok(outcome) => Ok(Some(outcome.made.font.len())),
+        Err(failure) => {
+            if is_of_memory(&failure) {
+                return Err(AllocError);
+            }
+            Ok(None)
+        }
+    }
+}
+
+// ---- twice the limits
 
 /// Twice a number, if that fits 32 bits, else the greatest one.
 fn twice(number: u32) -> u32
@@ -47,22 +69,6 @@ fn twice_deep(depth: u8) -> u8
     if depth < 0x80 { 2 * depth } else { u8::MAX }
 }
 
-/// That the new font has more bytes than it may have, if so: one is made that may have twice as many.
-fn too_long(alloc: Global, font: &[u8], plan: &Plan<'_>) -> Option<Hint>
-    ensures { IfSome result (IsLimitHint plan.now font.now) }
-{
-    let limits = plan.task.options.limits;
-    let most = limits.bytes()?;
-    let longer = limits.with_bytes(twice(most));
-    let Ok(outcome) = make_planned(alloc, font, &within(plan, longer)) else {
-        return None;
-    };
-    if outcome.made.font.len() > most as usize {
-        return Some(Hint::MoreBytes(most));
-    }
-    None
-}
-
 /// Limits with a bound on twice the bytes, if these have one.
 fn with_twice_bytes(limits: Limits, bytes: Option<u32>) -> Limits
     ensures tokens { result.tokens ≡ limits.tokens }
@@ -75,51 +81,115 @@ fn with_twice_bytes(limits: Limits, bytes: Option<u32>) -> Limits
     }
 }
 
-/// That a font is made within twice the limits, if so.
-fn too_little(alloc: Global, font: &[u8], plan: &Plan<'_>) -> Option<Hint>
-    ensures { IfSome result (IsLimitHint plan.now font.now) }
+/// Twice limits.
+fn wider(limits: Limits) -> Limits
+    ensures { AreWider limits result }
+{
+    let Some(wider) = Limits::new(twice(limits.tokens()), twice_deep(limits.depth())) else {
+        return limits;
+    };
+    with_twice_bytes(wider, limits.bytes())
+}
+
+// ---- which of them is why
+
+/// That a font has more bytes than these, if so.
+fn more_than(most: u32, size: Option<usize>) -> Option<Hint>
+    ensures { result ≡ more_than most size }
+{
+    let size = size?;
+    if size > most as usize {
+        return Some(Hint::MoreBytes(most));
+    }
+    None
+}
+
+/// That the new font has more bytes than these, if so: one is made that may have twice as many.
+fn longer_than(
+    alloc: Global,
+    font: &[u8],
+    plan: &Plan<'_>,
+    most: u32,
+) -> Result<Option<Hint>, AllocError>
+    ensures { IfOk result (IsLong most plan.now font.now) }
 {
     let limits = plan.task.options.limits;
-    let more = Limits::new(twice(limits.tokens()), twice_deep(limits.depth()))?;
-    let wider = with_twice_bytes(more, limits.bytes());
-    let Ok(_outcome) = make_planned(alloc, font, &within(plan, wider)) else {
-        return None;
-    };
-    Some(Hint::LittleLimits(limits.tokens(), limits.depth()))
+    let size = size_within(alloc, font, plan, limits.with_bytes(twice(most)))?;
+    Ok(more_than(most, size))
+}
+
+/// That the new font has more bytes than it may have, if so.
+fn too_long(alloc: Global, font: &[u8], plan: &Plan<'_>) -> Result<Option<Hint>, AllocError>
+    ensures { IfOk result (IsLongIf plan.now.task.options.limits.bytes plan.now font.now) }
+{
+    let limits = plan.task.options.limits;
+    match limits.bytes() {
+        Some(most) => longer_than(alloc, font, plan, most),
+        None => Ok(None),
+    }
+}
+
+/// That limits are too little, if a font is made within twice these.
+fn little(limits: Limits, size: Option<usize>) -> Option<Hint>
+    ensures { result ≡ little limits size }
+{
+    match size {
+        Some(_) => Some(Hint::LittleLimits(limits.tokens(), limits.depth())),
+        None => None,
+    }
+}
+
+/// That the limits are too little, if so.
+fn too_little(alloc: Global, font: &[u8], plan: &Plan<'_>) -> Result<Option<Hint>, AllocError>
+    ensures { IfOk result (IsLittle plan.now font.now) }
+{
+    let limits = plan.task.options.limits;
+    let size = size_within(alloc, font, plan, wider(limits))?;
+    Ok(little(limits, size))
+}
+
+/// Which of the limits is why no font is made, if it wouldn't be too long; that there are limits, if twice these don't serve.
+fn other_limit(alloc: Global, font: &[u8], plan: &Plan<'_>) -> Result<Hint, AllocError>
+    requires { IsLongIf plan.now.task.options.limits.bytes plan.now font.now None }
+    ensures { IfOk result (IsLimitHint plan.now font.now) }
+{
+    match too_little(alloc, font, plan) {
+        Ok(Some(hint)) => Ok(hint),
+        Ok(None) => Ok(Hint::GivenLimits),
+        Err(_) => Err(AllocError),
+    }
 }
 
 /// Which of the limits is why no font is made, if twice that one serves; else that there are limits.
-fn limit_hint(alloc: Global, font: &[u8], plan: &Plan<'_>) -> Option<Hint>
-    ensures { IfSome result (IsLimitHint plan.now font.now) }
+fn limit_hint(alloc: Global, font: &[u8], plan: &Plan<'_>) -> Result<Hint, AllocError>
+    ensures { IfOk result (IsLimitHint plan.now font.now) }
 {
-    if let Some(hint) = too_long(alloc, font, plan) {
-        return Some(hint);
-    }
-    match too_little(alloc, font, plan) {
-        Some(hint) => Some(hint),
-        None => Some(Hint::GivenLimits),
+    match too_long(alloc, font, plan) {
+        Ok(Some(hint)) => Ok(hint),
+        Ok(None) => other_limit(alloc, font, plan),
+        Err(_) => Err(AllocError),
     }
 }
 
 /// Whether other limits than the default ones are given.
-fn has_limits(plan: &Plan<'_>) -> bool {
-    plan.task.options.limits != Limits::default()
+fn has_limits(limits: Limits) -> bool
+    ensures { result ≡ has_limits limits }
+{
+    let usual = Limits::default();
+    limits.tokens() != usual.tokens()
+        || (limits.depth() != usual.depth() || limits.bytes().is_some())
 }
 
-/// Which of the limits is why no font is made, where they are given and the error can come from them; that there are limits,
-/// where twice these don't serve, or memory runs out.
+/// Which of the limits is why no font is made, where they are given.
 pub fn find_limit_hint(
     alloc: Global,
-    failure: &Failure,
     font: &[u8],
     plan: &Plan<'_>,
-) -> Option<Hint>
-    ensures { IfSome result (IsLimitHint plan.now font.now) }
+) -> Result<Option<Hint>, AllocError>
+    ensures { IfOk result (IsLimitHintIf (has_limits plan.now.task.options.limits) plan.now font.now) }
 {
-    match failure {
-        Failure::Error(Error::OverflowError | Error::CFFError) if has_limits(plan) => {
-            limit_hint(alloc, font, plan)
-        }
-        _ => None,
+    if has_limits(plan.task.options.limits) {
+        return Ok(Some(limit_hint(alloc, font, plan)?));
     }
+    Ok(None)
 }

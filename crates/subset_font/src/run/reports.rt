@@ -174,9 +174,6 @@ fn report_names<R: Eprint + AllocGlobal>(rt: &R, font: &[u8], index: u32) {
     }
 }
 
-/// How many characters without a glyph, or glyphs without an outline, a line names.
-const MOST_NAMED: usize = 20;
-
 /// The names of characters.
 fn names_of(alloc: Global, characters: &[char]) -> Result<Vec<String>, AllocError> {
     let mut names = Vec::new(alloc);
@@ -196,25 +193,17 @@ fn numbers_of(alloc: Global, glyphs: &[u16]) -> Result<Vec<String>, AllocError> 
     Ok(names)
 }
 
-/// The line of names, equal ones side by side, after a text: the first twenty, each once, and how many more there are.
+/// The line of names, equal ones side by side, after a text: each once.
 fn lacking_text(alloc: Global, front: &str, names: &[String]) -> Result<String, AllocError> {
     let mut text = String::from_str(alloc, front)?;
     let mut last = "";
-    let mut count = 0usize;
     for name in names {
         if last == name.as_str() {
             continue;
         }
-        if count < MOST_NAMED {
-            text.push_str(if count == 0 { "" } else { ", " })?;
-            text.push_str(name)?;
-        }
+        text.push_str(if last.is_empty() { "" } else { ", " })?;
+        text.push_str(name)?;
         last = name.as_str();
-        count = count.saturating_add(1);
-    }
-    if count > MOST_NAMED {
-        let more = count - MOST_NAMED;
-        text.push_str(&format!(in alloc; " and {more} more")?)?;
     }
     Ok(text)
 }
@@ -321,6 +310,11 @@ fn second_look(alloc: Global, failure: &Failure, font: &[u8], plan: &Plan<'_>) -
     }
 }
 
+/// Which of the limits is why no font is made, where they are given; that there are limits, where memory runs out.
+fn limits_as_cause(alloc: Global, font: &[u8], plan: &Plan<'_>) -> Option<Hint> {
+    find_limit_hint(alloc, font, plan).unwrap_or(Some(Hint::GivenLimits))
+}
+
 /// What more is known of a font that is refused: at once, by a second look, or by the limits, which go first where charstrings are why.
 fn hint_for(alloc: Global, failure: &Failure, font: &[u8], plan: &Plan<'_>) -> Option<Hint> {
     let hint = find_hint(failure, font, &task_for_hint(font, plan));
@@ -329,19 +323,20 @@ fn hint_for(alloc: Global, failure: &Failure, font: &[u8], plan: &Plan<'_>) -> O
     }
     match failure {
         Failure::Error(Error::CFFError) => {
-            let hint = find_limit_hint(alloc, failure, font, plan);
+            let hint = limits_as_cause(alloc, font, plan);
             if hint.is_some() {
                 return hint;
             }
             second_look(alloc, failure, font, plan)
         }
-        _ => {
+        Failure::Error(Error::OverflowError) => {
             let hint = second_look(alloc, failure, font, plan);
             if hint.is_some() {
                 return hint;
             }
-            find_limit_hint(alloc, failure, font, plan)
+            limits_as_cause(alloc, font, plan)
         }
+        _ => second_look(alloc, failure, font, plan),
     }
 }
 
@@ -414,8 +409,15 @@ fn unread_file<'a>(ended: &Result<(), Failure>, input: &'a str) -> Option<&'a st
     }
 }
 
-/// Reports a run that showed something of a face, and that it has no axes, or more of why nothing is shown.
-pub fn report_shown<R: Eprint>(
+/// Reports that another face than the only one is shown as that one. It is passed over where memory runs out.
+fn report_face<R: Eprint + AllocGlobal>(rt: &R, font: &[u8], index: u32) {
+    if let Ok(text) = note_lines(rt.alloc(), &[], &[], &[], other_face(true, font, index)) {
+        print_lines(rt, &text);
+    }
+}
+
+/// Reports a run that showed something of a face, notes on it, and that it has no axes, or more of why nothing is shown.
+pub fn report_shown<R: Eprint + AllocGlobal>(
     rt: &R,
     ended: &Result<(), Failure>,
     topic: Topic,
@@ -428,6 +430,9 @@ pub fn report_shown<R: Eprint>(
     ensures { result ≡ status_of_end ended.now }
 {
     let status = report_refused(rt, ended, unread_file(ended, input), reason);
+    if ended.is_ok() {
+        report_face(rt, font, index);
+    }
     match (ended, topic) {
         (Err(failure), _) => report_hint(rt, find_axes_hint(failure, font, index)),
         (Ok(()), Topic::Axes) if !json => report_hint(rt, no_axes(font, index)),

@@ -110,7 +110,7 @@ fn reason_of(
 }
 
 /// Whether memory ran out.
-fn is_of_memory(failure: &Failure) -> bool {
+pub fn is_of_memory(failure: &Failure) -> bool {
     match failure {
         Failure::Error(error) => *error == Error::OutOfMemory,
         _ => false,

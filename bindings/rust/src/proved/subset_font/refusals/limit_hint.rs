@@ -2,12 +2,12 @@
 //! That the limits of `--limits` are why no font is made: with twice these one is made. So this look takes no longer than twice
 //! the limits let it.
 
+use crate::proved::subset_font::faces::accepted::is_of_memory;
 use crate::proved::subset_font::making::outcome::make_planned;
-use crate::proved::subset_task::refusals::failure::Failure;
 use crate::proved::subset_task::refusals::hint::text::Hint;
 use crate::proved::subset_task::task::{Plan, Task};
-use crate::proved::subsetter::{Error, Limits, Options};
-use crate::rattle::alloc::Global;
+use crate::proved::subsetter::{Limits, Options};
+use crate::rattle::alloc::{AllocError, Global};
 
 /// A plan within other limits.
 fn within<'a>(plan: &Plan<'a>, limits: Limits) -> Plan<'a> {
@@ -21,6 +21,26 @@ fn within<'a>(plan: &Plan<'a>, limits: Limits) -> Plan<'a> {
         ..*plan
     }
 }
+
+/// How many bytes the font has that a plan makes within other limits; none where it makes none.
+fn size_within(
+    alloc: Global,
+    font: &[u8],
+    plan: &Plan<'_>,
+    limits: Limits,
+) -> Result<Option<usize>, AllocError> {
+    match make_planned(alloc, font, &within(plan, limits)) {
+        Ok(outcome) => Ok(Some(outcome.made.font.len())),
+        Err(failure) => {
+            if is_of_memory(&failure) {
+                return Err(AllocError);
+            }
+            Ok(None)
+        }
+    }
+}
+
+// ---- twice the limits
 
 /// Twice a number, if that fits 32 bits, else the greatest one.
 fn twice(number: u32) -> u32 {
@@ -40,23 +60,6 @@ fn twice_deep(depth: u8) -> u8 {
     }
 }
 
-/// That the new font has more bytes than it may have, if so: one is made that may have twice as many.
-fn too_long(alloc: Global, font: &[u8], plan: &Plan<'_>) -> Option<Hint> {
-    let limits = plan.task.options.limits;
-    let most = limits.bytes()?;
-    let longer = limits.with_bytes(twice(most));
-    let outcome = match make_planned(alloc, font, &within(plan, longer)) {
-        Ok(outcome) => outcome,
-        _ => {
-            return None;
-        }
-    };
-    if outcome.made.font.len() > most as usize {
-        return Some(Hint::MoreBytes(most));
-    }
-    None
-}
-
 /// Limits with a bound on twice the bytes, if these have one.
 fn with_twice_bytes(limits: Limits, bytes: Option<u32>) -> Limits {
     match bytes {
@@ -65,48 +68,97 @@ fn with_twice_bytes(limits: Limits, bytes: Option<u32>) -> Limits {
     }
 }
 
-/// That a font is made within twice the limits, if so.
-fn too_little(alloc: Global, font: &[u8], plan: &Plan<'_>) -> Option<Hint> {
-    let limits = plan.task.options.limits;
-    let more = Limits::new(twice(limits.tokens()), twice_deep(limits.depth()))?;
-    let wider = with_twice_bytes(more, limits.bytes());
-    let _outcome = match make_planned(alloc, font, &within(plan, wider)) {
-        Ok(_outcome) => _outcome,
+/// Twice limits.
+fn wider(limits: Limits) -> Limits {
+    let wider = match Limits::new(twice(limits.tokens()), twice_deep(limits.depth())) {
+        Some(wider) => wider,
         _ => {
-            return None;
+            return limits;
         }
     };
-    Some(Hint::LittleLimits(limits.tokens(), limits.depth()))
+    with_twice_bytes(wider, limits.bytes())
+}
+
+// ---- which of them is why
+
+/// That a font has more bytes than these, if so.
+fn more_than(most: u32, size: Option<usize>) -> Option<Hint> {
+    let size = size?;
+    if size > most as usize {
+        return Some(Hint::MoreBytes(most));
+    }
+    None
+}
+
+/// That the new font has more bytes than these, if so: one is made that may have twice as many.
+fn longer_than(
+    alloc: Global,
+    font: &[u8],
+    plan: &Plan<'_>,
+    most: u32,
+) -> Result<Option<Hint>, AllocError> {
+    let limits = plan.task.options.limits;
+    let size = size_within(alloc, font, plan, limits.with_bytes(twice(most)))?;
+    Ok(more_than(most, size))
+}
+
+/// That the new font has more bytes than it may have, if so.
+fn too_long(alloc: Global, font: &[u8], plan: &Plan<'_>) -> Result<Option<Hint>, AllocError> {
+    let limits = plan.task.options.limits;
+    match limits.bytes() {
+        Some(most) => longer_than(alloc, font, plan, most),
+        None => Ok(None),
+    }
+}
+
+/// That limits are too little, if a font is made within twice these.
+fn little(limits: Limits, size: Option<usize>) -> Option<Hint> {
+    match size {
+        Some(_) => Some(Hint::LittleLimits(limits.tokens(), limits.depth())),
+        None => None,
+    }
+}
+
+/// That the limits are too little, if so.
+fn too_little(alloc: Global, font: &[u8], plan: &Plan<'_>) -> Result<Option<Hint>, AllocError> {
+    let limits = plan.task.options.limits;
+    let size = size_within(alloc, font, plan, wider(limits))?;
+    Ok(little(limits, size))
+}
+
+/// Which of the limits is why no font is made, if it wouldn't be too long; that there are limits, if twice these don't serve.
+fn other_limit(alloc: Global, font: &[u8], plan: &Plan<'_>) -> Result<Hint, AllocError> {
+    match too_little(alloc, font, plan) {
+        Ok(Some(hint)) => Ok(hint),
+        Ok(None) => Ok(Hint::GivenLimits),
+        Err(_) => Err(AllocError),
+    }
 }
 
 /// Which of the limits is why no font is made, if twice that one serves; else that there are limits.
-fn limit_hint(alloc: Global, font: &[u8], plan: &Plan<'_>) -> Option<Hint> {
-    if let Some(hint) = too_long(alloc, font, plan) {
-        return Some(hint);
-    }
-    match too_little(alloc, font, plan) {
-        Some(hint) => Some(hint),
-        None => Some(Hint::GivenLimits),
+fn limit_hint(alloc: Global, font: &[u8], plan: &Plan<'_>) -> Result<Hint, AllocError> {
+    match too_long(alloc, font, plan) {
+        Ok(Some(hint)) => Ok(hint),
+        Ok(None) => other_limit(alloc, font, plan),
+        Err(_) => Err(AllocError),
     }
 }
 
 /// Whether other limits than the default ones are given.
-fn has_limits(plan: &Plan<'_>) -> bool {
-    plan.task.options.limits != Limits::default()
+fn has_limits(limits: Limits) -> bool {
+    let usual = Limits::default();
+    limits.tokens() != usual.tokens()
+        || (limits.depth() != usual.depth() || limits.bytes().is_some())
 }
 
-/// Which of the limits is why no font is made, where they are given and the error can come from them; that there are limits,
-/// where twice these don't serve, or memory runs out.
+/// Which of the limits is why no font is made, where they are given.
 pub fn find_limit_hint(
     alloc: Global,
-    failure: &Failure,
     font: &[u8],
     plan: &Plan<'_>,
-) -> Option<Hint> {
-    match failure {
-        Failure::Error(Error::OverflowError | Error::CFFError) if has_limits(plan) => {
-            limit_hint(alloc, font, plan)
-        }
-        _ => None,
+) -> Result<Option<Hint>, AllocError> {
+    if has_limits(plan.task.options.limits) {
+        return Ok(Some(limit_hint(alloc, font, plan)?));
     }
+    Ok(None)
 }
