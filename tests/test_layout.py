@@ -142,7 +142,6 @@ ALLOWED = {
     ("pdf_operators", "write_whole"): (1, "`write!` reports a refused request as fmt::Error, and a number's text has no other error"),
     ("pdf_own_runs", "items_with_own"): (1, "of `figured_items` without OverflowError"),
     ("subset_args", "enum ArgsError"): (1, "the case itself"),
-    ("subset_args", "glyphs_of"): (1, "`push` takes memory and has no other error"),
     ("subset_task", "no_memory"): (4, "its argument is an allocator's refusal"),
     ("subset_task", "push_picked"): (1, "takes memory and has no other error"),
     ("subset_font", "text_of"): (1, "`json_numbers` writes into a vector, which has no other error"),

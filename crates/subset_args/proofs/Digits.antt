@@ -1,5 +1,5 @@
 -- The halves of a decimal number, digit by digit.
-use Rattle.std.proofs.Common.{◌≡◌, ℕ, pos, neg_ℤ, zero, suc, ◌+◌, ◌-◌, ◌*◌, ◌/◌, ◌%◌, ◌^◌, ◌<◌, Bool, true, List, [], ◌∷◌, length, drop, get_or, drop-cons, Option, Some, None, refl, sym, ap, ◌∙◌, arith}
+use Rattle.std.proofs.Common.{◌≡◌, ℕ, pos, neg_ℤ, zero, suc, ◌+◌, ◌-◌, ◌*◌, ◌%◌, ◌^◌, ◌<◌, Bool, true, List, [], ◌∷◌, length, drop, get_or, drop-cons, Option, Some, None, refl, sym, ap, ◌∙◌, arith}
 use Rattle.std.specs.Prelude.{◌==◌, ◌&&◌, nat_lt, not, false, if◌then◌else◌, IfSome}
 use Rattle.std.specs.List.{before_first, after_first}
 use Rattle.std.specs.Option.{option_map, option_and_then}
@@ -8,11 +8,11 @@ use Rattle.std.proofs.lemmas.Str.Parse.{IsNumeralModel, numerals_by_weight, tell
 use Rattle.std.proofs.Math.Nat.{pow-suc, mod-lt, div-one, mod-one, zero-div, zero-mod}
 use Rattle.std.proofs.Math.Seq.{drop-length}
 use Rattle.std.proofs.lemmas.Nat.{div-add-mod'}
-use Rattle.subset_args.specs.Coordinates.{Decimal, with_digits, with_parts, decimal_of, size_in, has_byte, is_point, in_32_bits, fixed, above_zero, below_zero}
-use Rattle.subset_args.specs.Halves.{halves, after_digit, halves_after, quarters}
+use Rattle.subset_args.specs.Coordinates.{Decimal, with_digits, with_parts, decimal_of, size_in, has_byte, is_point, in_32_bits, nearest_above, nearest_below, above_zero, below_zero}
+use Rattle.subset_args.specs.Halves.{halves, after_digit, halves_after, fixed_above, fixed_below}
 use Rattle.subset_args.specs.declared.coordinates.Halves.{Halves}
 use Rattle.subset_args.specs.Words.{number_in_bits}
-use Rattle.subset_args.proofs.Quotients.{quotient_of_sum, rest_of_sum, quotient_by_ten, more_by_ten, nearest_above, nearest_below}
+use Rattle.subset_args.proofs.Quotients.{quotient_of_sum, rest_of_sum, quotient_by_ten, more_by_ten, above_by_halves, below_by_halves}
 
 -- the number that digits write, by the weight of each
 abbrev weigh : List ℕ → ℕ
@@ -57,21 +57,22 @@ with_units digits units all =
     here ∙ ap (λ (v : ℕ). halves (with_parts (units * m + v) m)) same
 
 -- the number that is nearest
-pub fixed_above : (o : Option Decimal) (h : Halves) → IfSome o (λ d. 0 < d.parts) → Some h ≡ option_map halves o → fixed (pos (quarters h)) 4 ≡ option_and_then (λ d. fixed (pos (d.count * 65536)) d.parts) o
-fixed_above None h above e = absurd cc
-fixed_above (Some d) h above e =
-    let is : h ≡ halves d = cc in
-    let split : d.count * 131072 ≡ d.count * 131072 / d.parts * d.parts + d.count * 131072 % d.parts = sym (div-add-mod' (d.count * 131072) d.parts) in
-    let near = nearest_above d.count d.parts (d.count * 131072 / d.parts) (d.count * 131072 % d.parts) split (mod-lt (d.count * 131072) above) in
-    ap (λ (x : Halves). fixed (pos (quarters x)) 4) is ∙ ap in_32_bits (sym near)
+split : (d : Decimal) → d.count * 131072 ≡ (halves d).count * d.parts + d.count * 131072 % d.parts
+split d = sym (div-add-mod' (d.count * 131072) d.parts)
 
-pub fixed_below : (o : Option Decimal) (h : Halves) → IfSome o (λ d. 0 < d.parts) → Some h ≡ option_map halves o → fixed (neg_ℤ (pos (quarters h))) 4 ≡ option_and_then (λ d. fixed (neg_ℤ (pos (d.count * 65536))) d.parts) o
-fixed_below None h above e = absurd cc
-fixed_below (Some d) h above e =
+pub near_above : (o : Option Decimal) (h : Halves) → IfSome o (λ d. 0 < d.parts) → Some h ≡ option_map halves o → fixed_above h ≡ option_and_then (λ d. in_32_bits (nearest_above (d.count * 65536) d.parts)) o
+unfolding nearest_above
+near_above None h above e = absurd cc
+near_above (Some d) h above e =
     let is : h ≡ halves d = cc in
-    let split : d.count * 131072 ≡ d.count * 131072 / d.parts * d.parts + d.count * 131072 % d.parts = sym (div-add-mod' (d.count * 131072) d.parts) in
-    let near = nearest_below d.count d.parts (d.count * 131072 / d.parts) (d.count * 131072 % d.parts) split (mod-lt (d.count * 131072) above) in
-    ap (λ (x : Halves). fixed (neg_ℤ (pos (quarters x))) 4) is ∙ ap in_32_bits (sym near)
+    ap fixed_above is ∙ ap (λ (n : ℕ). in_32_bits (pos n)) (sym (above_by_halves d.count d.parts _ _ (split d) (mod-lt (d.count * 131072) above)))
+
+pub near_below : (o : Option Decimal) (h : Halves) → IfSome o (λ d. 0 < d.parts) → Some h ≡ option_map halves o → fixed_below h ≡ option_and_then (λ d. in_32_bits (nearest_below (d.count * 65536) d.parts)) o
+unfolding nearest_below
+near_below None h above e = absurd cc
+near_below (Some d) h above e =
+    let is : h ≡ halves d = cc in
+    ap fixed_below is ∙ ap (λ (n : ℕ). in_32_bits (neg_ℤ (pos n))) (sym (below_by_halves d.count d.parts _ _ (split d) (mod-lt (d.count * 131072) above)))
 
 -- a unit has parts
 by_test : (b : Bool) (digits : List ℕ) (o : Option ℕ) → IfSome (if b then option_map (with_digits digits) o else None) (λ d. 0 < d.parts)
@@ -113,18 +114,18 @@ decimal_is whole digits units test e =
     let all : all_ascii_digits digits ≡ true = grind arith in
     ap Some (with_units digits units all) ∙ (ap (λ (o : Option ℕ). option_map halves (option_map (with_digits digits) o)) e ∙ ap (λ (b : Bool). option_map halves (if b then option_map (with_digits digits) (number_in_bits 16 whole) else None)) (sym test))
 
-pub above_is : (word : List ℕ) (h : Halves) → Some h ≡ option_map halves (size_in word) → fixed (pos (quarters h)) 4 ≡ above_zero word
-above_is word h e = fixed_above (size_in word) h (parts_above word) e
+pub above_is : (word : List ℕ) (h : Halves) → Some h ≡ option_map halves (size_in word) → fixed_above h ≡ above_zero word
+above_is word h e = near_above (size_in word) h (parts_above word) e
 
-pub below_is : (word : List ℕ) (h : Halves) → Some h ≡ option_map halves (size_in word) → fixed (neg_ℤ (pos (quarters h))) 4 ≡ below_zero word
-below_is word h e = fixed_below (size_in word) h (parts_above word) e
+pub below_is : (word : List ℕ) (h : Halves) → Some h ≡ option_map halves (size_in word) → fixed_below h ≡ below_zero word
+below_is word h e = near_below (size_in word) h (parts_above word) e
 
 no_size : (o : Option Decimal) → None ≡ option_map halves o → o ≡ None
 no_size None e = refl
 no_size (Some d) e = absurd cc
 
 pub none_above : (word : List ℕ) → None ≡ option_map halves (size_in word) → None ≡ above_zero word
-none_above word e = sym (ap (option_and_then (λ d. fixed (pos (d.count * 65536)) d.parts)) (no_size (size_in word) e))
+none_above word e = sym (ap (option_and_then (λ d. in_32_bits (nearest_above (d.count * 65536) d.parts))) (no_size (size_in word) e))
 
 pub none_below : (word : List ℕ) → None ≡ option_map halves (size_in word) → None ≡ below_zero word
-none_below word e = sym (ap (option_and_then (λ d. fixed (neg_ℤ (pos (d.count * 65536))) d.parts)) (no_size (size_in word) e))
+none_below word e = sym (ap (option_and_then (λ d. in_32_bits (nearest_below (d.count * 65536) d.parts))) (no_size (size_in word) e))

@@ -1,6 +1,6 @@
 -- What options request, one after another.
 use Rattle.std.proofs.Common.{◌≡◌, List, [], ◌∷◌, ◌++◌, Result, Ok, Err, refl, sym, ap, ◌∙◌, append_assoc}
-use Rattle.subset_args.specs.Mistakes.{Fault, Fails, ◌>>=◌, fault_view}
+use Rattle.subset_args.specs.Mistakes.{Fault, Fails, ◌>>=◌}
 use Rattle.subset_args.specs.Options.{GlyphSource}
 use Rattle.subset_args.specs.Request.{RequestedGlyphs, requested_by, each_requested}
 use Rattle.subset_args.specs.declared.mistakes.Unread.{Unread}

@@ -1,12 +1,11 @@
 -- User coordinates on the axes of a variable font, as an argument writes them: `wght=650,wdth=87.5`.
-use Rattle.std.specs.Prelude.{ℕ, ◌+◌, ◌*◌, ◌^◌, ◌==◌, ◌&&◌, nat_lt, Bool, if◌then◌else◌, List, [], ◌∷◌, length, Option}
+use Rattle.std.specs.Prelude.{ℕ, ◌+◌, ◌-◌, ◌*◌, ◌/◌, ◌^◌, ◌==◌, ◌&&◌, nat_lt, Bool, if◌then◌else◌, List, [], ◌∷◌, length, Option}
 use Rattle.std.specs.Prelude.{Some, None, ℤ, pos, negsuc, neg_ℤ}
 use Rattle.std.specs.Option.{option_map, option_and_then}
 use Rattle.std.specs.List.{slice_split, before_first, after_first, position_or_len}
 use Rattle.std.specs.Str.{all_ascii_digits}
 use Rattle.std.specs.Str.Parse.{digits_value}
 use Rattle.subsetter_base.specs.declared.tag.Tag.{Tag}
-use Rattle.subsetter_variation.specs.Nearest.{nearest}
 use Rattle.subset_args.specs.Words.{number_in_bits, tag_of}
 
 -- ---- a decimal number, in 65536ths
@@ -50,16 +49,20 @@ abbrev pub in_32_bits : ℤ → Option ℤ
 in_32_bits (pos n) = if nat_lt n (2 ^ 31) then Some (pos n) else None
 in_32_bits (negsuc n) = if nat_lt n (2 ^ 31) then Some (negsuc n) else None
 
--- to the nearest 65536th, halves up
-abbrev pub fixed : ℤ → ℕ → Option ℤ
-fixed count parts = in_32_bits (nearest count parts)
+-- n of p equal parts, to the nearest whole number, halves up
+unfoldable pub nearest_above : ℕ → ℕ → ℤ
+nearest_above n p = pos ((2 * n + p) / (2 * p))
 
--- after a minus, and without one
+-- the same below zero
+unfoldable pub nearest_below : ℕ → ℕ → ℤ
+nearest_below n p = neg_ℤ (pos ((2 * n + (p - 1)) / (2 * p)))
+
+-- after a minus, and without one: to the nearest 65536th
 abbrev pub below_zero : List ℕ → Option ℤ
-below_zero word = option_and_then (λ d. fixed (neg_ℤ (pos (d.count * 65536))) d.parts) (size_in word)
+below_zero word = option_and_then (λ d. in_32_bits (nearest_below (d.count * 65536) d.parts)) (size_in word)
 
 abbrev pub above_zero : List ℕ → Option ℤ
-above_zero word = option_and_then (λ d. fixed (pos (d.count * 65536)) d.parts) (size_in word)
+above_zero word = option_and_then (λ d. in_32_bits (nearest_above (d.count * 65536) d.parts)) (size_in word)
 
 -- a minus may be first, and nowhere else
 abbrev pub with_minus : List ℕ → List ℕ → Option ℤ

@@ -1,8 +1,9 @@
 -- How far a charstring may run, and how many bytes the font may have, as an argument writes it.
-use Rattle.std.specs.Prelude.{ℕ, ◌==◌, if◌then◌else◌, List, Option, Some, None}
+use Rattle.std.specs.Prelude.{ℕ, ◌==◌, Bool, if◌then◌else◌, List, Option, Some, None}
 use Rattle.std.specs.Option.{option_map, option_and_then}
-use Rattle.std.specs.List.{before_first, after_first, list_any}
+use Rattle.std.specs.List.{before_first, after_first}
 use Rattle.subset_args.specs.Words.{number_in_bits}
+use Rattle.subset_args.specs.Coordinates.{has_byte}
 use Rattle.subset_args.specs.declared.limits.RunLimits.{RunLimits}
 
 -- the limits on tokens and on depth; and the bound on bytes, if there is one
@@ -23,18 +24,18 @@ limits_from tokens depth bytes =
     option_and_then (λ t. option_map (λ d. record { tokens = t; depth = d; bytes = bytes }) (depth_in depth))
     (number_in_bits 32 tokens)
 
--- before a comma (44), and after it
-abbrev pub front : List ℕ → List ℕ
-front word = before_first (λ b. b == 44) word
+abbrev pub is_comma : ℕ → Bool
+is_comma b = b == 44
 
-abbrev pub rest : List ℕ → List ℕ
-rest word = after_first (λ b. b == 44) word
+-- after the tokens: the depth, and the bytes after a comma, if there is one
+abbrev pub limits_after : List ℕ → List ℕ → Option Bounds
+limits_after tokens word =
+    if has_byte is_comma word
+    then option_and_then (λ bytes. limits_from tokens (before_first is_comma word) (Some bytes))
+    (number_in_bits 32 (after_first is_comma word))
+    else limits_from tokens word None
 
--- the limits that an argument writes: the tokens before its first comma, the depth before the next, if there is one,
--- and the bytes after that
+-- the limits that an argument writes, `TOKENS,DEPTH[,BYTES]`
 abbrev pub limits_in : List ℕ → Option Bounds
 limits_in word =
-    if list_any (λ b. b == 44) (rest word)
-    then option_and_then (λ bytes. limits_from (front word) (front (rest word)) (Some bytes))
-    (number_in_bits 32 (rest (rest word)))
-    else limits_from (front word) (rest word) None
+    if has_byte is_comma word then limits_after (before_first is_comma word) (after_first is_comma word) else None

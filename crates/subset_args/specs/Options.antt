@@ -28,7 +28,7 @@ use Rattle.subset_args.specs.declared.listing.lists.FileKind.TheVariants.{Glyphs
 use Rattle.subset_args.specs.declared.listing.lists.FileKind.TheVariants.{Characters as OfCharacters, Text as OfText}
 
 -- the option without a value that an argument is
-abbrev pub switch_of : List ℕ → Option Switch
+unfoldable pub switch_of : List ℕ → Option Switch
 switch_of word =
     if bytes_eq word (codes "--widths") then Some Widths
     else if bytes_eq word (codes "--no-hinting") then Some NoHinting
@@ -44,7 +44,7 @@ switch_of word =
     else None
 
 -- the option that a value follows, which an argument is
-abbrev pub setting_of : List ℕ → Option Setting
+unfoldable pub setting_of : List ℕ → Option Setting
 setting_of word =
     if bytes_eq word (codes "--limits") then Some Limits
     else if bytes_eq word (codes "--gids-file") then Some GidsFile
@@ -78,7 +78,7 @@ first_of (Some switch) setting other = IsSwitch switch
 first_of None (Some setting) other = IsSetting setting
 first_of None None other = other
 
-abbrev pub kind_of : List ℕ → Kind
+unfoldable pub kind_of : List ℕ → Kind
 kind_of word = first_of (switch_of word) (setting_of word) (other_kind word)
 
 -- whether an option without a value was given

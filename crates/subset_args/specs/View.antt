@@ -1,5 +1,5 @@
 -- What was read of the arguments, as the definitions name it.
-use Rattle.std.specs.Prelude.{ℕ, List, [], ◌∷◌, map, String, string_bytes}
+use Rattle.std.specs.Prelude.{ℕ, List, map, take, String, string_bytes}
 use Rattle.std.specs.Global.{Global}
 use Rattle.std.specs.Option.{option_copied, option_map}
 use Rattle.subset_args.specs.Limits.{limits_view}
@@ -11,12 +11,12 @@ use Rattle.subset_args.specs.Request.{version, subset, batch, show}
 use Rattle.subset_args.specs.declared.options.names.Source.{Source}
 use Rattle.subset_args.specs.declared.options.names.Source.TheVariants.{File, Text, InList, Characters as InCodes}
 use Rattle.subset_args.specs.declared.options.sources.Sources.{Sources}
-use Rattle.subset_args.specs.declared.options.sources.Sources.TheVariants.{Nowhere, One, Two, Three, Four, Five, Six}
 use Rattle.subset_args.specs.declared.options.chosen.Chosen.{Chosen}
 use Rattle.subset_args.specs.declared.jobs.forms.Asked.{Asked}
 use Rattle.subset_args.specs.declared.options.joined.Given.{Given}
 use Rattle.subset_args.specs.declared.jobs.forms.Parsed.{Parsed}
-use Rattle.subset_args.specs.declared.jobs.forms.Parsed.TheVariants.{Help, Version, Chosen as IsChosen}
+use Rattle.subset_args.specs.declared.jobs.forms.Ending.{Ending}
+use Rattle.subset_args.specs.declared.jobs.forms.Ending.TheVariants.{Help, Version, Words}
 use Rattle.subset_args.specs.declared.jobs.command.Glyphs.{Glyphs}
 use Rattle.subset_args.specs.declared.jobs.command.Glyphs.TheVariants.{Listed, Characters, InFile, ByText, Every}
 use Rattle.subset_args.specs.declared.jobs.command.Position.{Position}
@@ -37,14 +37,7 @@ source_view (InList text) = in_list text.now
 source_view (InCodes text) = in_codes text.now
 
 abbrev pub sources_view : Sources → List GlyphSource
-sources_view Nowhere = []
-sources_view (One a) = source_view a ∷ []
-sources_view (Two a b) = source_view a ∷ source_view b ∷ []
-sources_view (Three a b c) = source_view a ∷ source_view b ∷ source_view c ∷ []
-sources_view (Four a b c d) = source_view a ∷ source_view b ∷ source_view c ∷ source_view d ∷ []
-sources_view (Five a b c d e) = source_view a ∷ source_view b ∷ source_view c ∷ source_view d ∷ source_view e ∷ []
-sources_view (Six a b c d e f) =
-    source_view a ∷ source_view b ∷ source_view c ∷ source_view d ∷ source_view e ∷ source_view f ∷ []
+sources_view sources = map source_view (take sources.count sources.places)
 
 abbrev pub chosen_view : Chosen → Choice
 chosen_view c =
@@ -64,10 +57,13 @@ chosen_view c =
 abbrev pub given_view : Given → GivenValue
 given_view g = record { setting = g.setting; word = g.word.now; value = g.value.now }
 
+abbrev pub ended_by : Ending → Choice → List (List ℕ) → Options
+ended_by Help choice words = helped
+ended_by Version choice words = versioned
+ended_by (Words is_ended) choice words = chosen choice is_ended words
+
 abbrev pub parsed_view : Parsed → Options
-parsed_view Help = helped
-parsed_view Version = versioned
-parsed_view (IsChosen choice is_ended words) = chosen (chosen_view choice) is_ended (words_view words.now)
+parsed_view p = ended_by p.ending (chosen_view p.chosen) (words_view p.words.now)
 
 abbrev pub asked_view : Asked → AskedFor
 asked_view a =

@@ -4,8 +4,8 @@
 
 ghost use Rattle.std.specs.Prelude.{◌≡◌, ◌⊎◌, ◌≤◌, ◌<◌, ◌*◌, ◌++◌, ◌&&◌, nat_lt, ◌∷◌, [], map, OnOk, IfOk, IfErr, IfSome, Some, None, length, pos, neg_ℤ, unsigned_abs};
 ghost use Rattle.std.specs.Option.{option_map};
-ghost use Rattle.subset_args.specs.Coordinates.{decimal_of, size_in, fixed, below_zero, above_zero, with_minus, value_in, coordinate_of, coordinate_in, coordinates_of, coordinates_in};
-ghost use Rattle.subset_args.specs.Halves.{halves, after_digit, halves_after, quarters};
+ghost use Rattle.subset_args.specs.Coordinates.{decimal_of, size_in, below_zero, above_zero, with_minus, value_in, coordinate_of, coordinate_in, coordinates_of, coordinates_in};
+ghost use Rattle.subset_args.specs.Halves.{halves, after_digit, halves_after, fixed_above, fixed_below};
 ghost use Rattle.std.specs.Str.{all_ascii_digits};
 ghost use Rattle.subset_args.specs.declared.jobs.command.ArgsError.TheVariants.{Usage, OutOfMemory};
 
@@ -13,7 +13,6 @@ use crate::jobs::command::ArgsError;
 use crate::words::{parts_of, tag_of, u16_of, u32_of};
 use std::alloc::{AllocError, Global};
 use subsetter_base::Tag;
-use subsetter_variation::rounding::nearest;
 
 /// A number without a sign: how many halves of a 65536th it has, and whether there is more.
 #[derive(Clone, Copy)]
@@ -105,40 +104,22 @@ fn size_of(word: &str) -> Option<Halves>
     }
 }
 
-/// Quarters of a 65536th, in the whole 65536th that is nearest, if it fits.
-fn fixed(quarters: i64) -> Option<i32>
-    requires { unsigned_abs quarters ≤ 18000000000 }
-    ensures { result ≡ fixed quarters 4 }
-{
-    i32::try_from(nearest(quarters, 4)).ok()
-}
-
-/// A number in quarters that is rounded to the same 65536th as these halves.
-fn quarters_of(halves: Halves) -> u64
+/// Halves of a 65536th, in the whole 65536th that is nearest, halves up, if it fits.
+fn fixed_above(halves: Halves) -> Option<i32>
     requires { halves.count ≤ 8600000000 }
-    ensures value { result ≡ quarters halves }
-    ensures bound { result ≤ 18000000000 }
+    ensures { result ≡ fixed_above halves }
 {
-    let count = 2 * halves.count;
-    if halves.more { count + 1 } else { count }
+    let count = (halves.count + 1) / 2;
+    i32::try_from(count as i64).ok()
 }
 
-/// The negative of a count.
-fn negative(count: u64) -> i64
-    requires { count ≤ 18000000000 }
-    ensures value { result ≡ neg_ℤ (pos count) }
-    ensures bound { unsigned_abs result ≤ 18000000000 }
+/// The same below zero.
+fn fixed_below(halves: Halves) -> Option<i32>
+    requires { halves.count ≤ 8600000000 }
+    ensures { result ≡ fixed_below halves }
 {
-    -(count as i64)
-}
-
-/// A count as a signed number.
-fn positive(count: u64) -> i64
-    requires { count ≤ 18000000000 }
-    ensures value { result ≡ pos count }
-    ensures bound { unsigned_abs result ≤ 18000000000 }
-{
-    count as i64
+    let count = (halves.count + u64::from(halves.more)) / 2;
+    i32::try_from(-(count as i64)).ok()
 }
 
 /// A value after a minus, in 65536ths.
@@ -146,8 +127,7 @@ fn positive(count: u64) -> i64
 fn below_zero(word: &str) -> Option<i32>
     ensures { result ≡ below_zero word.now }
 {
-    let size = size_of(word)?;
-    fixed(negative(quarters_of(size)))
+    fixed_below(size_of(word)?)
 }
 
 /// A value without a minus, in 65536ths.
@@ -155,8 +135,7 @@ fn below_zero(word: &str) -> Option<i32>
 fn above_zero(word: &str) -> Option<i32>
     ensures { result ≡ above_zero word.now }
 {
-    let size = size_of(word)?;
-    fixed(positive(quarters_of(size)))
+    fixed_above(size_of(word)?)
 }
 
 /// A value with a minus between two texts, in 65536ths: nothing is before it.

@@ -5,7 +5,7 @@ ghost use Rattle.std.specs.Option.{option_copied, option_map};
 ghost use Rattle.std.specs.Result.{is_ok};
 ghost use Rattle.subset_args.specs.Forms.{is_same, without_pdf, wrong_file, wrong_pdf, names_position, begins_with_digit, numbers, listed_after, plain_with, plain_at, plain, unless_after, joined_at, parsed, has_output, free, first_late, say_position, beside_input, wrong_at, second, before, alone, parsed_after, from_input, asked};
 ghost use Rattle.subset_args.specs.Mistakes.{fault_view, read_view};
-ghost use Rattle.subset_args.specs.View.{chosen_view, given_view, parsed_view, asked_view, words_view};
+ghost use Rattle.subset_args.specs.View.{chosen_view, ended_by, given_view, parsed_view, asked_view, words_view};
 
 use crate::mistakes::{Mistake, Wrong, mistake_in};
 use crate::options::chosen::Chosen;
@@ -171,15 +171,24 @@ fn plain<'a>(chosen: Chosen<'a>, words: &'a [String]) -> Result<Asked<'a>, Mista
     }
 }
 
-/// What the options before other arguments say.
+/// What ends the options before other arguments.
 #[derive(Clone, Copy)]
-pub enum Parsed<'a> {
+pub enum Ending {
     /// The help is wanted.
     Help,
     /// The version is wanted.
     Version,
-    /// What is chosen, whether `--` ended the options, and the arguments after them.
-    Chosen(Chosen<'a>, bool, &'a [String]),
+    /// The other arguments, and whether `--` is before them.
+    Words(bool),
+}
+
+/// What the options before other arguments say.
+#[derive(Clone, Copy)]
+pub struct Parsed<'a> {
+    pub chosen: Chosen<'a>,
+    pub ending: Ending,
+    /// The arguments after the options.
+    pub words: &'a [String],
 }
 
 /// An option that is no option after IN.
@@ -194,6 +203,17 @@ fn unless_after<'a>(
         return Err(mistake_in(Wrong::Late, word));
     }
     Ok(parsed)
+}
+
+/// What the options say that end so.
+fn parsed_by<'a>(chosen: Chosen<'a>, ending: Ending, words: &'a [String]) -> Parsed<'a>
+    ensures { parsed_view result ≡ ended_by ending (chosen_view chosen.entry) (words_view words.now) }
+{
+    Parsed {
+        chosen,
+        ending,
+        words,
+    }
 }
 
 /// Whether the arguments from IN on are of the plain form.
@@ -230,7 +250,7 @@ pub fn parse_options<'a>(
     ensures { read_view parsed_view result ≡ parsed None (chosen_view chosen.entry) is_after (words_view words.now) }
 {
     let [word, following @ ..] = words else {
-        return Ok(Parsed::Chosen(chosen, false, words));
+        return Ok(parsed_by(chosen, Ending::Words(false), words));
     };
     match kind_of(word) {
         Kind::Switch(switch) => {
@@ -242,15 +262,21 @@ pub fn parse_options<'a>(
             };
             parse_options(chosen.with_setting(setting, word, value)?, is_after, rest)
         }
-        Kind::Help => unless_after(is_after, word, Parsed::Help),
-        Kind::Version => unless_after(is_after, word, Parsed::Version),
-        Kind::End => Ok(Parsed::Chosen(chosen, true, following)),
+        Kind::Help => unless_after(is_after, word, parsed_by(chosen, Ending::Help, following)),
+        Kind::Version => {
+            unless_after(
+                is_after,
+                word,
+                parsed_by(chosen, Ending::Version, following),
+            )
+        }
+        Kind::End => Ok(parsed_by(chosen, Ending::Words(true), following)),
         Kind::Place => match joined_at(chosen, is_after, word, words) {
             Some(given) => {
                 let more = chosen.with_setting(given.setting, given.word, given.value)?;
                 parse_options(more, is_after, following)
             }
-            None => Ok(Parsed::Chosen(chosen, false, words)),
+            None => Ok(parsed_by(chosen, Ending::Words(false), words)),
         },
     }
 }
@@ -378,11 +404,18 @@ fn alone<'a>(
 ) -> Result<Asked<'a>, Mistake<'a>>
     ensures { read_view asked_view result ≡ alone (fault_view wrong.entry) input.now (words_view following.now) (parsed_view parsed.entry) }
 {
-    match parsed {
-        Parsed::Help => Err(wrong),
-        Parsed::Version => Err(wrong),
-        Parsed::Chosen(chosen, is_ended, words) => {
-            before(wrong, chosen, is_ended, input, following, words)
+    match parsed.ending {
+        Ending::Help => Err(wrong),
+        Ending::Version => Err(wrong),
+        Ending::Words(is_ended) => {
+            before(
+                wrong,
+                parsed.chosen,
+                is_ended,
+                input,
+                following,
+                parsed.words,
+            )
         }
     }
 }
@@ -396,7 +429,7 @@ fn parse_after<'a>(
     ensures { read_view parsed_view result ≡ parsed_after (chosen_view chosen.entry) is_ended (words_view words.now) }
 {
     if is_ended {
-        return Ok(Parsed::Chosen(chosen, true, words));
+        return Ok(parsed_by(chosen, Ending::Words(true), words));
     }
     parse_options(chosen, true, words)
 }

@@ -6,6 +6,7 @@ ghost use Rattle.subset_args.specs.Request.{glyph_list, of_list, requested, requ
 ghost use Rattle.subset_args.specs.Listing.ListView.{list_view};
 ghost use Rattle.subset_args.specs.Mistakes.{fault_view, Gives};
 ghost use Rattle.subset_args.specs.Options.{in_codes, in_list};
+ghost use Rattle.subset_args.specs.Words.{number_in_bits};
 ghost use Rattle.subset_args.specs.View.{source_view, chosen_view, requested_view, position_view, pdf_view};
 ghost use Rattle.subset_args.specs.declared.jobs.command.ArgsError.TheVariants.{Usage, OutOfMemory};
 
@@ -20,6 +21,24 @@ use crate::options::names::Source;
 use crate::words::{parts_of, u16_of};
 use std::alloc::{AllocError, Global};
 
+/// Adds a glyph.
+fn add(glyphs: &mut Vec<u16>, glyph: u16) -> Result<(), AllocError>
+    ensures { OnOk result (glyphs.new.items ≡ glyphs.old.items ++ glyph ∷ []) }
+{
+    glyphs.push(glyph)?;
+    Ok(())
+}
+
+/// Adds the glyph that a part says.
+fn push_glyph(glyphs: &mut Vec<u16>, part: &str) -> Result<(), ArgsError>
+    ensures ok { OnOk result (option_map (λ glyph. glyphs.old.items ++ glyph ∷ []) (number_in_bits 16 part.now) ≡ Some glyphs.new.items) }
+    ensures err { IfErr result (λ e. (e ≡ OutOfMemory) ⊎ ((e ≡ Usage) × (number_in_bits 16 part.now ≡ None))) }
+{
+    let glyph = u16_of(part).ok_or(ArgsError::Usage)?;
+    add(glyphs, glyph)?;
+    Ok(())
+}
+
 /// The glyphs of a list with a comma between each two.
 fn glyphs_of(alloc: Global, list: &str) -> Result<Vec<u16>, ArgsError>
     ensures ok { IfOk result (λ v. glyph_list list.now ≡ Some v.items) }
@@ -28,8 +47,7 @@ fn glyphs_of(alloc: Global, list: &str) -> Result<Vec<u16>, ArgsError>
     let parts = parts_of(alloc, list)?;
     let mut glyphs = Vec::new(alloc);
     for part in &parts {
-        let glyph = u16_of(part).ok_or(ArgsError::Usage)?;
-        glyphs.push(glyph).map_err(|_| ArgsError::OutOfMemory)?;
+        push_glyph(&mut glyphs, part)?;
     }
     Ok(glyphs)
 }

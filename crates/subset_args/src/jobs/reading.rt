@@ -8,7 +8,7 @@ ghost use Rattle.subset_args.specs.declared.mistakes.Wrong.TheVariants.{AfterSho
 ghost use Rattle.subset_args.specs.View.{chosen_view, parsed_view, asked_view, requested_view, position_view, job_view, command_view, words_view};
 
 use crate::jobs::command::{Command, Glyphs, Job, Position, Topic};
-use crate::jobs::forms::{Asked, Parsed, asked_by, parse_options, wrong_pdf};
+use crate::jobs::forms::{Asked, Ending, Parsed, asked_by, parse_options, wrong_pdf};
 use crate::jobs::parts::{is_stream, owned, read_at, read_glyphs, read_pdf, wrong_stream};
 use crate::mistakes::{Mistake, Unread, Wrong, mistake_in};
 use crate::options::chosen::Chosen;
@@ -84,11 +84,12 @@ fn read_job<'a>(
 fn read_parsed<'a>(alloc: Global, parsed: Parsed<'a>) -> Result<Command, Unread<'a>>
     ensures { Gives command_view result (command_of (parsed_view parsed.entry)) }
 {
-    match parsed {
-        Parsed::Help => Ok(Command::Help),
-        Parsed::Version => Ok(Command::Version),
-        Parsed::Chosen(chosen, is_ended, words) => {
-            Ok(Command::Subset(read_job(alloc, chosen, is_ended, words)?))
+    match parsed.ending {
+        Ending::Help => Ok(Command::Help),
+        Ending::Version => Ok(Command::Version),
+        Ending::Words(is_ended) => {
+            let job = read_job(alloc, parsed.chosen, is_ended, parsed.words)?;
+            Ok(Command::Subset(job))
         }
     }
 }

@@ -139,6 +139,7 @@ pub const OPTIONS: [&str; 30] = [
 ];
 
 /// The option without a value that an argument is.
+#[tactic(auto, unfolding(crate::specs::Options::switch_of))]
 fn switch_of(word: &str) -> Option<Switch>
     ensures { result ≡ switch_of word.now }
 {
@@ -159,6 +160,7 @@ fn switch_of(word: &str) -> Option<Switch>
 }
 
 /// The option that a value follows, which an argument is.
+#[tactic(auto, unfolding(crate::specs::Options::setting_of))]
 pub fn setting_of(word: &str) -> Option<Setting>
     ensures { result ≡ setting_of word.now }
 {
@@ -183,6 +185,7 @@ pub fn setting_of(word: &str) -> Option<Setting>
 }
 
 /// What an argument before IN is.
+#[tactic(auto, unfolding(crate::specs::Options::kind_of))]
 pub fn kind_of(word: &str) -> Kind
     ensures { result ≡ kind_of word.now }
 {

@@ -2,7 +2,7 @@
 
 ghost use Rattle.std.specs.Prelude.{◌≡◌};
 ghost use Rattle.std.specs.Option.{option_map};
-ghost use Rattle.subset_args.specs.Limits.{limits_from, limits_in, limits_view};
+ghost use Rattle.subset_args.specs.Limits.{limits_after, limits_from, limits_in, limits_view};
 ghost use Rattle.subset_args.specs.Options.{coding_in, holds_rights};
 
 use crate::limits::RunLimits;
@@ -35,13 +35,20 @@ fn limits_from(tokens: &str, depth: &str, bytes: Option<u32>) -> Option<RunLimit
     RunLimits::new(u32_of(tokens)?, u8_of(depth)?, bytes)
 }
 
+/// The limits that an argument writes after the tokens.
+fn limits_after(tokens: &str, rest: &str) -> Option<RunLimits>
+    ensures { option_map limits_view result ≡ limits_after tokens.now rest.now }
+{
+    match rest.split_once(',') {
+        Some((depth, bytes)) => limits_from(tokens, depth, Some(u32_of(bytes)?)),
+        None => limits_from(tokens, rest, None),
+    }
+}
+
 /// The limits that an argument `TOKENS,DEPTH[,BYTES]` writes.
 pub fn limits_of(word: &str) -> Option<RunLimits>
     ensures { option_map limits_view result ≡ limits_in word.now }
 {
     let (tokens, rest) = word.split_once(',')?;
-    match rest.split_once(',') {
-        Some((depth, bytes)) => limits_from(tokens, depth, Some(u32_of(bytes)?)),
-        None => limits_from(tokens, rest, None),
-    }
+    limits_after(tokens, rest)
 }

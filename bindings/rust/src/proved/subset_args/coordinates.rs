@@ -8,7 +8,6 @@ use crate::rattle::prelude::Vec;
 use crate::proved::subset_args::jobs::command::ArgsError;
 use crate::proved::subset_args::words::{parts_of, tag_of, u16_of};
 use crate::proved::subsetter_base::Tag;
-use crate::proved::subsetter_variation::rounding::nearest;
 use crate::rattle::alloc::{AllocError, Global};
 
 /// A number without a sign: how many halves of a 65536th it has, and whether there is more.
@@ -81,41 +80,26 @@ fn size_of(word: &str) -> Option<Halves> {
     }
 }
 
-/// Quarters of a 65536th, in the whole 65536th that is nearest, if it fits.
-fn fixed(quarters: i64) -> Option<i32> {
-    i32::try_from(nearest(quarters, 4)).ok()
+/// Halves of a 65536th, in the whole 65536th that is nearest, halves up, if it fits.
+fn fixed_above(halves: Halves) -> Option<i32> {
+    let count = (halves.count + 1) / 2;
+    i32::try_from(count as i64).ok()
 }
 
-/// A number in quarters that is rounded to the same 65536th as these halves.
-fn quarters_of(halves: Halves) -> u64 {
-    let count = 2 * halves.count;
-    if halves.more {
-        count + 1
-    } else {
-        count
-    }
-}
-
-/// The negative of a count.
-fn negative(count: u64) -> i64 {
-    -(count as i64)
-}
-
-/// A count as a signed number.
-fn positive(count: u64) -> i64 {
-    count as i64
+/// The same below zero.
+fn fixed_below(halves: Halves) -> Option<i32> {
+    let count = (halves.count + u64::from(halves.more)) / 2;
+    i32::try_from(-(count as i64)).ok()
 }
 
 /// A value after a minus, in 65536ths.
 fn below_zero(word: &str) -> Option<i32> {
-    let size = size_of(word)?;
-    fixed(negative(quarters_of(size)))
+    fixed_below(size_of(word)?)
 }
 
 /// A value without a minus, in 65536ths.
 fn above_zero(word: &str) -> Option<i32> {
-    let size = size_of(word)?;
-    fixed(positive(quarters_of(size)))
+    fixed_above(size_of(word)?)
 }
 
 /// A value with a minus between two texts, in 65536ths: nothing is before it.

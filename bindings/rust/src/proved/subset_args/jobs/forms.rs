@@ -149,15 +149,24 @@ fn plain<'a>(chosen: Chosen<'a>, words: &'a [String]) -> Result<Asked<'a>, Mista
     }
 }
 
-/// What the options before other arguments say.
+/// What ends the options before other arguments.
 #[derive(Clone, Copy)]
-pub enum Parsed<'a> {
+pub enum Ending {
     /// The help is wanted.
     Help,
     /// The version is wanted.
     Version,
-    /// What is chosen, whether `--` ended the options, and the arguments after them.
-    Chosen(Chosen<'a>, bool, &'a [String]),
+    /// The other arguments, and whether `--` is before them.
+    Words(bool),
+}
+
+/// What the options before other arguments say.
+#[derive(Clone, Copy)]
+pub struct Parsed<'a> {
+    pub chosen: Chosen<'a>,
+    pub ending: Ending,
+    /// The arguments after the options.
+    pub words: &'a [String],
 }
 
 /// An option that is no option after IN.
@@ -170,6 +179,15 @@ fn unless_after<'a>(
         return Err(mistake_in(Wrong::Late, word));
     }
     Ok(parsed)
+}
+
+/// What the options say that end so.
+fn parsed_by<'a>(chosen: Chosen<'a>, ending: Ending, words: &'a [String]) -> Parsed<'a> {
+    Parsed {
+        chosen,
+        ending,
+        words,
+    }
 }
 
 /// Whether the arguments from IN on are of the plain form.
@@ -202,7 +220,7 @@ pub fn parse_options<'a>(
     let (word, following) = match words {
         [word, following @ ..] => (word, following),
         _ => {
-            return Ok(Parsed::Chosen(chosen, false, words));
+            return Ok(parsed_by(chosen, Ending::Words(false), words));
         }
     };
     match kind_of(word) {
@@ -218,15 +236,19 @@ pub fn parse_options<'a>(
             };
             parse_options(chosen.with_setting(setting, word, value)?, is_after, rest)
         }
-        Kind::Help => unless_after(is_after, word, Parsed::Help),
-        Kind::Version => unless_after(is_after, word, Parsed::Version),
-        Kind::End => Ok(Parsed::Chosen(chosen, true, following)),
+        Kind::Help => unless_after(is_after, word, parsed_by(chosen, Ending::Help, following)),
+        Kind::Version => unless_after(
+            is_after,
+            word,
+            parsed_by(chosen, Ending::Version, following),
+        ),
+        Kind::End => Ok(parsed_by(chosen, Ending::Words(true), following)),
         Kind::Place => match joined_at(chosen, is_after, word, words) {
             Some(given) => {
                 let more = chosen.with_setting(given.setting, given.word, given.value)?;
                 parse_options(more, is_after, following)
             }
-            None => Ok(Parsed::Chosen(chosen, false, words)),
+            None => Ok(parsed_by(chosen, Ending::Words(false), words)),
         },
     }
 }
@@ -340,12 +362,17 @@ fn alone<'a>(
     following: &'a [String],
     parsed: Parsed<'a>,
 ) -> Result<Asked<'a>, Mistake<'a>> {
-    match parsed {
-        Parsed::Help => Err(wrong),
-        Parsed::Version => Err(wrong),
-        Parsed::Chosen(chosen, is_ended, words) => {
-            before(wrong, chosen, is_ended, input, following, words)
-        }
+    match parsed.ending {
+        Ending::Help => Err(wrong),
+        Ending::Version => Err(wrong),
+        Ending::Words(is_ended) => before(
+            wrong,
+            parsed.chosen,
+            is_ended,
+            input,
+            following,
+            parsed.words,
+        ),
     }
 }
 
@@ -356,7 +383,7 @@ fn parse_after<'a>(
     words: &'a [String],
 ) -> Result<Parsed<'a>, Mistake<'a>> {
     if is_ended {
-        return Ok(Parsed::Chosen(chosen, true, words));
+        return Ok(parsed_by(chosen, Ending::Words(true), words));
     }
     parse_options(chosen, true, words)
 }

@@ -14,13 +14,25 @@ use crate::proved::subset_args::options::names::Source;
 use crate::proved::subset_args::words::{parts_of, u16_of};
 use crate::rattle::alloc::{AllocError, Global};
 
+/// Adds a glyph.
+fn add(glyphs: &mut Vec<u16>, glyph: u16) -> Result<(), AllocError> {
+    glyphs.push(glyph)?;
+    Ok(())
+}
+
+/// Adds the glyph that a part says.
+fn push_glyph(glyphs: &mut Vec<u16>, part: &str) -> Result<(), ArgsError> {
+    let glyph = u16_of(part).ok_or(ArgsError::Usage)?;
+    add(glyphs, glyph)?;
+    Ok(())
+}
+
 /// The glyphs of a list with a comma between each two.
 fn glyphs_of(alloc: Global, list: &str) -> Result<Vec<u16>, ArgsError> {
     let parts = parts_of(alloc, list)?;
     let mut glyphs = Vec::new(alloc);
     for part in &parts {
-        let glyph = u16_of(part).ok_or(ArgsError::Usage)?;
-        glyphs.push(glyph).map_err(|_| ArgsError::OutOfMemory)?;
+        push_glyph(&mut glyphs, part)?;
     }
     Ok(glyphs)
 }

@@ -4,7 +4,9 @@
 use crate::rattle::prelude::{String, Vec};
 
 use crate::proved::subset_args::jobs::command::{Command, Glyphs, Job, Position, Topic};
-use crate::proved::subset_args::jobs::forms::{asked_by, parse_options, wrong_pdf, Asked, Parsed};
+use crate::proved::subset_args::jobs::forms::{
+    asked_by, parse_options, wrong_pdf, Asked, Ending, Parsed,
+};
 use crate::proved::subset_args::jobs::parts::{
     is_stream, owned, read_at, read_glyphs, read_pdf, wrong_stream,
 };
@@ -73,11 +75,12 @@ fn read_job<'a>(
 
 /// What the options and the arguments after them request.
 fn read_parsed<'a>(alloc: Global, parsed: Parsed<'a>) -> Result<Command, Unread<'a>> {
-    match parsed {
-        Parsed::Help => Ok(Command::Help),
-        Parsed::Version => Ok(Command::Version),
-        Parsed::Chosen(chosen, is_ended, words) => {
-            Ok(Command::Subset(read_job(alloc, chosen, is_ended, words)?))
+    match parsed.ending {
+        Ending::Help => Ok(Command::Help),
+        Ending::Version => Ok(Command::Version),
+        Ending::Words(is_ended) => {
+            let job = read_job(alloc, parsed.chosen, is_ended, parsed.words)?;
+            Ok(Command::Subset(job))
         }
     }
 }

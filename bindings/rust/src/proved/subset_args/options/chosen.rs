@@ -121,7 +121,7 @@ impl<'a> Chosen<'a> {
     pub const NOTHING: Chosen<'static> = Chosen {
         switches: Switches::NONE,
         limits: None,
-        sources: Sources::Nowhere,
+        sources: Sources::NOWHERE,
         at: None,
         output: None,
         index: None,

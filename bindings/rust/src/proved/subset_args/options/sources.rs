@@ -7,101 +7,77 @@ use crate::proved::subset_args::listing::lists::FileKind;
 use crate::proved::subset_args::options::names::Source;
 use crate::rattle::alloc::{AllocError, Global};
 
-/// Where the glyphs are found: a place for each option that requests some, in their order. There are six such options.
+/// Where the glyphs are found: the first places of these, in the order of their options. There are six such options.
 #[derive(Clone, Copy)]
-pub enum Sources<'a> {
-    Nowhere,
-    One(Source<'a>),
-    Two(Source<'a>, Source<'a>),
-    Three(Source<'a>, Source<'a>, Source<'a>),
-    Four(Source<'a>, Source<'a>, Source<'a>, Source<'a>),
-    Five(Source<'a>, Source<'a>, Source<'a>, Source<'a>, Source<'a>),
-    Six(
-        Source<'a>,
-        Source<'a>,
-        Source<'a>,
-        Source<'a>,
-        Source<'a>,
-        Source<'a>,
-    ),
+pub struct Sources<'a> {
+    places: [Source<'a>; 6],
+    count: usize,
 }
 
-/// A number for each of the options that request glyphs.
-fn option_number(source: Source<'_>) -> u8 {
-    match source {
-        Source::InList(_) => 0,
-        Source::File(FileKind::Glyphs, _) => 1,
-        Source::Text(_) => 2,
-        Source::File(FileKind::Text, _) => 3,
-        Source::Characters(_) => 4,
-        Source::File(FileKind::Characters, _) => 5,
+impl Source<'_> {
+    /// A number for each of the options that request glyphs.
+    fn option_number(self) -> u8 {
+        match self {
+            Source::InList(_) => 0,
+            Source::File(FileKind::Glyphs, _) => 1,
+            Source::Text(_) => 2,
+            Source::File(FileKind::Text, _) => 3,
+            Source::Characters(_) => 4,
+            Source::File(FileKind::Characters, _) => 5,
+        }
     }
 }
 
-/// Whether a place is of an option.
-fn is_of(number: u8, source: Source<'_>) -> bool {
-    option_number(source) == number
-}
-
 impl<'a> Sources<'a> {
+    /// None of them.
+    pub const NOWHERE: Sources<'static> = Sources {
+        places: [Source::Text(""); 6],
+        count: 0,
+    };
+
+    /// Whether one of the places is of an option.
+    fn is_given(sources: &[Source<'_>], number: u8) -> bool {
+        let mut rest = sources;
+        while let [source, following @ ..] = rest {
+            if source.option_number() == number {
+                return true;
+            }
+            rest = following;
+        }
+        false
+    }
+
     /// Whether there are any.
     pub fn are_given(self) -> bool {
-        match self {
-            Sources::Nowhere => false,
-            _ => true,
-        }
+        self.count > 0
+    }
+
+    /// The places, in order.
+    fn given(&self) -> &[Source<'a>] {
+        &self.places[..self.count]
     }
 
     /// The places, in order.
     pub fn all(self, alloc: Global) -> Result<Vec<Source<'a>>, AllocError> {
-        match self {
-            Sources::Nowhere => Ok(Vec::new(alloc)),
-            Sources::One(a) => Vec::from_slice(alloc, &[a]),
-            Sources::Two(a, b) => Vec::from_slice(alloc, &[a, b]),
-            Sources::Three(a, b, c) => Vec::from_slice(alloc, &[a, b, c]),
-            Sources::Four(a, b, c, d) => Vec::from_slice(alloc, &[a, b, c, d]),
-            Sources::Five(a, b, c, d, e) => Vec::from_slice(alloc, &[a, b, c, d, e]),
-            Sources::Six(a, b, c, d, e, f) => Vec::from_slice(alloc, &[a, b, c, d, e, f]),
-        }
-    }
-
-    /// Whether one of the places is of an option.
-    fn is_given(self, number: u8) -> bool {
-        match self {
-            Sources::Nowhere => false,
-            Sources::One(a) => is_of(number, a),
-            Sources::Two(a, b) => is_of(number, a) || is_of(number, b),
-            Sources::Three(a, b, c) => is_of(number, a) || (is_of(number, b) || is_of(number, c)),
-            Sources::Four(a, b, c, d) => {
-                (is_of(number, a) || is_of(number, b)) || (is_of(number, c) || is_of(number, d))
-            }
-            Sources::Five(a, b, c, d, e) => {
-                (is_of(number, a) || is_of(number, b))
-                    || (is_of(number, c) || (is_of(number, d) || is_of(number, e)))
-            }
-            Sources::Six(a, b, c, d, e, f) => {
-                (is_of(number, a) || (is_of(number, b) || is_of(number, c)))
-                    || (is_of(number, d) || (is_of(number, e) || is_of(number, f)))
-            }
-        }
+        Vec::from_slice(alloc, self.given())
     }
 
     /// With a further place, where there is room.
     fn pushed(self, source: Source<'a>) -> Option<Sources<'a>> {
-        match self {
-            Sources::Nowhere => Some(Sources::One(source)),
-            Sources::One(a) => Some(Sources::Two(a, source)),
-            Sources::Two(a, b) => Some(Sources::Three(a, b, source)),
-            Sources::Three(a, b, c) => Some(Sources::Four(a, b, c, source)),
-            Sources::Four(a, b, c, d) => Some(Sources::Five(a, b, c, d, source)),
-            Sources::Five(a, b, c, d, e) => Some(Sources::Six(a, b, c, d, e, source)),
-            Sources::Six(_, _, _, _, _, _) => None,
+        if self.count == 6 {
+            return None;
         }
+        let mut places = self.places;
+        places[self.count] = source;
+        Some(Sources {
+            places,
+            count: self.count + 1,
+        })
     }
 
     /// With a further place, unless one is there of its option.
     pub fn with(self, source: Source<'a>) -> Option<Sources<'a>> {
-        if self.is_given(option_number(source)) {
+        if Sources::is_given(self.given(), source.option_number()) {
             return None;
         }
         self.pushed(source)

@@ -25,11 +25,16 @@ fn limits_from(tokens: &str, depth: &str, bytes: Option<u32>) -> Option<RunLimit
     RunLimits::new(u32_of(tokens)?, u8_of(depth)?, bytes)
 }
 
-/// The limits that an argument `TOKENS,DEPTH[,BYTES]` writes.
-pub fn limits_of(word: &str) -> Option<RunLimits> {
-    let (tokens, rest) = word.split_once(',')?;
+/// The limits that an argument writes after the tokens.
+fn limits_after(tokens: &str, rest: &str) -> Option<RunLimits> {
     match rest.split_once(',') {
         Some((depth, bytes)) => limits_from(tokens, depth, Some(u32_of(bytes)?)),
         None => limits_from(tokens, rest, None),
     }
+}
+
+/// The limits that an argument `TOKENS,DEPTH[,BYTES]` writes.
+pub fn limits_of(word: &str) -> Option<RunLimits> {
+    let (tokens, rest) = word.split_once(',')?;
+    limits_after(tokens, rest)
 }
