@@ -64,12 +64,3 @@ pub fn write_fixed<W: Write>(value: i32, out: &mut W) -> Written
     write_sign(value, out)?;
     write_size(value.unsigned_abs(), out)
 }
-
-/// Writes a coordinate after a text.
-#[tactic(auto, using(crate::proofs::Written::both))]
-pub fn write_labelled<W: Write>(label: &[u8], value: i32, out: &mut W) -> Written
-    ensures { OnOk result (Appends (W.contents out.old) (W.contents out.new) (label.now ++ fixed_text value)) }
-{
-    write_text(label, out)?;
-    write_fixed(value, out)
-}

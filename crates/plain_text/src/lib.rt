@@ -14,7 +14,7 @@ mod pieces;
 mod quoted;
 mod text;
 
-pub use fixed::{write_fixed, write_labelled};
+pub use fixed::write_fixed;
 pub use pieces::{Piece, write_pieces};
 pub use quoted::{write_quoted, write_shown};
 pub use text::{Unwritten, Written, write_count, write_decimal, write_text};
