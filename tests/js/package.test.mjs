@@ -40,7 +40,7 @@ test("the examples of its README", () => {
     const front = 'import { readFileSync } from "node:fs";\nconst bytes = readFileSync("/usr/share/fonts/truetype/dejavu/DejaVuSans.ttf");\nconst buffer = { json: () => [{ g: 5293, cl: 0, ax: 1716, ay: 0, dx: 0, dy: 0 }] };\n';
     const end = (i) => `console.log(JSON.stringify([${ends[i]}]));`;
     writeFileSync(join(folder, "readme.mjs"), `${front}${first}${end(0)}\n${others.map((text, i) => `{\n${text}${end(i + 1)}\n}`).join("\n")}`);
-    assert.equal(run(process.execPath, "readme.mjs"), "[true,[1,2]]\n[true,[1,2]]\n[true]\n[true,5]\n");
+    assert.equal(run(process.execPath, "readme.mjs"), "[true,[1,2]]\n[true,[1,2]]\n[true]\n[true,9]\n");
 });
 
 test("the types", () => {
