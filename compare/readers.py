@@ -14,8 +14,8 @@ is as near as widths in whole thousandths are; and no warning comes for the subs
 
 Of variable fonts (Debian's Inter, those with CFF2 of lib/cff2_fonts.py, and those of FONTS) N are taken, at N places (with CFF2 at the default, too), with up
 to 24 glyphs at each, beside a font of the same outlines that is made by another way: name-keyed and without hints, by fontTools, of what HarfBuzz draws of the
-source, each coordinate rounded once, with HarfBuzz's advances. Ink lies within two pixels of ink, at 128 pixels an em. The glyphs lean by a ten
-thousandth, as Ghostscript lets FreeType hint what is upright.
+source, each coordinate rounded once, with HarfBuzz's advances. Ink lies within two pixels of ink, at 128 pixels an em. For Ghostscript, which lets
+FreeType hint what is upright, the glyphs lean by a ten thousandth.
 """
 import io
 import mmap
@@ -37,7 +37,9 @@ from report import Report
 
 GLYPHS_A_FACE = 40
 GLYPHS_A_PLACE = 24
-SMALL_PAGE, BASE, DPI, LEAN = (480, 180), 80, 288, 0.0001
+SMALL_PAGE, BASE, DPI = (480, 180), 80, 288
+# (Poppler leaves out long arrows that lean by so little)
+LEANS = {0: [it for it in drawn_by.READERS if it != "Ghostscript"], 0.0001: ["Ghostscript"]}
 
 
 def line_by_places(codes, places):
@@ -150,12 +152,13 @@ def compare_place(path, index, cff2, place, glyphs, folder):
     for number in range(1, len(old)):
         x += advances[number] * LINE / source.units
         shown += [number] if x <= SMALL_PAGE[0] - 60 else []
-    contents = [grid(range(1, len(old)), SMALL_PAGE, LEAN), line_by_widths(shown, BASE, LEAN)]
     wrong = []
     for way in ("CIDFontType0C", "OpenType") if cff2 else ("TrueType",):
-        ours = drawn_by.write(os.path.join(folder, way, "subset"), Face(fonts.content(out)), way, widths, contents, SMALL_PAGE)
-        others = drawn_by.write(os.path.join(folder, way, "other"), Face(theirs), "CIDFontType0C" if way == "TrueType" else way, array, contents, SMALL_PAGE)
-        wrong += [f"{way}, {it}" for it in drawn_by.differences(ours, others, 2, DPI)]
+        for lean, readers in LEANS.items():
+            contents, room = [grid(range(1, len(old)), SMALL_PAGE, lean), line_by_widths(shown, BASE, lean)], os.path.join(folder, way, str(lean))
+            ours = drawn_by.write(os.path.join(room, "subset"), Face(fonts.content(out)), way, widths, contents, SMALL_PAGE)
+            others = drawn_by.write(os.path.join(room, "other"), Face(theirs), "CIDFontType0C" if way == "TrueType" else way, array, contents, SMALL_PAGE)
+            wrong += [f"{way}, {it}" for it in drawn_by.differences(ours, others, 2, DPI, readers)]
     return wrong
 
 

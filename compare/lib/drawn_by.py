@@ -86,11 +86,11 @@ def write(folder, face, program, widths, contents, page=PAGE):
     return fonts.put(os.path.join(folder, "page.pdf"), pages(pdf, page, [embedded(pdf, face, program, "AAAAAA+Shown", widths)], contents))
 
 
-def differences(ours, theirs, most, dpi=96):
+def differences(ours, theirs, most, dpi=96, readers=READERS):
     """What the readers show otherwise of one file than of the other: ink that has no ink within `most` pixels. With 0 each pixel is the same; but
     of Ghostscript, which hints by letters that it finds by names, ink lies within two."""
     wrong = []
-    for reader in READERS:
+    for reader in readers:
         (after, said), (before, usual) = (drawn(reader, path, dpi) for path in (ours, theirs))
         if not len(before) == len(after) == 2:
             wrong.append(f"{reader} draws nothing")
