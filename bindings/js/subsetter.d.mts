@@ -316,7 +316,7 @@ export interface PdfFont {
     parts(numbers: Iterable<number>, options?: Packing): Part[];
     /**
      * A whole PDF file that shows the entries in 36 points: in one line (in vertical writing in one column) on a page that is as
-     * long, or in a grid, 12 by 16 a page. Without a layout a line.
+     * long, or in a grid, 12 by 16 a page. Without a layout a line. A TypeError for the font of a `PdfText`, which has none.
      */
     sheet(layout?: "line" | "grid"): Uint8Array;
     /** Gives back what `objects` and `sheet` are written of: they throw a TypeError afterwards. All else stays. */
@@ -411,7 +411,8 @@ export interface PdfText {
     font(options?: Pick<PdfChoices, "small" | "hinting" | "bounds" | "cidSet" | "tag">): PdfFont;
     /**
      * A whole PDF file of runs of this text, each on a page of its own, with the font for the runs so far. The font has 36 points there,
-     * and so has to be `size` of the runs. Options and errors are those of `font`.
+     * and so has to be `size` of the runs: a RangeError for another, a TypeError for a run of another text. Options and other errors
+     * are those of `font`.
      */
     sheet(runs: Iterable<Run>, options?: Parameters<PdfText["font"]>[0]): Uint8Array;
     /** Gives the font's memory back. Its calls throw a TypeError afterwards; fonts that it made stay. */

@@ -1255,7 +1255,7 @@ class PdfFont:
 
     def sheet(self, layout: Literal["line", "grid"] = "line") -> bytes:
         """A whole PDF file that shows the entries in 36 points: in one line (in vertical writing in one column) on a page that
-        is as long, or in a grid, 12 by 16 a page."""
+        is as long, or in a grid, 12 by 16 a page. `ValueError` for the font of a `PdfText`, which has none."""
         number = _choice("layout", layout, ("line", "grid"))
         if self._is_of_text:
             raise ValueError("the font of a PdfText has no entries: PdfText.sheet shows runs")
@@ -1676,7 +1676,8 @@ class PdfText:
         tag: Optional[str] = None,
     ) -> bytes:
         """A whole PDF file of runs of this text, each on a page of its own, with the font for the runs so far. The font has 36 points
-        there, and so has to be `size` of the runs. The choices and errors are those of `font`."""
+        there, and so has to be `size` of the runs: `ValueError` for another, and for a run of another text. The choices and other
+        errors are those of `font`."""
         wanted = "runs are a list of what `run` and `shaped` have answered"
         lines = _listed(runs, wanted)
         if not all(isinstance(it, Run) for it in lines):
