@@ -1,14 +1,12 @@
 -- Exact values: whole numbers of 32 bits, and a thousand times a decimal.
-use Rattle.std.proofs.Common.{◌≡◌, ℕ, ◌<◌, ◌≤◌, Bool, true, false, List, length, Some, None, refl, ap, arith, ◌∙◌, sym}
-use Rattle.std.specs.Prelude.{ℤ, pos, negsuc, ◌+ℤ◌, ◌≤ℤ◌, ◌<ℤ◌, unsigned_abs}
-use Rattle.std.specs.Int.{is_negative}
+use Rattle.std.proofs.Common.{◌≡◌, ℕ, ◌<◌, ◌≤◌, Bool, true, false, List, length, Some, None, refl, arith, sym}
+use Rattle.std.specs.Prelude.{ℤ, pos, negsuc, ◌+ℤ◌, ◌≤ℤ◌, ◌<ℤ◌}
 use Rattle.std.proofs.lemmas.Int.{ints}
 use Rattle.std.proofs.lemmas.Bool.{lt-ltb, le-ltb, ne_eqb}
-use Rattle.subsetter_cffdata.specs.Reals.Decimals.{Decimal, IsPlain, is_zero, stripped, number, signed, decimal_digits}
+use Rattle.subsetter_cffdata.specs.Reals.Decimals.{Decimal, is_zero, stripped, number, signed}
 use Rattle.subsetter_cffdata.specs.Numerals.Numbers.{in_i32}
 use Rattle.subsetter_cffdata.specs.Numerals.Values.{thousandfold, held}
-use Rattle.subsetter_cffdata.proofs.RealsLaws.PlainDigits.{size_of_signed, positive_number, mantissa_digits, only_digits}
-use Rattle.subsetter_cffdata.proofs.RealsLaws.RealTexts.{sign_of}
+use Rattle.subsetter_cffdata.proofs.RealsLaws.PlainDigits.{size_of_signed, positive_number}
 
 abbrev decimal_by : ℤ → ℤ → Decimal
 decimal_by m p = record { mantissa = m; power = p }
@@ -37,23 +35,3 @@ pub not_zero : (negative : Bool) (ds : List ℕ) → stripped ds ≡ ds → 0 < 
 not_zero negative ds front some =
     let positive = positive_number ds front some in
     rw (size_of_signed negative (number ds)) (ne_eqb (number ds) 0 (λ z. omega (arith, positive, z)))
-
--- ---- plain digits of one decimal are the same
-pub same_decimals : (na nb : Bool) (xs ys : List ℕ) (p q : ℤ) → na ≡ nb → xs ≡ ys → p ≡ q
-    → decimal_by (signed na (number xs)) p ≡ decimal_by (signed nb (number ys)) q
-same_decimals na nb xs ys p q e f g = rw (e, f, g) refl
-
-pub same_signs : (na nb : Bool) (xs ys : List ℕ) (p q : ℤ) → IsPlain na xs p → IsPlain nb ys q
-    → decimal_by (signed na (number xs)) p ≡ decimal_by (signed nb (number ys)) q → na ≡ nb
-same_signs na nb xs ys p q a b e =
-    sym (sign_of na xs p a) ∙ ap (λ (d : Decimal). is_negative d.mantissa) e ∙ sign_of nb ys q b
-
-pub same_digits : (na nb : Bool) (xs ys : List ℕ) (p q : ℤ) → IsPlain na xs p → IsPlain nb ys q → length xs ≤ 64 → length ys ≤ 64
-    → decimal_by (signed na (number xs)) p ≡ decimal_by (signed nb (number ys)) q → xs ≡ ys
-same_digits na nb xs ys p q a b short short' e =
-    sym (mantissa_digits na xs (only_digits xs a.digits_only) a.front short)
-    ∙ ap (λ (d : Decimal). decimal_digits (unsigned_abs d.mantissa)) e
-    ∙ mantissa_digits nb ys (only_digits ys b.digits_only) b.front short'
-
-pub same_powers : (m n p q : ℤ) → decimal_by m p ≡ decimal_by n q → p ≡ q
-same_powers m n p q e = ap (λ (d : Decimal). d.power) e

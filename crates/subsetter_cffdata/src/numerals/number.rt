@@ -1,10 +1,9 @@
 //! Numbers of a DICT and of a charstring (Technical Note 5176, section 4 "DICT Data").
 //!
-//! Values are compared by `same_value`, as exact decimals, so an integer and a real of one value agree; `==` isn't
-//! given, as the kinds are kept. `combine` returns None where a power of ten doesn't fit 32 bits; its caller refuses by
+//! `==` isn't given, as the kinds are kept. `combine` returns None where a power of ten doesn't fit 32 bits; its caller refuses by
 //! `OverflowError`, as such a number's text is longer than 64 characters.
 
-ghost use Rattle.std.specs.Prelude.{◌≡◌, ◌∷◌, ◌++◌, ◌↔◌, IsTrue, map, pos, if◌then◌else◌, Some, None, OnOk, IfErr};
+ghost use Rattle.std.specs.Prelude.{◌≡◌, ◌∷◌, ◌++◌, map, pos, if◌then◌else◌, Some, None, OnOk, IfErr};
 ghost use Rattle.std.specs.Option.{option_map};
 ghost use Rattle.std.specs.Int.{w32, cast_unsigned, to_be_bytes};
 ghost use Rattle.subsetter_base.specs.declared.error.Error.TheVariants.{OutOfMemory, OverflowError};
@@ -18,7 +17,7 @@ use crate::numerals::charstring_number::{CharStringNumber, read_number};
 use crate::numerals::first_byte;
 pub use crate::numerals::string_id::StringId;
 pub use crate::numerals::u24::U24;
-use crate::numerals::value::{real_of_fixed, real_of_integer, same_reals, thousandfold_of};
+use crate::numerals::value::{real_of_fixed, real_of_integer, thousandfold_of};
 use crate::reading;
 pub use crate::reals::real_number::RealNumber;
 use subsetter_base::error::Error;
@@ -318,13 +317,6 @@ impl Number {
             Number::Real(e.to_real()),
             Number::Real(f.to_real()),
         ])
-    }
-
-    /// Whether two numbers have the same exact value, of whatever kinds they are.
-    pub fn same_value(&self, other: &Number) -> bool
-        ensures { IsTrue result ↔ (value (number_of self.now) ≡ value (number_of other.now)) }
-    {
-        same_reals(&self.to_real(), &other.to_real())
     }
 }
 

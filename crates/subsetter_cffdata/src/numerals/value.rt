@@ -1,6 +1,6 @@
 //! The exact value of a number, as a decimal.
 
-ghost use Rattle.std.specs.Prelude.{◌≡◌, ◌+◌, ◌<◌, ◌≤◌, ◌++◌, ◌^◌, ◌≤ℤ◌, ◌↔◌, IsTrue, pos, length};
+ghost use Rattle.std.specs.Prelude.{◌≡◌, ◌+◌, ◌<◌, ◌≤◌, ◌++◌, ◌^◌, ◌≤ℤ◌, pos, length};
 ghost use Rattle.std.specs.Option.{option_map};
 ghost use Rattle.std.specs.Int.Digits.{digits_of};
 ghost use Rattle.subsetter_cffdata.specs.Reals.Decimals.{decimal};
@@ -68,17 +68,4 @@ pub fn thousandfold_of(real: &RealNumber) -> Option<RealNumber>
         len: real.len,
         power: real.power + 3,
     })
-}
-
-/// Whether two reals are the same decimal.
-pub fn same_reals(a: &RealNumber, b: &RealNumber) -> bool
-    ensures { IsTrue result ↔ (decimal_of a.now ≡ decimal_of b.now) }
-{
-    if a.negative != b.negative {
-        return false;
-    }
-    if a.power != b.power {
-        return false;
-    }
-    a.digits() == b.digits()
 }

@@ -2,13 +2,11 @@
 use Rattle.std.specs.Prelude.{ℕ, ◌+◌, nat_lt, ◌==◌, if◌then◌else◌, List, [], ◌∷◌, ◌++◌, Option, Some, None, is_some}
 use Rattle.std.specs.Prelude.{unwrap_or}
 use Rattle.std.specs.Option.{option_map}
-use Rattle.std.specs.List.{flat_map}
 use Rattle.std.specs.Str.{bytes_eq}
 use Rattle.subsetter_base.specs.Remap.{index_by, with_value}
 use Rattle.subsetter_cff.specs.declared.read.string_names.StringName.{StringName}
 use Rattle.subsetter_cff.specs.declared.read.string_names.StringName.TheVariants as names
 use Rattle.subsetter_cff.specs.Read.Strings.{FontString, Standard, Custom, standard_strings, string_of}
-use Rattle.subsetter_cff.specs.Write.Laying.Layout.{custom_string}
 
 -- the strings that have a new number, and old numbers with their new ones
 pub record Remapped : Type 0 where
@@ -44,7 +42,3 @@ named strings (Some s) = option_map Some (string_of strings s)
 abbrev pub name_of : StringName → FontString
 name_of (names.Standard n) = Standard n.0
 name_of (names.Custom s) = Custom s.now
-
--- of names, the strings that want a number
-abbrev pub texts_of : List StringName → List (List ℕ)
-texts_of names = flat_map (λ n. custom_string (Some (name_of n))) names

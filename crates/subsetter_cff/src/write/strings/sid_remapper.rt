@@ -1,16 +1,14 @@
 //! New numbers for the strings of a subset (Technical Note 5176, section 10 "String INDEX").
 
-ghost use Rattle.std.specs.Prelude.{◌≡◌, ◌+◌, ◌<◌, ◌≤◌, [], length, Some, is_ok, if◌then◌else◌, OnOk, IfOk, IfErr, IfSome, IsOk, IsSome};
+ghost use Rattle.std.specs.Prelude.{◌≡◌, ◌+◌, ◌<◌, ◌≤◌, [], length, Some, is_ok, if◌then◌else◌, IfOk, IfErr, IfSome, IsOk, IsSome};
 ghost use Rattle.std.specs.List.{IsDistinct};
 ghost use Rattle.std.specs.Option.{option_map};
 ghost use Rattle.std.specs.Str.{bytes_eq};
 ghost use Rattle.subsetter_base.specs.Remap.{index_by, with_value};
 ghost use Rattle.subsetter_base.specs.declared.error.Error.TheVariants.{OutOfMemory};
-ghost use Rattle.subsetter_cff.specs.Write.Laying.Layout.{with_strings};
-ghost use Rattle.subsetter_cff.specs.Write.Strings.SidRemapping.{number_in, known_number, new_number, with_old, texts_of};
+ghost use Rattle.subsetter_cff.specs.Write.Strings.SidRemapping.{number_in, known_number, new_number, with_old};
 ghost use Rattle.subsetter_base.specs.Texts.{views};
 
-use crate::read::string_names::StringName;
 use std::alloc::Global;
 use std::marker::Model;
 use subsetter_base::error::Error;
@@ -164,20 +162,6 @@ impl<'a> SidRemapper<'a> {
         let new = put_string(&mut self.strings, string)?;
         self.known.push((sid.0, new.0)).unwrap();
         Ok(new)
-    }
-
-    /// Gives the strings among names a number each, in their order.
-    pub fn remap_names(&mut self, names: &[StringName<'a>]) -> Result<(), Error>
-        requires { length self.old.texts + length names.now ≤ 65145 }
-        ensures texts { OnOk result (self.new.texts ≡ with_strings self.old.texts (texts_of names.now)) }
-        ensures err { IfErr result (λ e. e ≡ OutOfMemory) }
-    {
-        for name in names {
-            if let StringName::Custom(string) = *name {
-                self.remap(string)?;
-            }
-        }
-        Ok(())
     }
 
     /// The strings by their new numbers.
