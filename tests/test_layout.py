@@ -125,8 +125,6 @@ ALLOWED = {
     ("subsetter_base", "fmt"): (1, "its text"),
     ("subsetter_c", "status_of"): (1, "its status"),
     ("subsetter_base", "write_decimal"): (1, "`write!` reports a refused request as fmt::Error, and a number's text has no other error"),
-    ("dev_rows", "status_of"): (1, "its status"),
-    ("dev_rows", "fmt"): (1, "the list of all errors, in which a status is looked up"),
     ("pdf_names", "write_whole"): (1, "`write!` reports a refused request as fmt::Error, and a number's text has no other error"),
     ("pdf_text", "write_cid"): (1, "`write!` reports a refused request as fmt::Error, and a number's text has no other error"),
     ("pdf_text", "write_integer"): (1, "`write!` reports a refused request as fmt::Error, and a number's text has no other error"),

@@ -3,13 +3,11 @@
 use std::alloc::{AllocError, AllocFailed};
 use std::fmt;
 
-/// Why a run failed, or why a line of a table is reported as wrong.
+/// Why a run failed.
 #[derive(Debug, Drop)]
 pub enum Failure {
-    /// The line is no row: its kind isn't known, or its words aren't as its kind has them.
+    /// The line is no row: its kind isn't known, its words aren't as its kind has them, or no bytes of that name are in front of it.
     Row,
-    /// The row names a font that isn't before it.
-    Font,
     /// The arguments aren't as the usage says.
     Usage,
     /// A file can't be read.
@@ -24,8 +22,7 @@ impl fmt::Display for Failure {
     fn fmt<W: fmt::Write>(&self, f: &mut fmt::Formatter<W>) -> fmt::Result {
         f.write_str(match self {
             Failure::Row => "no row of a known kind",
-            Failure::Font => "no font of that name in front of it",
-            Failure::Usage => "usage: dev_rows [--subset FILE] [--instance FILE]",
+            Failure::Usage => "usage: dev_rows FILE",
             Failure::Read => "cannot read",
             Failure::Write => "cannot write",
             Failure::Memory => "memory allocation failed",

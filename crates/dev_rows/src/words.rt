@@ -62,28 +62,6 @@ where
     Ok(numbers)
 }
 
-/// The numbers of a list of numbers and ranges, as `3,10..12`, none for `-`.
-pub fn ranges(alloc: Global, word: &str) -> Result<Vec<u32>, Failure> {
-    let mut numbers = Vec::new(alloc);
-    for part in &parts(alloc, word)? {
-        let (first, last) = part.split_once("..").unwrap_or((*part, *part));
-        let last: u32 = number(last)?;
-        for n in number(first)?..=last {
-            numbers.push(n)?;
-        }
-    }
-    Ok(numbers)
-}
-
-/// The glyphs or CIDs of a list of numbers and ranges.
-pub fn short_ranges(alloc: Global, word: &str) -> Result<Vec<u16>, Failure> {
-    let mut short = Vec::new(alloc);
-    for n in &ranges(alloc, word)? {
-        short.push(u16::try_from(*n).ok().ok_or(Failure::Row)?)?;
-    }
-    Ok(short)
-}
-
 /// A setting `TAG=VALUE`, whose value is in 65536ths.
 fn setting(word: &str) -> Result<(Tag, i32), Failure> {
     let (tag, value) = word.split_once('=').ok_or(Failure::Row)?;

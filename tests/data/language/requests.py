@@ -21,7 +21,7 @@ DEFAULTS = {"font": None, "face": "0", "glyphs": "-", "tokens": "0", "depth": "0
             "status": "DONE", "new": "-", "cids": "-", "widths": "-", "units": "-", "heights": "-",
             "kinds": "-", "pdf": "DONE"}
 # Rows that are as they are in today's file, but for words `TAG=VALUE` with values in units of the axis.
-PLAIN = {"nearest", "axes", "scalar", "numbers", "deltas", "tuple", "moved", "advance", "read", "written", "fits", "coordinates"}
+PLAIN = {"nearest", "axes", "scalar", "numbers", "deltas", "tuple", "moved", "advance", "read", "written", "fits", "coordinates", "shrunk", "shrunk_font"}
 
 
 def is_bytes(word):

@@ -1,7 +1,7 @@
 //! Quotients, `fvar` and `avar`, regions, packed numbers, and `HVAR`.
 
+use crate::answer::{Answer, list, one};
 use crate::failure::Failure;
-use crate::instances::answer::{Answer, list, one};
 use crate::words::{number, numbers, settings};
 use std::alloc::Global;
 use subsetter_variation::items::advances::advance_delta;

@@ -3,9 +3,9 @@
 ghost use Rattle.std.specs.Prelude.{◌≡◌, true, IfSome, length};
 ghost use Rattle.subsetter_variation.specs.Glyphs.Varied.{AreEnds};
 
+use crate::answer::{Answer, list};
 use crate::failure::Failure;
-use crate::instances::answer::{Answer, list};
-use crate::instances::tables::listed;
+use crate::tables::listed;
 use crate::words::{number, numbers};
 use std::alloc::Global;
 use subsetter_base::Error;

@@ -1,7 +1,7 @@
 //! Simple outlines, read and written.
 
+use crate::answer::{Answer, list, one};
 use crate::failure::Failure;
-use crate::instances::answer::{Answer, list, one};
 use crate::words::numbers;
 use std::alloc::Global;
 use subsetter_base::Error;

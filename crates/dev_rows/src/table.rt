@@ -1,11 +1,11 @@
-//! A table of rows of what an instance is made of.
+//! A table of rows.
 
+use crate::answer::Answer;
 use crate::failure::Failure;
-use crate::instances::answer::Answer;
-use crate::instances::fonts::{Instance, instance_by_words};
-use crate::instances::movement::{Moved, moved_by_words, tuple};
-use crate::instances::outlines::{is_fit, read, read_and_written};
-use crate::instances::tables::{
+use crate::fonts::{Instance, instance_by_words, shrunk_by_words};
+use crate::movement::{Moved, moved_by_words, tuple};
+use crate::outlines::{is_fit, read, read_and_written};
+use crate::tables::{
     advance, axis_count, deltas, normalized_settings, point_numbers, quotient, region_scalar,
 };
 use crate::words::bytes;
@@ -80,6 +80,8 @@ fn answer_of_three(
         "coordinates" => normalized_settings(alloc, table, named_if_any(all, second)?, third),
         "tuple" => tuple(alloc, table, second, third),
         "advance" => advance(alloc, table, second, third),
+        "shrunk" => shrunk_by_words(alloc, table, second, third, false),
+        "shrunk_font" => shrunk_by_words(alloc, table, second, third, true),
         _ => Err(Failure::Row),
     }
 }
