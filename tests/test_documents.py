@@ -11,6 +11,8 @@ import pytest
 from support import ROOT, blocks
 
 TEXT = "Hello, Ελλάδα!"
+# (a build from nothing for one short run: optimization takes longer than it saves)
+QUICKLY = {"CARGO_INCREMENTAL": "0", "CARGO_PROFILE_DEV_DEBUG": "0", "CARGO_PROFILE_RELEASE_LTO": "off", "CARGO_PROFILE_RELEASE_CODEGEN_UNITS": "16", "CARGO_PROFILE_RELEASE_OPT_LEVEL": "0"}
 
 
 def read(*path):
@@ -70,7 +72,7 @@ def rust(room, program):
     write(room / "src" / "main.rs", program)
     write(room / "Cargo.toml", '[package]\nname = "user"\nversion = "1.0.0"\nedition = "2021"\n\n[dependencies]\n'
           f'subsetter = {{ path = "{ROOT}/bindings/rust", features = ["pdf"] }}\n')
-    run(room, "cargo", "run", "--quiet", "--offline", "--release", CARGO_TARGET_DIR=os.path.join(ROOT, "out", "examples"))
+    run(room, "cargo", "run", "--quiet", "--offline", CARGO_TARGET_DIR=os.path.join(ROOT, "out", "examples"), **QUICKLY)
 
 
 def c(room, program, compiler=("cc", "-std=c11", "-xc"), libraries=("-lz",)):
@@ -139,7 +141,7 @@ def test_commands_of_the_readme(tmp_path):
     write(room / "src" / "main.rs", programs("README.md", "rust")[0])
     commands = re.findall(r"^\| [^|]+ \| `([^`]+)` \|", read("README.md").partition("## Install\n")[2].partition("\n## ")[0], re.M)
     assert len(commands) == 5
-    env = {"HOME": str(home), "PATH": path, "CARGO_HOME": str(home / "cargo"), "CARGO_NET_OFFLINE": "true", "PIP_NO_INDEX": "1", "npm_config_offline": "true", "DESTDIR": ""}
+    env = {**QUICKLY, "HOME": str(home), "PATH": path, "CARGO_HOME": str(home / "cargo"), "CARGO_NET_OFFLINE": "true", "PIP_NO_INDEX": "1", "npm_config_offline": "true", "DESTDIR": ""}
     rustup = os.path.expanduser("~/.rustup")
     if os.path.isdir(rustup):
         env["RUSTUP_HOME"] = rustup

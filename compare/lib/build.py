@@ -61,8 +61,9 @@ def library():
 
 def checked_library():
     """The C library as Cargo builds it, where a sum that wraps is a panic."""
-    checks = {f"CARGO_PROFILE_RELEASE_{it}": "true" for it in ("OVERFLOW_CHECKS", "DEBUG_ASSERTIONS")}
-    return os.path.join(cargo("bindings/capi", "--release", target=os.path.join(BUILD, "checked"), **checks), "release", "libsubsetter.so")
+    checks = {"OVERFLOW_CHECKS": "true", "DEBUG_ASSERTIONS": "true", "LTO": "off", "CODEGEN_UNITS": "16"}
+    profile = {f"CARGO_PROFILE_RELEASE_{key}": value for key, value in checks.items()}
+    return os.path.join(cargo("bindings/capi", "--release", target=os.path.join(BUILD, "checked"), **profile), "release", "libsubsetter.so")
 
 
 def named(variable):

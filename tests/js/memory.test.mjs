@@ -114,7 +114,7 @@ test("with any cap on the memory a call answers what it does without, or OutOfMe
         return [font, found.map((call) => (call ? orNothing(call) : null))];
     };
     const [, wanted] = calls(subsetter), refused = wanted.map(() => 0), done = wanted.map(() => 0);
-    for (let pages = least + 1; pages < least + 260; pages += pages < least + 4 ? 1 : 16) {
+    for (let pages = least + 1; pages < least + 260; pages += pages < least + 4 ? 1 : 32) {
         const it = await load(capped(pages)), first = it.open(small);
         for (let round = 0; round < 2; round++) {
             const [font, found] = calls(it);

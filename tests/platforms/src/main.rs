@@ -1,6 +1,6 @@
 //! Many answers of the crate as numbers, to be compared with those on another machine: platforms LIST
 //!
-//! LIST has a line `FACE FILE` for each font. The program prints a line for each, with five numbers: of the whole font, and of four
+//! LIST has a line `FACE FILE` for each font, or an empty one. The program prints a line for each, with five numbers: of the whole font, and of four
 //! sets of damaged copies. A number is FNV-1a of the fonts, CIDs, widths and error texts that the calls return.
 
 use std::{env, fs};
@@ -114,7 +114,8 @@ fn spread(count: usize, n: usize) -> Vec<u16> {
 
 fn main() {
     let list = env::args().nth(1).expect("LIST");
-    for (line, seed) in fs::read_to_string(list).expect("LIST").lines().zip(1..) {
+    let list = fs::read_to_string(list).expect("LIST");
+    for (line, seed) in list.lines().zip(1..).filter(|it| !it.0.is_empty()) {
         let (face, path) = line.split_once(' ').expect(line);
         let (face, data) = (face.parse().expect(face), fs::read(path).expect(path));
         let maxp = tables(&data, face).into_iter().find(|it| it.0 == b"maxp").expect("maxp");

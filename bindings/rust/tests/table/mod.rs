@@ -113,8 +113,8 @@ fn row(call: &'static str, choices: usize, words: &[&str], fonts: &HashMap<Strin
 
 /// A compiled file, or a font: the package has those of TrueType.
 pub fn made(name: &str) -> Vec<u8> {
-    let folder = if name.ends_with(".ttf") { "/tests/data/" } else { "/../../crates/dev_rows/data/" };
-    fs::read(env!("CARGO_MANIFEST_DIR").to_string() + folder + name).unwrap()
+    let folder = if name.ends_with(".ttf") { "bindings/rust/tests/data/" } else { "crates/dev_rows/data/" };
+    fs::read(env!("CARGO_MANIFEST_DIR").to_string() + "/../../" + folder + name).unwrap()
 }
 
 /// The worked rows.
