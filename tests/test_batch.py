@@ -190,7 +190,7 @@ def test_jobs_words(fonts_room):
         wrong |= {"-1": "-1", "+1": "+1", "": "", "1.0": "1.0", " 1": " 1", "1\t2": "1\ufffd2", "\u0661": "\u0661"}
     for number, shown in wrong.items():
         for words in (["--batch", "none", "--jobs", number], ["--jobs", number, "--batch", "none"]):
-            assert run(words, fonts_room) == (2, b"", f"{USAGE}\n--jobs: \"{shown}\" is not a number\nexpected: a number from 1 to 64\n".encode()), words
+            assert run(words, fonts_room) == (2, b"", f"{USAGE}\n--jobs: \"{shown}\" is not a number of threads\nexpected: a number from 1 to 64\n".encode()), words
     (fonts_room / "requests").write_bytes(lines_of(GOOD[:1]))
     for line in ("--batch requests --json 2", "--batch requests 2 --jobs", "--batches requests --jobs 2", "--jobs 2 --json requests", "--job 2 --batch requests", "--jobs 2 --batch",
                  "--batch requests --jobs", "--batch requests --jobs 2 --quiet", "--jobs 2 --batch requests --quiet", "--batch --jobs 2 requests", "--jobs --batch 2 requests", "--jobs 2 simple out 0 2"):

@@ -107,7 +107,7 @@ fn refuse_apart(rt: &HostRuntime) -> u8 {
 fn refuse(rt: &HostRuntime, number: &str) -> u8 {
     let failure = &Failure::Usage;
     let _ = eprintln!(rt; "{}", Report { failure, file: None });
-    let _ = eprintln!(rt; "{}: \"{}\" is not a number", JOBS, Shown(number));
+    let _ = eprintln!(rt; "{}: \"{}\" is not a number of threads", JOBS, Shown(number));
     let _ = eprintln!(rt; "expected: a number from 1 to {}", MOST);
     failure.status()
 }

@@ -18,7 +18,7 @@ use Rattle.subset_args.specs.declared.mistakes.Wrong.{Wrong}
 use Rattle.subset_args.specs.declared.mistakes.Wrong.TheVariants.{NoInput, NoOutput, NoIndex, NoGlyphs, Further, Late}
 use Rattle.subset_args.specs.declared.mistakes.Wrong.TheVariants.{ShownLate, BatchLate, Unknown, NoValue, BesideOption}
 use Rattle.subset_args.specs.declared.mistakes.Wrong.TheVariants.{Index, Glyph, BesideInput, NoSource, NoPdf}
-use Rattle.subset_args.specs.declared.mistakes.Wrong.TheVariants.{OutputTwice}
+use Rattle.subset_args.specs.declared.mistakes.Wrong.TheVariants.{OutputTwice, Taken}
 use Rattle.subset_args.specs.declared.options.names.Setting.{Setting}
 use Rattle.subset_args.specs.declared.options.names.Kind.{Kind}
 use Rattle.subset_args.specs.declared.options.names.Kind.TheVariants.{Switch as IsSwitch, Setting as IsSetting, Help}
@@ -270,3 +270,19 @@ from_input fault choice is_ended (input ∷ words) =
 unfoldable pub asked : Choice → Bool → List (List ℕ) → Result Asked Fault
 asked choice is_ended words =
     elim (plain choice words) [ Ok found ↦ Ok found | Err fault ↦ from_input fault choice is_ended words ]
+
+-- ---- what is wrong where an option is the value of another
+
+-- no word after it is an option
+abbrev pub ends_options : List ℕ → Bool
+ends_options word = bytes_eq word (codes "--") || is_some (not_first word)
+
+-- the first option whose value is one, too: what follows an option is its value, whatever it looks like
+abbrev pub taken : List (List ℕ) → Option Fault
+taken [] = None
+taken (word ∷ []) = None
+taken (word ∷ value ∷ words) = elim (setting_of word) [
+  | Some setting ↦ if is_some (wrong_after value) then Some (record { wrong = Taken setting; word = value })
+      else taken words
+  | None ↦ if ends_options word then None else taken (value ∷ words)
+]

@@ -8,12 +8,12 @@ use Rattle.subset_args.specs.Words.{number_in_bits}
 use Rattle.subsetter_base.specs.declared.tag.Tag.{Tag}
 use Rattle.subset_args.specs.Coordinates.{has_byte, is_equals, coordinates_in}
 use Rattle.subset_args.specs.Forms.{Asked, Options, helped, versioned, chosen, looks_like_option, topic_of, is_batch}
-use Rattle.subset_args.specs.Forms.{is_option, wrong_pdf, parsed, asked}
+use Rattle.subset_args.specs.Forms.{is_option, wrong_pdf, parsed, asked, taken}
 use Rattle.subset_args.specs.Limits.{Bounds}
 use Rattle.subset_args.specs.Listing.Lists.{FileList, every, these, characters, text_of, argument_list}
 use Rattle.subset_args.specs.Listing.Characters.{argument_characters}
 use Rattle.subset_args.specs.Listing.Wrong.{list_fault}
-use Rattle.subset_args.specs.Mistakes.{Fault, refused, or_fault, unless, ◌>>=◌}
+use Rattle.subset_args.specs.Mistakes.{Fault, refused, or_fault, unless, or_instead, ◌>>=◌}
 use Rattle.subset_args.specs.Options.{GlyphSource, in_file, by_text, in_list, in_codes, Choice, kind_of, no_choice}
 use Rattle.subset_args.specs.declared.listing.lists.FileKind.{FileKind}
 use Rattle.subset_args.specs.declared.listing.lists.FileKind.TheVariants.{Glyphs as OfGlyphs}
@@ -253,3 +253,8 @@ command (word ∷ words) = if is_batch word then batch_of words else (elim (topi
   | Some topic ↦ shown_by topic words
   | None ↦ command_by_options (word ∷ words)
 ])
+
+-- the same, as a person types them: where they request nothing, and an option is the value of another, that is what is
+-- wrong
+abbrev pub typed : List (List ℕ) → Result Command Fault
+typed words = or_instead (taken words) (command words)

@@ -3,7 +3,7 @@
 ghost use Rattle.std.specs.Prelude.{◌≡◌, map, IfOk};
 ghost use Rattle.std.specs.Option.{option_map};
 ghost use Rattle.subset_args.specs.Mistakes.{fault_view, Gives};
-ghost use Rattle.subset_args.specs.Request.{request_with, request_at, request_of, request_from, command_of, command_by_options, instead_of, shown_of, shown_by, batch_of, command};
+ghost use Rattle.subset_args.specs.Request.{request_with, request_at, request_of, request_from, command_of, command_by_options, instead_of, shown_of, shown_by, batch_of, command, typed};
 ghost use Rattle.subset_args.specs.declared.mistakes.Wrong.TheVariants.{AfterShown};
 ghost use Rattle.subset_args.specs.View.{chosen_view, parsed_view, asked_view, requested_view, position_view, job_view, command_view, words_view};
 
@@ -12,7 +12,7 @@ use crate::jobs::forms::{Asked, Ending, Parsed, asked_by, parse_options, wrong_p
 use crate::jobs::parts::{is_stream, owned, read_at, read_glyphs, read_pdf, wrong_stream};
 use crate::mistakes::{Mistake, Unread, Wrong, mistake_in};
 use crate::options::chosen::Chosen;
-use crate::options::joined::{is_batch, is_option, looks_like_option, topic_of};
+use crate::options::joined::{is_batch, is_option, looks_like_option, taken, topic_of};
 use crate::options::names::kind_of;
 use crate::words::u32_of;
 use std::alloc::{AllocError, Global};
@@ -185,5 +185,19 @@ pub fn read_words<'a>(alloc: Global, words: &'a [String]) -> Result<Command, Unr
     match topic_of(word) {
         Some(topic) => read_topic(topic, following),
         None => read_by_options(alloc, words),
+    }
+}
+
+/// The same, as a person types them: where they request nothing, and an option is the value of another, that is the error.
+pub fn read_typed<'a>(alloc: Global, words: &'a [String]) -> Result<Command, Unread<'a>>
+    ensures { Gives command_view result (typed (words_view words.now)) }
+{
+    match read_words(alloc, words) {
+        Ok(command) => Ok(command),
+        Err(Unread::OutOfMemory) => Err(Unread::OutOfMemory),
+        Err(Unread::Mistake(found)) => match taken(words) {
+            Some(other) => Err(Unread::Mistake(other)),
+            None => Err(Unread::Mistake(found)),
+        },
     }
 }

@@ -13,7 +13,7 @@ use crate::proved::subset_args::jobs::parts::{
 use crate::proved::subset_args::mistakes::{mistake_in, Mistake, Unread, Wrong};
 use crate::proved::subset_args::options::chosen::Chosen;
 use crate::proved::subset_args::options::joined::{
-    is_batch, is_option, looks_like_option, topic_of,
+    is_batch, is_option, looks_like_option, taken, topic_of,
 };
 use crate::proved::subset_args::options::names::kind_of;
 use crate::proved::subset_args::words::u32_of;
@@ -169,5 +169,17 @@ pub fn read_words<'a>(alloc: Global, words: &'a [String]) -> Result<Command, Unr
     match topic_of(word) {
         Some(topic) => read_topic(topic, following),
         None => read_by_options(alloc, words),
+    }
+}
+
+/// The same, as a person types them: where they request nothing, and an option is the value of another, that is the error.
+pub fn read_typed<'a>(alloc: Global, words: &'a [String]) -> Result<Command, Unread<'a>> {
+    match read_words(alloc, words) {
+        Ok(command) => Ok(command),
+        Err(Unread::OutOfMemory) => Err(Unread::OutOfMemory),
+        Err(Unread::Mistake(found)) => match taken(words) {
+            Some(other) => Err(Unread::Mistake(other)),
+            None => Err(Unread::Mistake(found)),
+        },
     }
 }
