@@ -1077,9 +1077,10 @@ static inline uint32_t subsetter_subset_with_options(const uint8_t *font, size_t
 /* The subset of a font as it is at these coordinates, with all choices.
  *
  * An axis without a value stays at its default, of several values for an axis the last counts, one past an axis's end is that
- * end, and a tag that the font doesn't have is passed over. Where the font is at its default, has no axes or has its
- * outlines in `CFF `, it is subset as it is, with its hints. Else the new font is a static one: each glyph is a simple outline
- * without instructions, as the font draws it there, with the advance that it has there, and there are no further glyphs.
+ * end, and a tag that the font doesn't have is passed over (`unknown_axes` of `subsetter_make_font` has it, also for no glyphs).
+ * Where the font is at its default, has no axes or has its outlines in `CFF `, it is subset as it is, with its hints. Else the
+ * new font is a static one: each glyph is a simple outline without instructions, as the font draws it there, with the advance
+ * that it has there, and there are no further glyphs.
  *
  * A font with outlines in `CFF2`, and neither `glyf` nor `CFF `, is made static at its default too, also without axes: the new
  * font has outlines in a CID-keyed `CFF `, with their stems, and each coordinate is rounded once.

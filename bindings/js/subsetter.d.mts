@@ -83,7 +83,8 @@ export interface Place {
     /**
      * Tags of axes, of four ASCII characters, with values in what the axes count: `{ wght: 650, wdth: 87.5 }`. A value is
      * finite, and is taken as the nearest number of 65536ths, a half rounded up. An axis without a value stays at its default,
-     * one past an axis's end is that end, and a tag that the font doesn't have is passed over.
+     * one past an axis's end is that end, and a tag that the font doesn't have is passed over: `unknownAxes` of
+     * `pdfFont(data, [], { coordinates, rights: "held" })` lists such tags.
      *
      * Where the font is at its default, has no axes or has its outlines in `CFF `, it is subset as it is, with its hints.
      * Else the new font is a static one, each glyph a simple outline without instructions, and `limits.tokens` bounds the

@@ -171,6 +171,9 @@ function entriesOf(shown) {
     const wanted = "glyphs with their texts must be an iterable of objects, as [{ glyph: 36, text: \"A\" }] (glyphsOf makes them of a text)";
     const glyphs = [], text = [], ends = [];
     for (const entry of objectsOf(shown, wanted)) {
+        if ([entry.glyph, entry.text].includes(undefined)) {
+            throw new TypeError(wanted);
+        }
         glyphs.push(whole(entry.glyph, 0, 65535, "a glyph"));
         for (const character of charactersOf(entry.text)) {
             text.push(character);

@@ -140,8 +140,7 @@ def test_limits(name, value):
         if least <= value <= most:
             assert error is None or isinstance(error, subsetter.Error)
         else:
-            assert type(error) is ValueError and str(error).startswith(f"{name} is ") and len(str(error)) < 120
-            assert str(error).endswith(f", and none from {least} to {most}")
+            assert type(error) is ValueError and str(error).startswith(f"{name} is from {least} to {most}, and not ") and len(str(error)) < 120
 
 
 @pytest.mark.parametrize("name", RANGES)

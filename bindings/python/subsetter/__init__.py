@@ -591,7 +591,7 @@ def _number(what: str, value: SupportsIndex, least: int, most: int) -> int:
         first = " (of a pair of glyphs_of the first is one)" if what == "a glyph" and isinstance(value, tuple) else ""
         raise TypeError(f"{what} is an int, and no {type(value).__name__}{first}") from None
     if not least <= number <= most:
-        raise ValueError(f"{what} is {_shown(number)}, and none from {least} to {most}")
+        raise ValueError(f"{what} is from {least} to {most}, and not {_shown(number)}")
     return number
 
 
@@ -772,12 +772,13 @@ def subset(
 
     `coordinates` are where a variable font is taken: the tags of axes with values in what the axes count, as
     {"wght": 650, "wdth": 87.5}. An axis without a value stays at its default, one past an axis's end is that end, and a tag
-    that the font doesn't have is passed over. A value is taken as the nearest number of 65536ths, a half rounded up. Where
-    the font is at its default, has no axes or has its outlines in `CFF `, it is subset as it is, with its hints; else the
-    new font is a static one, each glyph a simple outline without instructions, and `tokens` bounds the steps of a glyph
-    (one for each glyph that it leads to, each point, each tuple, and each point again of a tuple that counts). A font with
-    outlines in `CFF2`, and neither `glyf` nor `CFF `, is made static at its default too, which is {}: the new font has outlines
-    in a CID-keyed `CFF `, with their stems, and each coordinate is rounded once.
+    that the font doesn't have is passed over: `pdf_font(data, [], coordinates=.., rights="held").unknown_axes` lists such
+    tags. A value is taken as the nearest number of 65536ths, a half rounded up. Where the font is at its default, has no axes
+    or has its outlines in `CFF `, it is subset as it is, with its hints; else the new font is a static one, each glyph a simple
+    outline without instructions, and `tokens` bounds the steps of a glyph (one for each glyph that it leads to, each point, each
+    tuple, and each point again of a tuple that counts). A font with outlines in `CFF2`, and neither `glyf` nor `CFF `, is made
+    static at its default too, which is {}: the new font has outlines in a CID-keyed `CFF `, with their stems, and each
+    coordinate is rounded once.
 
     Raises an `Error` by its name (with coordinates `MalformedFont` also where `fvar`, `avar`, `gvar` or `HVAR` is cut,
     `Unimplemented` also for an `avar` of another version than 1, and `OverflowError` for too many steps, or where a
@@ -848,10 +849,11 @@ _USAGES: Tuple[Literal["unsaid", "installable", "editable", "preview_and_print",
 
 
 def _choice(what: str, value: str, known: Tuple[str, ...]) -> int:
+    wanted = f"{what} is one of {', '.join(known)}"
     if not isinstance(value, str):
-        raise TypeError(f"{what} is a str, and no {type(value).__name__}")
+        raise TypeError(f"{wanted}, and no {type(value).__name__}")
     if value not in known:
-        raise ValueError(f"{what} is {value!r}, and none of {', '.join(known)}")
+        raise ValueError(f"{wanted}, and not {value!r}")
     return known.index(value)
 
 
@@ -1426,7 +1428,7 @@ def _thousandths(size: Value) -> int:
     except builtins.OverflowError:
         scaled = math.inf
     if not 0 <= scaled <= 0xFFFFFFFF:
-        raise ValueError(f"size is {_shown(size)}, and none from 0 to 4294967.295")
+        raise ValueError(f"size is from 0 to 4294967.295, and not {_shown(size)}")
     return round(scaled)
 
 
