@@ -94,7 +94,7 @@ enum {
     SUBSETTER_NO_CMAP = 13,
     /* The face has no outlines (`glyf`, `CFF `, `CFF2`); of the calls that make a font for PDF alone. Others answer 1. */
     SUBSETTER_BITMAPS_ALONE = 14,
-    /* The font of a text would have more than 65,535 codes: the run is for another text. */
+    /* The font of a text would have more than 65,535 codes, code 0 among them, or glyphs: the run is for another text. */
     SUBSETTER_OVERFULL = 15,
     /* The numbers of objects are too few or too many, 0, or not distinct; of the calls for PDF alone. */
     SUBSETTER_INVALID_NUMBERS = 16
@@ -363,7 +363,8 @@ enum {
  * on, the codes of the entries before stay. `kind` is one of SUBSETTER_CODES_..; entries are as for that call.
  *   0: `codes` begins with the codes, and `*length` is `glyph_count`.
  *   8: there is room for less; `codes` is as it was, and `*length` is `glyph_count`.
- *   5 (more than 65,535 glyphs, or pairs of a glyph and a text), 7, 10 (another kind), 12: `codes` is as it was, and `*length` is 0.
+ *   5 (besides glyph 0 more than 65,534 glyphs, or pairs of a glyph and a text), 7, 10 (another kind), 12: `codes` is as it was, and
+ *   `*length` is 0.
  */
 uint32_t subsetter_codes_of(const uint16_t *glyphs, size_t glyph_count,
                             const uint32_t *text, size_t text_count,
@@ -586,8 +587,8 @@ typedef struct subsetter_font {
  *   0: `*made` is the font.
  *   1 to 7, 10 to 12, 14: all sizes, counts and numbers of `*made` are 0 (`made->size` by the inline call), and nothing is to be freed. First
  *   comes 10, then a text that isn't one (12), 14, what is found in opening the font, 11, a text that is too long (12), and then what
- *   `subsetter_embed_at_by_words` returns. 2 also where outlines in `glyf` have no `maxp`; 5 also for more than 65,535 pairs of a
- *   glyph and a text.
+ *   `subsetter_embed_at_by_words` returns. 2 also where outlines in `glyf` have no `maxp`; 5 also for more than 65,534 pairs of a
+ *   glyph and a text besides glyph 0.
  * `made` is written by each call and must not be null; what it held before isn't freed. No value of the font descriptor is a
  * reason to refuse a font: where a table is missing or cut, another source of the value is taken.
  */

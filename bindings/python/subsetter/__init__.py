@@ -138,7 +138,7 @@ class MissingCharacters(Error, ValueError):
 
 
 class Overfull(OverflowError):
-    """The font of a `PdfText` would have more than 65,535 codes or glyphs: the run is for another one."""
+    """The font of a `PdfText` would have more than 65,535 codes, code 0 among them, or glyphs: the run is for another one."""
 
 
 class Embedded(NamedTuple):
@@ -704,10 +704,13 @@ def _reason(library: ctypes.CDLL, status: int, asked: _Asked) -> str:
     return found or " and ".join(f"{name} is {limit}" for name, limit in limits.items() if limit)
 
 
-def _check(library: ctypes.CDLL, status: int, asked: Optional[_Asked] = None, fault: Callable[[], str] = str) -> None:
-    """Raises the error of a status. `fault` says what is wrong with a text, or with numbers."""
+def _check(
+    library: ctypes.CDLL, status: int, asked: Optional[_Asked] = None, fault: Callable[[], str] = str, excess: Callable[[], str] = str,
+) -> None:
+    """Raises the error of a status. `fault` says what is wrong with a text, or with numbers, and `excess` of what there is too much."""
     if status in _ERRORS:
-        why = fault() if _ERRORS[status] is InvalidText else _reason(library, status, asked) if asked else ""
+        why = fault() if _ERRORS[status] is InvalidText else excess() if _ERRORS[status] is OverflowError else ""
+        why = why or (_reason(library, status, asked) if asked else "")
         raise _ERRORS[status](": ".join(filter(None, (_text(library, status), why))))
     if status == 16:
         raise ValueError(f"numbers of objects are distinct and above 0, and as many as there are parts (part_count): {fault()}")
@@ -897,6 +900,13 @@ class _Entries:
     def fault(self) -> str:
         return _surrogate(self.text) or "a text has more than 256 UTF-16 units"
 
+    def excess(self, codes: Codes) -> str:
+        """That there are too many for their codes."""
+        texts = [self.text[start:end].tobytes() if codes == "each_text" else b"" for start, end in zip([0, *self.ends], self.ends)]
+        count = len({it for it in zip(self.glyphs, texts) if it[0]})
+        what = "pairs of a glyph and a text" if any(texts) else "glyphs"
+        return f"{count} {what}, and at most 65534 besides glyph 0" if count > 65_534 else ""
+
     def arguments(self) -> Tuple[Any, ...]:
         glyphs, text, ends = self.glyphs, self.text, (ctypes.c_size_t * len(self.ends))(*self.ends)
         return (glyphs.buffer_info()[0], len(glyphs), text.buffer_info()[0], len(text), ends, len(ends))
@@ -948,8 +958,8 @@ def codes_of(shown: Iterable[Tuple[SupportsIndex, str]], codes: Codes = "consecu
     """The code of each entry, in order, as `pdf_font` gives it: it takes no font, so that pages can be written first. Where a list
     goes on, the codes of the entries before stay.
 
-    Raises `OverflowError` for more than 65,535 glyphs, or pairs of a glyph and a text, `InvalidText` for an unpaired
-    surrogate, and `NotImplementedError` where the library is of an older version.
+    Raises `OverflowError` for more than 65,534 glyphs, or pairs of a glyph and a text, besides glyph 0, `InvalidText` for an
+    unpaired surrogate, and `NotImplementedError` where the library is of an older version.
     """
     entries, kind = _Entries(shown), _choice("codes", codes, _CODES)
     library, length = _library_with("subsetter_codes_of"), ctypes.c_size_t()
@@ -957,7 +967,7 @@ def codes_of(shown: Iterable[Tuple[SupportsIndex, str]], codes: Codes = "consecu
     status = library.subsetter_codes_of(
         *entries.arguments(), kind, found.buffer_info()[0], len(found), ctypes.byref(length),
     )
-    _check(library, status, None, lambda: _surrogate(entries.text))
+    _check(library, status, None, lambda: _surrogate(entries.text), lambda: entries.excess(codes))
     return found.tolist()
 
 
@@ -1334,7 +1344,8 @@ def pdf_font(
         try:
             with _bytes_of(data) as (font, size):
                 status = library.subsetter_make_font_by_words(font, size, face, *given, ctypes.byref(made))
-                _check(library, status, _Asked(_PDF_FONT, font, size, face, entries.glyphs, words, place), entries.fault)
+                asked = _Asked(_PDF_FONT, font, size, face, entries.glyphs, words, place)
+                _check(library, status, asked, entries.fault, lambda: entries.excess(codes))
                 has_kinds = hasattr(library, "subsetter_glyph_kinds")
                 kinds = _kind_bits(library, font, size, face, entries.glyphs) if has_kinds else None
             found = PdfFont(made.pdf, entries, made)
@@ -1405,11 +1416,18 @@ def _no_glyph(glyph: int, count: int) -> str:
     return f"glyph {glyph}: " + (f"the font's glyphs are 0 to {count - 1}" if count else "the font has no glyph")
 
 
+def _unlaid(texts: Iterable[str]) -> str:
+    """Why a run of clusters with these texts isn't laid out."""
+    if any(len(it.encode("utf-16-le", "surrogatepass")) > 2 * 16_382 for it in texts):
+        return "a text that needs an ActualText has more than 16382 UTF-16 units"
+    return "a glyph or the pen is further away than 32 bits count"
+
+
 def _cluster_fault(text: str, width: int, clusters: List[int], direction: str) -> str:
-    """What is wrong with cluster numbers that count units of `width` bits."""
-    begins, at = set(), 0
-    for it in text:
-        begins.add(at)
+    """What is wrong with cluster numbers that count units of `width` bits, or with a run of them."""
+    begins, at = {}, 0
+    for place, it in enumerate(text):
+        begins[at] = place
         at += 8 * len(it.encode("utf-8" if width == 8 else f"utf-{width}-le", "surrogatepass")) // width
     wrong = [it for it in clusters if it not in begins]
     if wrong:
@@ -1417,7 +1435,8 @@ def _cluster_fault(text: str, width: int, clusters: List[int], direction: str) -
     for one, other in zip(clusters, clusters[1:]):
         if other < one if direction != "rtl" else other > one:
             return f"cluster {other} comes after cluster {one}, and direction is {direction}"
-    return ""
+    places = [*sorted(begins[it] for it in set(clusters)), len(text)]
+    return _unlaid(text[start:end] for start, end in zip(places, places[1:]))
 
 
 def _thousandths(size: Value) -> int:
@@ -1582,7 +1601,9 @@ class PdfText:
                 rows[place] += (0, -height, 0, self._above(glyph)) if self._vertical else (width, 0, 0, 0)
 
         def fault(_: str) -> str:
-            return "the first item continues a cluster, as its text is None" if rows and rows[0][1] else self._fault(rows, characters)
+            if rows and rows[0][1]:
+                return "the first item continues a cluster, as its text is None"
+            return self._fault(rows, characters) or _unlaid("".join(map(chr, characters[row[2]:row[3]])) for row in rows)
 
         given = _packed(_ITEM, rows, ("a glyph", "", "", "", *_PLACES))
         return self._shown("subsetter_show_run", direction, size, rows, fault, given, len(rows), characters.buffer_info()[0], len(characters))

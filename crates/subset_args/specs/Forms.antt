@@ -11,7 +11,7 @@ use Rattle.subset_args.specs.Words.{number_in_bits}
 use Rattle.subset_args.specs.Coordinates.{has_byte, is_equals}
 use Rattle.subset_args.specs.Mistakes.{Fault, refused, or_refused, unless, ◌>>=◌}
 use Rattle.subset_args.specs.Nearest.{front}
-use Rattle.subset_args.specs.Options.{Choice, setting_of, kind_of, with_switch, with_setting}
+use Rattle.subset_args.specs.Options.{Choice, no_choice, setting_of, kind_of, with_switch, with_setting}
 use Rattle.subset_args.specs.declared.jobs.command.Topic.{Topic}
 use Rattle.subset_args.specs.declared.jobs.command.Topic.TheVariants.{Axes, Info}
 use Rattle.subset_args.specs.declared.mistakes.Wrong.{Wrong}
@@ -58,9 +58,10 @@ joined word =
     (long_setting (before_first is_equals word))
     else None
 
--- `--axes`, `--info` and `--batch` come first
+-- `--axes`, `--info` and `--batch`, also with its value in one word, come first
 abbrev pub not_first : List ℕ → Option Wrong
-not_first word = if is_some (topic_of word) then Some ShownLate else (if is_batch word then Some BatchLate else None)
+not_first word =
+    if is_some (topic_of word) then Some ShownLate else (if is_batch (front word) then Some BatchLate else None)
 
 -- what is wrong with an argument that is no other option, by itself
 abbrev pub wrong_place : List ℕ → Option Wrong
@@ -180,6 +181,15 @@ parsed None choice is_after (word ∷ words) = elim (kind_of word) [
     | None ↦ Ok (chosen choice false (word ∷ words))
   ]
 ]
+
+-- the file of `--batch=FILE`, where the arguments from it on aren't of the plain form: then it is IN
+abbrev pub joined_batch : List ℕ → List (List ℕ) → Option (List ℕ)
+joined_batch word words =
+    if has_byte is_equals word
+    then if is_batch (before_first is_equals word) && not (is_ok (plain no_choice words))
+    then Some (after_first is_equals word)
+    else None
+    else None
 
 -- ---- IN with options before and after it
 

@@ -8,7 +8,7 @@ use Rattle.subset_args.specs.Words.{number_in_bits}
 use Rattle.subsetter_base.specs.declared.tag.Tag.{Tag}
 use Rattle.subset_args.specs.Coordinates.{has_byte, is_equals, coordinates_in}
 use Rattle.subset_args.specs.Forms.{Asked, Options, helped, versioned, chosen, looks_like_option, topic_of, is_batch}
-use Rattle.subset_args.specs.Forms.{is_option, wrong_pdf, parsed, asked, taken}
+use Rattle.subset_args.specs.Forms.{is_option, wrong_pdf, parsed, asked, joined_batch, taken}
 use Rattle.subset_args.specs.Limits.{Bounds}
 use Rattle.subset_args.specs.Listing.Lists.{FileList, every, these, characters, text_of, argument_list}
 use Rattle.subset_args.specs.Listing.Characters.{argument_characters}
@@ -245,13 +245,19 @@ batch_of [] = refused NoBatchFile []
 batch_of (file ∷ []) = Ok (batch file)
 batch_of (file ∷ word ∷ words) = refused AfterBatch word
 
--- what the arguments request: `--batch FILE`, `--axes [--json] FONT [INDEX]` or `--info` in its place, or the making of
--- a subset
-abbrev pub command : List (List ℕ) → Result Command Fault
-command [] = command_by_options []
-command (word ∷ words) = if is_batch word then batch_of words else (elim (topic_of word) [
+-- without `--batch` and a value: `--axes [--json] FONT [INDEX]`, `--info` in its place, or the making of a subset
+abbrev pub command_without : List ℕ → List (List ℕ) → Result Command Fault
+command_without word words = elim (topic_of word) [
   | Some topic ↦ shown_by topic words
   | None ↦ command_by_options (word ∷ words)
+]
+
+-- what the arguments request: `--batch FILE`, `--batch=FILE`, or that
+abbrev pub command : List (List ℕ) → Result Command Fault
+command [] = command_by_options []
+command (word ∷ words) = if is_batch word then batch_of words else (elim (joined_batch word (word ∷ words)) [
+  | Some file ↦ batch_of (file ∷ words)
+  | None ↦ command_without word words
 ])
 
 -- the same, as a person types them: where they request nothing, and an option is the value of another, that is what is

@@ -1,14 +1,14 @@
 //! What all arguments request, or what is wrong with them first.
 
-ghost use Rattle.std.specs.Prelude.{◌≡◌, map, IfOk};
+ghost use Rattle.std.specs.Prelude.{◌≡◌, ◌∷◌, map, IfOk};
 ghost use Rattle.std.specs.Option.{option_map};
 ghost use Rattle.subset_args.specs.Mistakes.{fault_view, Gives};
-ghost use Rattle.subset_args.specs.Request.{request_with, request_at, request_of, request_from, command_of, command_by_options, instead_of, shown_of, shown_by, batch_of, command, typed};
+ghost use Rattle.subset_args.specs.Request.{request_with, request_at, request_of, request_from, command_of, command_by_options, instead_of, shown_of, shown_by, batch_of, command_without, command, typed};
 ghost use Rattle.subset_args.specs.declared.mistakes.Wrong.TheVariants.{AfterShown};
 ghost use Rattle.subset_args.specs.View.{chosen_view, parsed_view, asked_view, requested_view, position_view, job_view, command_view, words_view};
 
 use crate::jobs::command::{Command, Glyphs, Job, Position, Topic};
-use crate::jobs::forms::{Asked, Ending, Parsed, asked_by, parse_options, wrong_pdf};
+use crate::jobs::forms::{Asked, Ending, Parsed, asked_by, joined_batch, parse_options, wrong_pdf};
 use crate::jobs::parts::{is_stream, owned, read_at, read_glyphs, read_pdf, wrong_stream};
 use crate::mistakes::{Mistake, Unread, Wrong, mistake_in};
 use crate::options::chosen::Chosen;
@@ -156,18 +156,27 @@ fn read_topic<'a>(topic: Topic, words: &'a [String]) -> Result<Command, Unread<'
     }
 }
 
+/// What FILE and the arguments after it request.
+fn batch_of<'a>(alloc: Global, file: &str, words: &'a [String]) -> Result<Command, Unread<'a>>
+    ensures { Gives command_view result (batch_of (file.now ∷ words_view words.now)) }
+{
+    match words {
+        [] => Ok(Command::Batch(String::from_str(alloc, file)?)),
+        [word, ..] => Err(Unread::Mistake(mistake_in(Wrong::AfterBatch, word))),
+    }
+}
+
 /// What the arguments after `--batch` request: FILE.
-fn read_batch<'a>(words: &'a [String]) -> Result<Command, Unread<'a>>
+fn read_batch<'a>(alloc: Global, words: &'a [String]) -> Result<Command, Unread<'a>>
     ensures { Gives command_view result (batch_of (words_view words.now)) }
 {
     match words {
         [] => Err(Unread::Mistake(mistake_in(Wrong::NoBatchFile, ""))),
-        [file] => Ok(Command::Batch(file.clone()?)),
-        [_, word, ..] => Err(Unread::Mistake(mistake_in(Wrong::AfterBatch, word))),
+        [file, following @ ..] => batch_of(alloc, file, following),
     }
 }
 
-/// What the arguments after the program's name request: `--batch FILE`, `--axes [--json] FONT [INDEX]` or `--info` in its place,
+/// What the arguments after the program's name request: `--batch FILE` (or `--batch=FILE`), `--axes [--json] FONT [INDEX]` or `--info` in its place,
 /// or `[OPTIONS] IN OUT INDEX GID[,GID..]`, where the last one is left out with an option that requests glyphs; or IN with options
 /// before and after it, where one gives OUT or the file of a PDF. An option and its value may be one word, `--name=value`, but
 /// where that is IN in the plain form.
@@ -180,7 +189,10 @@ pub fn read_words<'a>(alloc: Global, words: &'a [String]) -> Result<Command, Unr
         return read_by_options(alloc, words);
     };
     if is_batch(word) {
-        return read_batch(following);
+        return read_batch(alloc, following);
+    }
+    if let Some(file) = joined_batch(word, words) {
+        return batch_of(alloc, file, following);
     }
     match topic_of(word) {
         Some(topic) => read_topic(topic, following),

@@ -5,7 +5,7 @@ use crate::rattle::prelude::{String, Vec};
 
 use crate::proved::subset_args::jobs::command::{Command, Glyphs, Job, Position, Topic};
 use crate::proved::subset_args::jobs::forms::{
-    asked_by, parse_options, wrong_pdf, Asked, Ending, Parsed,
+    asked_by, joined_batch, parse_options, wrong_pdf, Asked, Ending, Parsed,
 };
 use crate::proved::subset_args::jobs::parts::{
     is_stream, owned, read_at, read_glyphs, read_pdf, wrong_stream,
@@ -141,16 +141,23 @@ fn read_topic<'a>(topic: Topic, words: &'a [String]) -> Result<Command, Unread<'
     }
 }
 
-/// What the arguments after `--batch` request: FILE.
-fn read_batch<'a>(words: &'a [String]) -> Result<Command, Unread<'a>> {
+/// What FILE and the arguments after it request.
+fn batch_of<'a>(alloc: Global, file: &str, words: &'a [String]) -> Result<Command, Unread<'a>> {
     match words {
-        [] => Err(Unread::Mistake(mistake_in(Wrong::NoBatchFile, ""))),
-        [file] => Ok(Command::Batch(file.clone()?)),
-        [_, word, ..] => Err(Unread::Mistake(mistake_in(Wrong::AfterBatch, word))),
+        [] => Ok(Command::Batch(String::from_str(alloc, file)?)),
+        [word, ..] => Err(Unread::Mistake(mistake_in(Wrong::AfterBatch, word))),
     }
 }
 
-/// What the arguments after the program's name request: `--batch FILE`, `--axes [--json] FONT [INDEX]` or `--info` in its place,
+/// What the arguments after `--batch` request: FILE.
+fn read_batch<'a>(alloc: Global, words: &'a [String]) -> Result<Command, Unread<'a>> {
+    match words {
+        [] => Err(Unread::Mistake(mistake_in(Wrong::NoBatchFile, ""))),
+        [file, following @ ..] => batch_of(alloc, file, following),
+    }
+}
+
+/// What the arguments after the program's name request: `--batch FILE` (or `--batch=FILE`), `--axes [--json] FONT [INDEX]` or `--info` in its place,
 /// or `[OPTIONS] IN OUT INDEX GID[,GID..]`, where the last one is left out with an option that requests glyphs; or IN with options
 /// before and after it, where one gives OUT or the file of a PDF. An option and its value may be one word, `--name=value`, but
 /// where that is IN in the plain form.
@@ -164,7 +171,10 @@ pub fn read_words<'a>(alloc: Global, words: &'a [String]) -> Result<Command, Unr
         }
     };
     if is_batch(word) {
-        return read_batch(following);
+        return read_batch(alloc, following);
+    }
+    if let Some(file) = joined_batch(word, words) {
+        return batch_of(alloc, file, following);
     }
     match topic_of(word) {
         Some(topic) => read_topic(topic, following),

@@ -57,12 +57,12 @@ pub fn joined(word: &str) -> Option<Given<'_>> {
     }
 }
 
-/// What is wrong with `--axes`, `--info` and `--batch` where they aren't first.
+/// What is wrong with `--axes`, `--info`, `--batch` and `--batch=FILE` where they aren't first.
 fn not_first(word: &str) -> Option<Wrong> {
     if topic_of(word).is_some() {
         return Some(Wrong::ShownLate);
     }
-    if is_batch(word) {
+    if is_batch(front(word)) {
         return Some(Wrong::BatchLate);
     }
     None
