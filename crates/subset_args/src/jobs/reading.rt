@@ -206,11 +206,10 @@ pub fn read_typed<'a>(alloc: Global, words: &'a [String]) -> Result<Command, Unr
     ensures { Gives command_view result (typed (words_view words.now)) }
 {
     match read_words(alloc, words) {
-        Ok(command) => Ok(command),
-        Err(Unread::OutOfMemory) => Err(Unread::OutOfMemory),
         Err(Unread::Mistake(found)) => match taken(words) {
             Some(other) => Err(Unread::Mistake(other)),
             None => Err(Unread::Mistake(found)),
         },
+        other => other,
     }
 }

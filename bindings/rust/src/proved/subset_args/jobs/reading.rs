@@ -181,11 +181,10 @@ pub fn read_words<'a>(alloc: Global, words: &'a [String]) -> Result<Command, Unr
 /// The same, as a person types them: where they request nothing, and an option is the value of another, that is the error.
 pub fn read_typed<'a>(alloc: Global, words: &'a [String]) -> Result<Command, Unread<'a>> {
     match read_words(alloc, words) {
-        Ok(command) => Ok(command),
-        Err(Unread::OutOfMemory) => Err(Unread::OutOfMemory),
         Err(Unread::Mistake(found)) => match taken(words) {
             Some(other) => Err(Unread::Mistake(other)),
             None => Err(Unread::Mistake(found)),
         },
+        other => other,
     }
 }
