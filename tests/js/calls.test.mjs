@@ -188,7 +188,7 @@ test("messages say why, and what is wanted", () => {
         [TypeError, "glyphs must be an iterable of numbers, as [36, 68] (glyphsOf has those of a text), and not string", () => subsetter.subset(TTF, "AB")],
         [RangeError, "a glyph must be a whole number from 0 to 65535, and not -1", () => subsetter.subset(TTF, [1, -1])],
         [TypeError, "a glyph (.glyph of what glyphsOf answers) must be a number, and not Object", () => subsetter.subset(TTF, subsetter.glyphsOf(TTF, "A"))],
-        [TypeError, 'glyphs with their texts must be an iterable of objects, as [{ glyph: 36, text: "A" }] (glyphsOf makes them of a text), and not string', () => subsetter.pdfFont(TTF, "AB")],
+        [TypeError, 'glyphs with their texts must be an iterable of objects, as [{ glyph: 36, text: "A" }] (glyphsOf makes them of a text)', () => subsetter.pdfFont(TTF, [{ glyf: 1, text: "A" }])],
         [TypeError, 'glyphs with their texts must be an iterable of objects, as [{ glyph: 36, text: "A" }] (glyphsOf makes them of a text), and not of Array', () => subsetter.pdfFont(TTF, [[1, "A"]])],
         [TypeError, "a text must be a string, and not null", () => subsetter.pdfFont(TTF, [{ glyph: 1, text: null }])],
     ];

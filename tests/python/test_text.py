@@ -128,6 +128,7 @@ def test_a_closed_text():
     (ValueError, "direction is one of ltr, rtl, and not 'ttb'", lambda text: text.run([], "ttb")),
     (ValueError, "size is from 0 to 4294967.295, and not -1", lambda text: text.run([], size=-1)),
     (TypeError, "size is a number, and no str", lambda text: text.run([], size="12")),
+    (TypeError, "units is one of utf8, utf16, utf32, and no int", lambda text: text.shaped("A", *arrays([(1, 0, 9, 0, 0, 0)]), units=8)),
     (ValueError, "a code is from 0 to 65535, and not 65536", lambda text: text.font().string([65536])),
 ])
 def test_what_is_refused(kind, message, call):

@@ -8,7 +8,7 @@ use Rattle.subset_args.specs.Words.{number_in_bits}
 use Rattle.subsetter_base.specs.declared.tag.Tag.{Tag}
 use Rattle.subset_args.specs.Coordinates.{has_byte, is_equals, coordinates_in}
 use Rattle.subset_args.specs.Forms.{Asked, Options, helped, versioned, chosen, looks_like_option, topic_of, is_batch}
-use Rattle.subset_args.specs.Forms.{is_option, wrong_pdf, parsed, asked, joined_batch, taken}
+use Rattle.subset_args.specs.Forms.{is_option, wrong_after, wrong_pdf, parsed, asked, joined_batch, taken}
 use Rattle.subset_args.specs.Limits.{Bounds}
 use Rattle.subset_args.specs.Listing.Lists.{FileList, every, these, characters, text_of, argument_list}
 use Rattle.subset_args.specs.Listing.Characters.{argument_characters}
@@ -222,12 +222,18 @@ instead_of input fault =
     else (if is_option (kind_of input) || is_some (topic_of input) then record { wrong = AfterShown; word = input }
     else record { wrong = Unknown; word = input })
 
+-- what is wrong with an INDEX that is no number: it may be an option
+abbrev pub no_index : List ℕ → Fault
+no_index index =
+    if is_some (wrong_after index) then record { wrong = AfterShown; word = index }
+    else record { wrong = Index; word = index }
+
 -- what is shown by the arguments `FONT [INDEX]`, with or without JSON; INDEX is 0 where it isn't given
 abbrev pub shown_of : Topic → Bool → List (List ℕ) → Result Command Fault
 shown_of topic json [] = refused NoInput []
 shown_of topic json (input ∷ []) = Ok (show topic json input 0)
 shown_of topic json (input ∷ index ∷ []) =
-    or_fault (instead_of input (record { wrong = Index; word = index }))
+    or_fault (instead_of input (no_index index))
     (option_map (show topic json input) (number_in_bits 32 index))
 shown_of topic json (input ∷ index ∷ word ∷ words) = Err (instead_of input (record { wrong = AfterShown; word = word }))
 

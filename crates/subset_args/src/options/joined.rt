@@ -126,6 +126,7 @@ pub fn says_position(word: &str) -> bool
 }
 
 /// The long name of an option that a value follows.
+#[tactic(auto, unfolding(crate::specs::Options::setting_of))]
 pub fn name_of(setting: Setting) -> &'static str
     ensures { long_setting result.now ≡ Some setting }
 {

@@ -5,7 +5,7 @@ use crate::proved::plain_text::characters::plain;
 use crate::proved::subset_args::mistakes::{Mistake, Wrong};
 use crate::proved::subset_args::nearest::{front, remedy_of, Remedy};
 use crate::proved::subset_args::options::joined::name_of;
-use crate::proved::subset_args::options::names::Setting;
+use crate::proved::subset_args::options::names::{kind_of, Kind, Setting};
 use crate::rattle::fmt;
 
 /// What a list of glyphs may have.
@@ -135,6 +135,9 @@ impl fmt::Display for Advice<'_> {
                 Remedy::Instead(option) => write!(f, "did you mean {option}?"),
                 Remedy::Manual => write!(f, "see subset_font --help"),
             },
+            Wrong::Late if matches!(kind_of(self.0.word), Kind::Help | Kind::Version) => {
+                write!(f, "expected: {} alone", self.0.word)
+            }
             Wrong::Taken(setting) => {
                 let (option, word) = (option_in(self.0.wrong), Shown(self.0.word));
                 write!(
@@ -174,7 +177,9 @@ fn expected(wrong: Wrong) -> &'static str {
         }
         Wrong::InputTwice => "expected: - for IN or for FILE, not for both",
         Wrong::MostInput => "expected: a number of bytes to 4294967295",
-        Wrong::Glyph => "expected: numbers from 0 to 65535, with commas, as 36,37,38",
+        Wrong::Glyph => {
+            "expected: numbers from 0 to 65535, with commas, as 36,37,38; ranges by --gids"
+        }
         Wrong::Limits => "expected: numbers, as 1000000,64, with DEPTH from 1 to 255",
         Wrong::Coordinate | Wrong::Tag => {
             "expected: numbers from -32768 to 32767, as wght=650,wdth=87.5, or a name"
@@ -184,7 +189,7 @@ fn expected(wrong: Wrong) -> &'static str {
         Wrong::Descends | Wrong::CodesDescend => ORDER_EXPECTED,
         Wrong::TooMany => FEW_EXPECTED,
         Wrong::BesideInput => {
-            "expected: with -o or --face-index, IN and options alone; glyphs by --gids"
+            "expected: with -o or --face-index, IN and options alone; a text with blanks in quotes"
         }
         Wrong::Coding => {
             "expected: consecutive, source, or text (a code for each glyph and character)"

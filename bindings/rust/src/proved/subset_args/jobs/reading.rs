@@ -13,7 +13,7 @@ use crate::proved::subset_args::jobs::parts::{
 use crate::proved::subset_args::mistakes::{mistake_in, Mistake, Unread, Wrong};
 use crate::proved::subset_args::options::chosen::Chosen;
 use crate::proved::subset_args::options::joined::{
-    is_batch, is_option, looks_like_option, taken, topic_of,
+    is_batch, is_option, looks_like_option, taken, topic_of, wrong_after,
 };
 use crate::proved::subset_args::options::names::kind_of;
 use crate::proved::subset_args::words::u32_of;
@@ -105,6 +105,15 @@ fn instead_of<'a>(input: &'a str, wrong: Mistake<'a>) -> Mistake<'a> {
     }
 }
 
+/// What is wrong with an INDEX that is no number: it may be an option.
+fn no_index(index: &str) -> Mistake<'_> {
+    if wrong_after(index).is_some() {
+        mistake_in(Wrong::AfterShown, index)
+    } else {
+        mistake_in(Wrong::Index, index)
+    }
+}
+
 /// What is wrong where an argument follows INDEX.
 fn after_index<'a>(input: &'a str, word: &'a str) -> Mistake<'a> {
     instead_of(input, mistake_in(Wrong::AfterShown, word))
@@ -117,10 +126,7 @@ fn read_shown<'a>(topic: Topic, json: bool, words: &'a [String]) -> Result<Comma
         [input] => Ok(Command::Show(topic, json, input.clone()?, 0)),
         [input, index] => match u32_of(index) {
             Some(number) => Ok(Command::Show(topic, json, input.clone()?, number)),
-            None => Err(Unread::Mistake(instead_of(
-                input,
-                mistake_in(Wrong::Index, index),
-            ))),
+            None => Err(Unread::Mistake(instead_of(input, no_index(index)))),
         },
         [input, _, word, ..] => Err(Unread::Mistake(after_index(input, word))),
     }
@@ -185,11 +191,10 @@ pub fn read_words<'a>(alloc: Global, words: &'a [String]) -> Result<Command, Unr
 /// The same, as a person types them: where they request nothing, and an option is the value of another, that is the error.
 pub fn read_typed<'a>(alloc: Global, words: &'a [String]) -> Result<Command, Unread<'a>> {
     match read_words(alloc, words) {
-        Ok(command) => Ok(command),
-        Err(Unread::OutOfMemory) => Err(Unread::OutOfMemory),
         Err(Unread::Mistake(found)) => match taken(words) {
             Some(other) => Err(Unread::Mistake(other)),
             None => Err(Unread::Mistake(found)),
         },
+        other => other,
     }
 }
