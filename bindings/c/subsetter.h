@@ -922,7 +922,8 @@ typedef struct subsetter_item {
 
 /* The operators that show a run, for a content stream: between BT and ET, after Tf and Td or Tm, where Tc, Tw and Ts are 0 and Tz is
  * 100. The pen goes on by the run's advance, and Ts is 0 then. `characters` are 32-bit characters, of which the items have ranges;
- * `size` is that of the font, in thousandths of a unit of text space (12000 for 12 points); it counts for Ts alone.
+ * `size` is that of the font, in thousandths of a unit of text space (12000 for 12 points); it counts for Ts alone. Each run takes
+ * time for the codes that the text has, too: a few long runs are done sooner than many short ones.
  *   0: `made->bytes` are the operators, the count of offsets is 0, and the text has the codes and the own glyphs of the run. Those
  *   of earlier runs stay.
  *   7, 10 (a direction that isn't the text's, another order, or no text), 12 (a number is no character, a range isn't in order, a

@@ -207,7 +207,7 @@ test("each status is thrown by its class, in its words", async () => {
         for (status of [...Array(20).keys(), 99].slice(1)) {
             const kind = kinds[status] ?? "SubsetterError";
             const text = status === 16 ? "numbers of objects must be distinct and above 0, and as many as there are parts (partCount)" : kinds[status] ? texts[status] ?? "too many codes" : `status ${status}`;
-            for (const call of calls) assert.equal(throws(call, status === 16 ? RangeError : library[kind], status).message, text);
+            for (const call of calls) assert.equal(throws(call, status === 16 ? RangeError : library[kind], status).message.split(": ")[0], text);
         }
     }, change);
 });

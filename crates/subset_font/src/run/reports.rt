@@ -26,7 +26,8 @@ use subset_task::task::{Form, Plan, Requests, Task};
 use subsetter::{Error, Tag};
 
 /// Why the text of a glyph is too long, and how a PDF has longer ones.
-const LONG_TEXT: &str = "a glyph has a text of more than 256 UTF-16 units: give --text or --text-file alone, without --codes";
+const LONG_TEXT: &str =
+    "a glyph has a text of more than 256 UTF-16 units: give --text or --text-file alone, without --codes";
 
 /// Prints why a run failed, if it did, and returns the status.
 pub fn report<R: Eprint>(rt: &R, ended: &Result<(), Failure>, file: Option<&str>) -> u8
