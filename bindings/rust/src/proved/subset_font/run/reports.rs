@@ -25,7 +25,8 @@ use crate::rattle::alloc::{AllocError, Global};
 use crate::rattle::io;
 
 /// Why the text of a glyph is too long, and how a PDF has longer ones.
-const LONG_TEXT: &str = "a glyph has a text of more than 256 UTF-16 units: give --text or --text-file alone, without --codes";
+const LONG_TEXT: &str =
+    "a glyph has a text of more than 256 UTF-16 units: give --text or --text-file alone, without --codes";
 
 /// Prints why a run failed, if it did, and returns the status.
 pub fn report<R: Eprint>(rt: &R, ended: &Result<(), Failure>, file: Option<&str>) -> u8 {
