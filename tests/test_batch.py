@@ -189,17 +189,18 @@ def test_jobs_words(fonts_room):
         # (what becomes of such a word elsewhere is the emulator's)
         wrong |= {"-1": "-1", "+1": "+1", "": "", "1.0": "1.0", " 1": " 1", "1\t2": "1\ufffd2", "\u0661": "\u0661"}
     for number, shown in wrong.items():
-        for words in (["--batch", "none", "--jobs", number], ["--jobs", number, "--batch", "none"]):
-            assert run(words, fonts_room) == (2, b"", f"{USAGE}\n--jobs: \"{shown}\" is not a number\nexpected: a number from 1 to 64\n".encode()), words
+        for words in (["--batch", "none", "--jobs", number], ["--jobs", number, "--batch", "none"], [f"--jobs={number}", "--batch=none"]):
+            assert run(words, fonts_room) == (2, b"", f"{USAGE}\n--jobs: \"{shown}\" is not a number of threads\nexpected: a number from 1 to 64\n".encode()), words
     (fonts_room / "requests").write_bytes(lines_of(GOOD[:1]))
     for line in ("--batch requests --json 2", "--batch requests 2 --jobs", "--batches requests --jobs 2", "--jobs 2 --json requests", "--job 2 --batch requests", "--jobs 2 --batch",
-                 "--batch requests --jobs", "--batch requests --jobs 2 --quiet", "--jobs 2 --batch requests --quiet", "--batch --jobs 2 requests", "--jobs --batch 2 requests", "--jobs 2 simple out 0 2"):
+                 "--batch requests --jobs", "--batch requests --jobs 2 --quiet", "--jobs 2 --batch requests --quiet", "--batch --jobs 2 requests", "--jobs --batch 2 requests", "--jobs=2", "--batch=requests --jobs=2 more",
+                 "--jobs 2 simple out 0 2"):
         status, out, err = run(line.split(" "), fonts_room)
         assert (status, out) == (2, b"") and err.startswith(USAGE.encode() + b"\n") and err.count(b"\n") == 3 and b"from 1 to 64" not in err, line
     assert err == f"{USAGE}\n--jobs goes with --batch FILE alone\nexpected: --batch FILE --jobs N\n".encode()
     assert not (fonts_room / "six-0").exists() and not (fonts_room / "out").exists()
     for number in ("1", "2", "64", "01", "0064"):
-        status, out, _ = run(["--jobs", number, "--batch", "requests"], fonts_room)
+        status, out, _ = run(["--batch=requests", f"--jobs={number}"], fonts_room)
         assert status == 0 and out.startswith(b'{"line":1,"status":0,') and made(fonts_room, GOOD[:1]) != [None]
 
 

@@ -81,8 +81,8 @@ enum {
     SUBSETTER_NO_DEPTH = 9,
     /* Of options `size` is none that this library knows (SUBSETTER_DEFAULT_OPTIONS and the like set it), `depth` is above 255, `drop`
      * has another bit, a choice is none of its values, or a tag isn't six capitals. Or a direction, an order, a layout or the width of
-     * a unit is none of its values, or not for this text; or a font's or a text's `size` isn't that of the struct, or a text isn't
-     * there, as after `subsetter_free_text`. */
+     * a unit is none of its values, or not for this text; or a font's or a text's `size` isn't that of the struct, or a font or a
+     * text isn't there, as after a `make` call that failed, or after `subsetter_free_text`. */
     SUBSETTER_UNKNOWN_OPTION = 10,
     /* The font's maker doesn't permit that it is embedded (`fsType` of the table `OS/2`), and `rights` isn't
      * SUBSETTER_RIGHTS_HELD; of the calls for PDF alone. */
@@ -94,7 +94,7 @@ enum {
     SUBSETTER_NO_CMAP = 13,
     /* The face has no outlines (`glyf`, `CFF `, `CFF2`); of the calls that make a font for PDF alone. Others answer 1. */
     SUBSETTER_BITMAPS_ALONE = 14,
-    /* The font of a text would have more than 65,535 codes: the run is for another text. */
+    /* The font of a text would have more than 65,535 codes, code 0 among them, or glyphs: the run is for another text. */
     SUBSETTER_OVERFULL = 15,
     /* The numbers of objects are too few or too many, 0, or not distinct; of the calls for PDF alone. */
     SUBSETTER_INVALID_NUMBERS = 16
@@ -363,7 +363,8 @@ enum {
  * on, the codes of the entries before stay. `kind` is one of SUBSETTER_CODES_..; entries are as for that call.
  *   0: `codes` begins with the codes, and `*length` is `glyph_count`.
  *   8: there is room for less; `codes` is as it was, and `*length` is `glyph_count`.
- *   5 (more than 65,535 glyphs, or pairs of a glyph and a text), 7, 10 (another kind), 12: `codes` is as it was, and `*length` is 0.
+ *   5 (besides glyph 0 more than 65,534 glyphs, or pairs of a glyph and a text), 7, 10 (another kind), 12: `codes` is as it was, and
+ *   `*length` is 0.
  */
 uint32_t subsetter_codes_of(const uint16_t *glyphs, size_t glyph_count,
                             const uint32_t *text, size_t text_count,
@@ -554,7 +555,7 @@ typedef struct subsetter_pdf_font {
 /* All that a PDF has of a font, and what it was made of. It is given back by `subsetter_free_font`. */
 typedef struct subsetter_font {
     /* sizeof (subsetter_font), which the inline calls write; another is status 10, and then nothing is written. Later versions
-     * put further fields after these, and go on to take this size. */
+     * put further fields after these, and go on to take this size. 0: there is no font, as the inline call failed. */
     uint32_t size;
     /* unitsPerEm: how many units an em has. */
     uint32_t units_per_em;
@@ -584,10 +585,10 @@ typedef struct subsetter_font {
  * those of the entry before end. So `end_count` is `glyph_count`, and the last end `text_count`: they are no lengths. Where each
  * glyph has one character, `ends` is 1, 2, 3 and so on.
  *   0: `*made` is the font.
- *   1 to 7, 10 to 12, 14: all sizes, counts and numbers of `*made` are 0 (but for `made->size`), and nothing is to be freed. First
+ *   1 to 7, 10 to 12, 14: all sizes, counts and numbers of `*made` are 0 (`made->size` by the inline call), and nothing is to be freed. First
  *   comes 10, then a text that isn't one (12), 14, what is found in opening the font, 11, a text that is too long (12), and then what
- *   `subsetter_embed_at_by_words` returns. 2 also where outlines in `glyf` have no `maxp`; 5 also for more than 65,535 pairs of a
- *   glyph and a text.
+ *   `subsetter_embed_at_by_words` returns. 2 also where outlines in `glyf` have no `maxp`; 5 also for more than 65,534 pairs of a
+ *   glyph and a text besides glyph 0.
  * `made` is written by each call and must not be null; what it held before isn't freed. No value of the font descriptor is a
  * reason to refuse a font: where a table is missing or cut, another source of the value is taken.
  */
@@ -599,6 +600,13 @@ uint32_t subsetter_make_font_by_words(const uint8_t *font, size_t font_size, uin
                                       const uint32_t *options, size_t option_count,
                                       subsetter_font *made);
 
+/* The status of a call that makes a font. Where it failed there is no font, and the calls for one answer 10. */
+static inline uint32_t subsetter_font_status(uint32_t status, subsetter_font *made)
+{
+    made->size = status == SUBSETTER_DONE ? made->size : 0;
+    return status;
+}
+
 static inline uint32_t subsetter_make_font(const uint8_t *font, size_t font_size, uint32_t index,
                                            const subsetter_coordinate *coordinates, size_t coordinate_count,
                                            const uint16_t *glyphs, size_t glyph_count,
@@ -607,9 +615,10 @@ static inline uint32_t subsetter_make_font(const uint8_t *font, size_t font_size
                                            const subsetter_pdf_options *options, subsetter_font *made)
 {
     made->size = sizeof(subsetter_font);
-    return subsetter_make_font_by_words(font, font_size, index, coordinates, coordinate_count, glyphs, glyph_count, text,
-                                        text_count, ends, end_count, subsetter_pdf_option_words(options),
-                                        subsetter_pdf_option_count(options), made);
+    return subsetter_font_status(subsetter_make_font_by_words(font, font_size, index, coordinates, coordinate_count, glyphs,
+                                                              glyph_count, text, text_count, ends, end_count,
+                                                              subsetter_pdf_option_words(options),
+                                                              subsetter_pdf_option_count(options), made), made);
 }
 
 /* The same of a text in UTF-8, of `text_size` bytes: each character has the glyph that `cmap` gives it (see `subsetter_glyphs_of`),
@@ -626,9 +635,10 @@ static inline uint32_t subsetter_make_pdf_font_of_utf8(const uint8_t *font, size
                                                        const subsetter_pdf_options *options, subsetter_font *made)
 {
     made->size = sizeof(subsetter_font);
-    return subsetter_make_pdf_font_of_utf8_by_words(font, font_size, index, coordinates, coordinate_count,
-                                                    (const uint8_t *)text, text_size, subsetter_pdf_option_words(options),
-                                                    subsetter_pdf_option_count(options), made);
+    return subsetter_font_status(subsetter_make_pdf_font_of_utf8_by_words(font, font_size, index, coordinates, coordinate_count,
+                                                                          (const uint8_t *)text, text_size,
+                                                                          subsetter_pdf_option_words(options),
+                                                                          subsetter_pdf_option_count(options), made), made);
 }
 
 /* Gives back what these two handed over, and sets all but `size` to 0. Also after a call that failed, or with a null pointer. */
@@ -647,10 +657,10 @@ typedef struct subsetter_pdf_objects {
 /* The objects of a font, whole, with numbers from `first` on, which is above 0 (that isn't checked): the Type 0 font, which pages
  * name, its CIDFont, the font descriptor, the font program, ToUnicode, CIDToGIDMap if it is a stream, CIDSet if there is one, and
  * the CMap if the file has its own. Streams have no filter, and it is for files that aren't encrypted. `font` is one that a `make`
- * call made, unchanged (that isn't checked: of one that failed or was freed the objects are of no font, with status 0).
+ * call made, unchanged (that isn't checked: of one that was freed the objects are of no font, with status 0).
  *   0: `*made` are the objects, one after the other.
  *   5: seven numbers from `first` on, eight with a CIDToGIDMap as a stream, don't fit 32 bits; 7: malloc gave nothing; 10: an unknown
- *   `font->size`. The size and the count of `*made` are 0, and nothing is to be freed.
+ *   `font->size`, or no font. The size and the count of `*made` are 0, and nothing is to be freed.
  */
 uint32_t subsetter_make_objects(const subsetter_font *font, uint32_t first, subsetter_pdf_objects *made);
 
@@ -676,11 +686,12 @@ uint32_t subsetter_make_pdf_sheet(const subsetter_pdf_font *font,
                                   const size_t *ends, size_t end_count,
                                   uint32_t layout, subsetter_pdf_objects *made);
 
-/* The same of all entries that a font was made of. */
+/* The same of all entries that a font was made of. 10: also where there is no font. */
 static inline uint32_t subsetter_make_sheet(const subsetter_font *font, uint32_t layout, subsetter_pdf_objects *made)
 {
+    /* (the library writes `made` where the layout is none, too) */
     return subsetter_make_pdf_sheet(&font->pdf, font->glyphs, font->glyph_count, font->text, font->text_count, font->ends,
-                                    font->end_count, layout, made);
+                                    font->end_count, font->units_per_em == 0 ? 0xFFFFFFFF : layout, made);
 }
 
 /* Gives back what these handed over, and sets all to 0. */
@@ -911,7 +922,8 @@ typedef struct subsetter_item {
 
 /* The operators that show a run, for a content stream: between BT and ET, after Tf and Td or Tm, where Tc, Tw and Ts are 0 and Tz is
  * 100. The pen goes on by the run's advance, and Ts is 0 then. `characters` are 32-bit characters, of which the items have ranges;
- * `size` is that of the font, in thousandths of a unit of text space (12000 for 12 points); it counts for Ts alone.
+ * `size` is that of the font, in thousandths of a unit of text space (12000 for 12 points); it counts for Ts alone. Each run takes
+ * time for the codes that the text has, too: a few long runs are done sooner than many short ones.
  *   0: `made->bytes` are the operators, the count of offsets is 0, and the text has the codes and the own glyphs of the run. Those
  *   of earlier runs stay.
  *   7, 10 (a direction that isn't the text's, another order, or no text), 12 (a number is no character, a range isn't in order, a
@@ -967,7 +979,7 @@ static inline void subsetter_hb_shaped(const hb_glyph_info_t *infos, const hb_gl
  * are the CIDs, and it has no entries. Of the options `codes`, `program` and `direction` have no effect.
  *   0: `*made` is the font, which is given back by `subsetter_free_font`.
  *   1 to 7, 10 (also where there is no text), 11: as for `subsetter_make_font_by_words`.
- *   12: the own glyphs of the text aren't such, as for `subsetter_show_run`; all of `*made` is 0 (but for `made->size`).
+ *   12: the own glyphs of the text aren't such, as for `subsetter_show_run`; the rest as there.
  */
 uint32_t subsetter_make_text_font_by_words(const subsetter_text *text, const uint32_t *options, size_t option_count,
                                            subsetter_font *made);
@@ -976,7 +988,8 @@ static inline uint32_t subsetter_make_text_font(const subsetter_text *text, cons
                                                 subsetter_font *made)
 {
     made->size = sizeof(subsetter_font);
-    return subsetter_make_text_font_by_words(text, subsetter_pdf_option_words(options), subsetter_pdf_option_count(options), made);
+    return subsetter_font_status(subsetter_make_text_font_by_words(text, subsetter_pdf_option_words(options),
+                                                                   subsetter_pdf_option_count(options), made), made);
 }
 
 /* A run on a page of its own: its operators, which were shown with 36000 as their size, and how far the pen goes on, in thousandths of
@@ -1066,9 +1079,10 @@ static inline uint32_t subsetter_subset_with_options(const uint8_t *font, size_t
 /* The subset of a font as it is at these coordinates, with all choices.
  *
  * An axis without a value stays at its default, of several values for an axis the last counts, one past an axis's end is that
- * end, and a tag that the font doesn't have is passed over. Where the font is at its default, has no axes or has its
- * outlines in `CFF `, it is subset as it is, with its hints. Else the new font is a static one: each glyph is a simple outline
- * without instructions, as the font draws it there, with the advance that it has there, and there are no further glyphs.
+ * end, and a tag that the font doesn't have is passed over (`unknown_axes` of `subsetter_make_font` has it, also for no glyphs).
+ * Where the font is at its default, has no axes or has its outlines in `CFF `, it is subset as it is, with its hints. Else the
+ * new font is a static one: each glyph is a simple outline without instructions, as the font draws it there, with the advance
+ * that it has there, and there are no further glyphs.
  *
  * A font with outlines in `CFF2`, and neither `glyf` nor `CFF `, is made static at its default too, also without axes: the new
  * font has outlines in a CID-keyed `CFF `, with their stems, and each coordinate is rounded once.

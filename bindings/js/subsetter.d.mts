@@ -44,7 +44,7 @@ export class MissingCharacters extends SubsetterError {
     /** Their places, as of `TextGlyphs`. */
     readonly missing: readonly number[];
 }
-/** The font of a PdfText would have more than 65,535 codes: the run is for another one. */
+/** The font of a PdfText would have more than 65,535 codes, code 0 among them, or glyphs: the run is for another one. */
 export class Overfull extends OverflowError {}
 
 /** The bytes of a whole file, OpenType or a collection. They are copied, and never written. */
@@ -83,7 +83,8 @@ export interface Place {
     /**
      * Tags of axes, of four ASCII characters, with values in what the axes count: `{ wght: 650, wdth: 87.5 }`. A value is
      * finite, and is taken as the nearest number of 65536ths, a half rounded up. An axis without a value stays at its default,
-     * one past an axis's end is that end, and a tag that the font doesn't have is passed over.
+     * one past an axis's end is that end, and a tag that the font doesn't have is passed over: `unknownAxes` of
+     * `pdfFont(data, [], { coordinates, rights: "held" })` lists such tags.
      *
      * Where the font is at its default, has no axes or has its outlines in `CFF `, it is subset as it is, with its hints.
      * Else the new font is a static one, each glyph a simple outline without instructions, and `limits.tokens` bounds the
@@ -444,7 +445,8 @@ export interface Subsetter {
     glyphsOf(data: FontData, text: string, options?: Face & MissingChoice): TextGlyphs;
     /**
      * The code of each entry, as `pdfFont` gives it: it takes no font, so that pages can be written first. Where a list goes on, the
-     * codes of the entries before stay.
+     * codes of the entries before stay. OverflowError is thrown for more than 65,534 glyphs, or pairs of a glyph and a text, besides
+     * glyph 0.
      */
     codesOf(shown: Iterable<Shown>, codes?: PdfChoices["codes"]): number[];
     /**

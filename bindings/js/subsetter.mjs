@@ -46,7 +46,7 @@ export class MissingCharacters extends SubsetterError {
         this.missing = missing;
     }
 }
-/** The font of a PdfText would have more than 65,535 codes: the run is for another one. */
+/** The font of a PdfText would have more than 65,535 codes, code 0 among them, or glyphs: the run is for another one. */
 export class Overfull extends OverflowError {}
 
 // The names are strings, since tools that make scripts smaller rename classes.
@@ -171,6 +171,9 @@ function entriesOf(shown) {
     const wanted = "glyphs with their texts must be an iterable of objects, as [{ glyph: 36, text: \"A\" }] (glyphsOf makes them of a text)";
     const glyphs = [], text = [], ends = [];
     for (const entry of objectsOf(shown, wanted)) {
+        if ([entry.glyph, entry.text].includes(undefined)) {
+            throw new TypeError(wanted);
+        }
         glyphs.push(whole(entry.glyph, 0, 65535, "a glyph"));
         for (const character of charactersOf(entry.text)) {
             text.push(character);
@@ -310,13 +313,28 @@ function surrogateOf(characters) {
     return found && `U+${found.toString(16).toUpperCase()} is an unpaired surrogate`;
 }
 
+/** How many UTF-16 units characters have. */
+const unitsOf = (characters) => characters.reduce((sum, it) => sum + (it > 0xffff ? 2 : 1), 0);
+
 /** What is wrong with entries: a text that is too long, where it isn't a surrogate. */
 function faultOf({ text, ends }) {
-    const units = ends.map((end, i) => text.slice(ends[i - 1] ?? 0, end).reduce((sum, it) => sum + (it > 0xffff ? 2 : 1), 0));
-    return surrogateOf(text) ?? (units.some((it) => it > 256) ? "a text has more than 256 UTF-16 units" : "");
+    const isLong = ends.some((end, i) => unitsOf(text.slice(ends[i - 1] ?? 0, end)) > 256);
+    return surrogateOf(text) ?? (isLong ? "a text has more than 256 UTF-16 units" : "");
 }
 
-/** What is wrong with cluster numbers of a text. */
+/** That entries are too many for their codes. */
+function excessOf({ glyphs, text, ends }, codes) {
+    const what = codes === CODES.indexOf("each_text") ? "pairs of a glyph and a text" : "glyphs";
+    const keys = glyphs.map((glyph, i) => glyph && (what === "glyphs" ? glyph : [glyph, ...text.slice(ends[i - 1] ?? 0, ends[i])].join()));
+    const count = new Set(keys.filter(Boolean)).size;
+    return count > 65534 ? `${count} ${what}, and at most 65534 besides glyph 0` : "";
+}
+
+/** Why a run isn't laid out, of clusters whose texts have so many UTF-16 units. */
+const unlaid = (units) =>
+    units.some((it) => it > 16382) ? "a text that needs an ActualText has more than 16382 UTF-16 units" : "a glyph or the pen is further away than 32 bits count";
+
+/** What is wrong with cluster numbers of a text, or with a run of them. */
 function clusterFaultOf(text, clusters, direction) {
     const begins = new Set();
     let size = 0;
@@ -329,7 +347,11 @@ function clusterFaultOf(text, clusters, direction) {
         return `cluster ${wrong} isn't where a character begins in a text of ${size} units`;
     }
     const at = clusters.findIndex((it, i) => (direction === "rtl" ? it > clusters[i - 1] : it < clusters[i - 1]));
-    return at < 0 ? "" : `cluster ${clusters[at]} comes after cluster ${clusters[at - 1]}, and direction is ${direction}`;
+    if (at >= 0) {
+        return `cluster ${clusters[at]} comes after cluster ${clusters[at - 1]}, and direction is ${direction}`;
+    }
+    const places = [...clusters, size].sort((one, other) => one - other);
+    return unlaid(places.slice(1).map((it, i) => it - places[i]));
 }
 
 const noGlyph = (glyph, count) => `glyph ${glyph}: ${count > 0 ? `the font's glyphs are 0 to ${count - 1}` : "the font has no glyph"}`;
@@ -557,7 +579,8 @@ class Library {
     pdfFont(font, index, entries, choices) {
         const { glyphs, text, ends } = entries, lists = [listOf(2, glyphs), listOf(4, text), listOf(4, ends)];
         const counted = (glyphsAt, textAt, endsAt) => [glyphsAt, glyphs.length, textAt, text.length, endsAt, ends.length];
-        return explained(() => this.#pdfFont("subsetter_pdf_font", font, index, lists, counted, glyphs, entries, choices), () => faultOf(entries));
+        const make = () => this.#pdfFont("subsetter_pdf_font", font, index, lists, counted, glyphs, entries, choices);
+        return explained(() => explained(make, () => faultOf(entries)), () => excessOf(entries, choices.further[1]), OverflowError);
     }
 
     /** The same of the codes of a text, with what it needs of the font. */
@@ -618,11 +641,12 @@ class Library {
     }
 
     /** The codes of entries, without a font. */
-    codesOf({ glyphs, text, ends }, kind) {
+    codesOf(entries, kind) {
+        const { glyphs, text, ends } = entries;
         const lists = [listOf(2, glyphs), listOf(4, text), listOf(4, ends)];
         const given = (glyphsAt, textAt, endsAt) => [glyphsAt, glyphs.length, textAt, text.length, endsAt, ends.length, kind, 0, 0];
         const { status, buffer, words } = this.#call("subsetter_codes_of", lists, given);
-        explained(() => this.#check(status), () => surrogateOf(text));
+        explained(() => explained(() => this.#check(status), () => surrogateOf(text)), () => excessOf(entries, kind), OverflowError);
         const [at, count] = words.slice(-2);
         return numbersOf(2, buffer, at, count);
     }
@@ -1036,7 +1060,8 @@ class PdfText {
                 row[7] = this.#isVertical && !isPlaced ? Math.floor((1000 - 2 * below(row[0])) / 2000) : row[7];
             });
         }
-        const fault = () => (rows[0]?.[1] ? "the first item continues a cluster, as it has no text" : this.#fault(rows, text, ITEM));
+        const unheld = () => unlaid(rows.map(([, , start, end]) => unitsOf(text.slice(start, end))));
+        const fault = () => (rows[0]?.[1] ? "the first item continues a cluster, as it has no text" : this.#fault(rows, text, ITEM) ?? unheld());
         return this.#show("subsetter_show_run", [32, 4], rows.flat(), text, options, fault);
     }
 

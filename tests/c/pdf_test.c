@@ -321,10 +321,10 @@ static uint32_t make_whole(const struct row *row, const subsetter_pdf_options *o
     return subsetter_make_font(FONT, PLACE, SHOWN, options, font);
 }
 
-/* Whether all but the size of a font is 0 or an empty list. */
+/* Whether all of a font is 0 or an empty list. */
 static int is_no_whole(const subsetter_font *font)
 {
-    return font->size == sizeof *font && font->units_per_em == 0 && is_nothing(&font->pdf) && is_empty(font->exact_widths, font->exact_width_count)
+    return font->size == 0 && font->units_per_em == 0 && is_nothing(&font->pdf) && is_empty(font->exact_widths, font->exact_width_count)
         && is_empty(font->unknown_axes, font->unknown_axis_count) && is_empty(font->glyphs, font->glyph_count)
         && is_empty(font->text, font->text_count) && is_empty(font->ends, font->end_count)
         && is_empty(font->cid_to_gid_map, font->cid_to_gid_map_size);
@@ -453,6 +453,9 @@ static void try_utf8(const struct row *row)
         check(subsetter_make_pdf_font_of_utf8(FONT, NO_PLACE, wrong[i], strlen(wrong[i]), NULL, &font) == 12 && is_no_whole(&font), "no UTF-8", name);
     }
     check(subsetter_make_pdf_font_of_utf8((const uint8_t *)"no", 2, 0, NULL, 0, "A", 1, NULL, &font) == 1 && is_no_whole(&font), "no font", name);
+    memset(sheets, FILLED, sizeof sheets);
+    check(subsetter_make_sheet(&font, 0, &sheets[0]) == 10 && are_no_objects(&sheets[0]), "a sheet of no font", name);
+    check(subsetter_make_objects(&font, 5, &sheets[1]) == 10 && are_no_objects(&sheets[1]), "objects of no font", name);
     for (uint32_t kind = 0; kind < 300; kind++)
         check(subsetter_codes_of(row->glyphs, 1, NULL, 0, (const size_t[]){0}, 1, kind, &code, 1, &length) == (kind < 3 ? 0 : 10) && length == (kind < 3), "a kind", name);
     check(subsetter_codes_of(row->glyphs, 1, NULL, 0, (const size_t[]){1}, 1, 0, &code, 1, &length) == 12 && length == 0, "no text", name);
@@ -1242,7 +1245,7 @@ static char *try_text(char *rows)
         int was_refused = request != 0 && requests >= request;
         refused = 0;
         check(status == 0 || (was_refused && status == (text.units_per_em == 0 ? 10 : 7) && is_no_whole(&font)), "a font", "runs");
-        check(of_sheet == 0 ? status != 0 || options.direction != 0 || is_sheet(&sheet, &font) : was_refused && of_sheet == 7 && are_no_objects(&sheet), "a sheet", "runs");
+        check(of_sheet == 0 ? status == 0 && (options.direction != 0 || is_sheet(&sheet, &font)) : was_refused && of_sheet == (status == 0 ? 7 : 10) && are_no_objects(&sheet), "a sheet", "runs");
         if (is_whole && status == 0) {
             check(is_same(font.pdf.widths, font.pdf.width_count * 4, widths, codes * 4) && font.cid_to_gid_map_size == 2 * glyph_count, "widths", "runs");
             for (size_t i = 0; font.cid_to_gid_map_size == 2 * glyph_count && i < glyph_count; i++)

@@ -144,20 +144,21 @@ test("runs that are refused", () => {
         [RangeError, () => new subsetter.PdfText(TTF, { order: "reading" })], [UnknownKind, () => new subsetter.PdfText(new Uint8Array(2))],
     ];
     for (const [kind, call] of wrong) throws(call, kind, `${call}`);
+    const far = { glyph: 1, text: "A", xAdvance: 2 ** 31 - 1, xOffset: 2 ** 31 - 1 }, long = "a text that needs an ActualText has more than 16382 UTF-16 units";
     const explained = [
         ["the first item continues a cluster, as it has no text", () => run({ glyph: 1 })], ["U+D800 is an unpaired surrogate", () => run({ glyph: 1, text: "\ud800" })],
         ["glyph 12: the font's glyphs are 0 to 11", () => run({ glyph: 12, text: "A", xAdvance: 9 })], ["yAdvance is 9, and 0 in horizontal text", () => run({ glyph: 1, text: "A", yAdvance: 9 })],
         ["cluster 0 comes after cluster 1, and direction is ltr", () => text.shaped("AB", [{ ...one, cl: 1 }, one])], ["ay is 9, and 0 in horizontal text", () => text.shaped("A", [{ ...one, ay: 9 }])],
         ["cluster 1 comes after cluster 0, and direction is rtl", () => text.shaped("AB", [one, { ...one, cl: 1 }], { direction: "rtl" })],
         ["cluster 1 isn't where a character begins in a text of 3 units", () => text.shaped("\u{1d4b3}A", [one, { ...one, cl: 1 }])],
+        ["a glyph or the pen is further away than 32 bits count", () => run(far, far, far)], [long, () => run({ glyph: 0, text: "A".repeat(16383) })],
+        [long, () => text.shaped(`A${"\u{1d4b3}".repeat(8192)}`, [one, { ...one, g: 0, cl: 1 }])],
     ];
     for (const [message, call] of explained) assert.equal(throws(call, InvalidText, message).message, `invalid text: ${message}`);
     for (const vertical of [false, true]) {
         const error = throws(() => new subsetter.PdfText(changed("made.ttf", "maxp+4=0000"), { vertical }).run([{ glyph: 9, text: "H" }]), InvalidText, "more outlines than maxp counts");
         assert.equal(error.message, "invalid text: glyph 9: the font has no glyph");
     }
-    const far = { glyph: 1, text: "A", xAdvance: 2 ** 31 - 1, xOffset: 2 ** 31 - 1 };
-    assert.equal(throws(() => run(far, far, far), InvalidText, "far away").message, "invalid text");
     const shaped = wrong.find(([, call]) => `${call}`.includes("cluster"))[1];
     assert.match(throws(shaped, TypeError, "shaped").message, /with g, cl, ax, ay, dx and dy, as harfbuzzjs has them/);
     assert.deepEqual(text.font().toUnicode, wanted);

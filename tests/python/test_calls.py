@@ -140,8 +140,7 @@ def test_limits(name, value):
         if least <= value <= most:
             assert error is None or isinstance(error, subsetter.Error)
         else:
-            assert type(error) is ValueError and str(error).startswith(f"{name} is ") and len(str(error)) < 120
-            assert str(error).endswith(f", and none from {least} to {most}")
+            assert type(error) is ValueError and str(error).startswith(f"{name} is from {least} to {most}, and not ") and len(str(error)) < 120
 
 
 @pytest.mark.parametrize("name", RANGES)
@@ -230,6 +229,9 @@ def test_no_coordinates():
     (subsetter.OverflowError, "overflow occurred: tokens is 1", lambda: subsetter.advances(made("made_variable.ttf"), [1], coordinates={"wght": 650}, tokens=1)),
     (subsetter.NotPermitted, 'embedding not permitted: OS/2: fsType 0x0104 forbids subsets: if you hold the rights, rights="held"',
      lambda: subsetter.pdf_font(made("made.otf"), [])),
+    (subsetter.OverflowError, "overflow occurred: 65535 pairs of a glyph and a text, and at most 65534 besides glyph 0",
+     lambda: subsetter.pdf_font(TTF, [(0, ""), *((1, chr(it)) for it in range(65_536, 131_071))], codes="each_text")),
+    (subsetter.OverflowError, "overflow occurred: 65535 glyphs, and at most 65534 besides glyph 0", lambda: subsetter.codes_of([(it, "") for it in range(65_536)])),
     (subsetter.InvalidText, "invalid text: U+DFFF is an unpaired surrogate", lambda: subsetter.glyphs_of(TTF, "A\udfff")),
     (subsetter.InvalidText, "invalid text: U+D800 is an unpaired surrogate", lambda: subsetter.codes_of([(1, "\ud800")])),
     (subsetter.InvalidText, "invalid text: a text has more than 256 UTF-16 units", lambda: subsetter.pdf_font(TTF, [(1, "\U0001f600" * 129)])),

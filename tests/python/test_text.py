@@ -103,7 +103,11 @@ def test_a_closed_text():
     (subsetter.InvalidText, "invalid text: the first item continues a cluster, as its text is None", lambda text: text.run([(1, None)])),
     (subsetter.InvalidText, "invalid text: glyph 12: the font's glyphs are 0 to 11", lambda text: text.run([(12, "A", 9, 0, 0, 0)])),
     (subsetter.InvalidText, "invalid text: y_advance is 9, and 0 in horizontal text", lambda text: text.run([(1, "A", 9, 9, 0, 0)])),
-    (subsetter.InvalidText, "invalid text", lambda text: text.run([(1, "A", 2**31 - 1, 0, 2**31 - 1, 0)] * 3)),
+    (subsetter.InvalidText, "invalid text: a glyph or the pen is further away than 32 bits count",
+     lambda text: text.run([(1, "A", 2**31 - 1, 0, 2**31 - 1, 0)] * 3)),
+    (subsetter.InvalidText, "invalid text: a text that needs an ActualText has more than 16382 UTF-16 units", lambda text: text.run([(0, "A" * 16_383)])),
+    (subsetter.InvalidText, "invalid text: a text that needs an ActualText has more than 16382 UTF-16 units",
+     lambda text: text.shaped("A" + "\U0001d4b3" * 8_192, *arrays([(1, 0, 9, 0, 0, 0), (0, 1, 9, 0, 0, 0)]))),
     (subsetter.InvalidText, "invalid text: cluster 0 comes after cluster 1, and direction is ltr",
      lambda text: text.shaped("AB", *arrays([(1, 1, 9, 0, 0, 0), (1, 0, 9, 0, 0, 0)]))),
     (subsetter.InvalidText, "invalid text: cluster 1 comes after cluster 0, and direction is rtl",
@@ -116,15 +120,16 @@ def test_a_closed_text():
     (subsetter.MalformedFont, "malformed font: glyph 12: the font's glyphs are 0 to 11", lambda text: text.run([(12, "A")])),
     (subsetter.MalformedFont, "malformed font: glyph 12: the font's glyphs are 0 to 11", lambda text: text.advances([1, 12])),
     (ValueError, 'items are (glyph, text) or (glyph, text, x_advance, y_advance, x_offset, y_offset), as [(36, "fi"), (5, None)]', lambda text: text.run([(1, "A", 5)])),
-    (ValueError, "x_offset is 2147483648, and none from -2147483648 to 2147483647", lambda text: text.run([(1, "A", 0, 0, 2**31, 0)])),
+    (ValueError, "x_offset is from -2147483648 to 2147483647, and not 2147483648", lambda text: text.run([(1, "A", 0, 0, 2**31, 0)])),
     (TypeError, "a text is a str, and no bytes", lambda text: text.run([(1, b"A")])),
     (TypeError, "a PdfText can't be copied or pickled; its fonts can", pickle.dumps),
     (TypeError, "infos have codepoint and cluster, and positions, as many, x_advance, y_advance, x_offset and y_offset, as uharfbuzz's "
      "buffer.glyph_infos and buffer.glyph_positions, and no NoneType", lambda text: text.shaped("A", [], None)),
-    (ValueError, "direction is 'ttb', and none of ltr, rtl", lambda text: text.run([], "ttb")),
-    (ValueError, "size is -1, and none from 0 to 4294967.295", lambda text: text.run([], size=-1)),
+    (ValueError, "direction is one of ltr, rtl, and not 'ttb'", lambda text: text.run([], "ttb")),
+    (ValueError, "size is from 0 to 4294967.295, and not -1", lambda text: text.run([], size=-1)),
     (TypeError, "size is a number, and no str", lambda text: text.run([], size="12")),
-    (ValueError, "a code is 65536, and none from 0 to 65535", lambda text: text.font().string([65536])),
+    (TypeError, "units is one of utf8, utf16, utf32, and no int", lambda text: text.shaped("A", *arrays([(1, 0, 9, 0, 0, 0)]), units=8)),
+    (ValueError, "a code is from 0 to 65535, and not 65536", lambda text: text.font().string([65536])),
 ])
 def test_what_is_refused(kind, message, call):
     text = subsetter.PdfText(TTF)

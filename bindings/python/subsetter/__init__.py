@@ -138,7 +138,7 @@ class MissingCharacters(Error, ValueError):
 
 
 class Overfull(OverflowError):
-    """The font of a `PdfText` would have more than 65,535 codes or glyphs: the run is for another one."""
+    """The font of a `PdfText` would have more than 65,535 codes, code 0 among them, or glyphs: the run is for another one."""
 
 
 class Embedded(NamedTuple):
@@ -591,7 +591,7 @@ def _number(what: str, value: SupportsIndex, least: int, most: int) -> int:
         first = " (of a pair of glyphs_of the first is one)" if what == "a glyph" and isinstance(value, tuple) else ""
         raise TypeError(f"{what} is an int, and no {type(value).__name__}{first}") from None
     if not least <= number <= most:
-        raise ValueError(f"{what} is {_shown(number)}, and none from {least} to {most}")
+        raise ValueError(f"{what} is from {least} to {most}, and not {_shown(number)}")
     return number
 
 
@@ -704,10 +704,13 @@ def _reason(library: ctypes.CDLL, status: int, asked: _Asked) -> str:
     return found or " and ".join(f"{name} is {limit}" for name, limit in limits.items() if limit)
 
 
-def _check(library: ctypes.CDLL, status: int, asked: Optional[_Asked] = None, fault: Callable[[], str] = str) -> None:
-    """Raises the error of a status. `fault` says what is wrong with a text, or with numbers."""
+def _check(
+    library: ctypes.CDLL, status: int, asked: Optional[_Asked] = None, fault: Callable[[], str] = str, excess: Callable[[], str] = str,
+) -> None:
+    """Raises the error of a status. `fault` says what is wrong with a text, or with numbers, and `excess` of what there is too much."""
     if status in _ERRORS:
-        why = fault() if _ERRORS[status] is InvalidText else _reason(library, status, asked) if asked else ""
+        why = fault() if _ERRORS[status] is InvalidText else excess() if _ERRORS[status] is OverflowError else ""
+        why = why or (_reason(library, status, asked) if asked else "")
         raise _ERRORS[status](": ".join(filter(None, (_text(library, status), why))))
     if status == 16:
         raise ValueError(f"numbers of objects are distinct and above 0, and as many as there are parts (part_count): {fault()}")
@@ -772,12 +775,13 @@ def subset(
 
     `coordinates` are where a variable font is taken: the tags of axes with values in what the axes count, as
     {"wght": 650, "wdth": 87.5}. An axis without a value stays at its default, one past an axis's end is that end, and a tag
-    that the font doesn't have is passed over. A value is taken as the nearest number of 65536ths, a half rounded up. Where
-    the font is at its default, has no axes or has its outlines in `CFF `, it is subset as it is, with its hints; else the
-    new font is a static one, each glyph a simple outline without instructions, and `tokens` bounds the steps of a glyph
-    (one for each glyph that it leads to, each point, each tuple, and each point again of a tuple that counts). A font with
-    outlines in `CFF2`, and neither `glyf` nor `CFF `, is made static at its default too, which is {}: the new font has outlines
-    in a CID-keyed `CFF `, with their stems, and each coordinate is rounded once.
+    that the font doesn't have is passed over: `pdf_font(data, [], coordinates=.., rights="held").unknown_axes` lists such
+    tags. A value is taken as the nearest number of 65536ths, a half rounded up. Where the font is at its default, has no axes
+    or has its outlines in `CFF `, it is subset as it is, with its hints; else the new font is a static one, each glyph a simple
+    outline without instructions, and `tokens` bounds the steps of a glyph (one for each glyph that it leads to, each point, each
+    tuple, and each point again of a tuple that counts). A font with outlines in `CFF2`, and neither `glyf` nor `CFF `, is made
+    static at its default too, which is {}: the new font has outlines in a CID-keyed `CFF `, with their stems, and each
+    coordinate is rounded once.
 
     Raises an `Error` by its name (with coordinates `MalformedFont` also where `fvar`, `avar`, `gvar` or `HVAR` is cut,
     `Unimplemented` also for an `avar` of another version than 1, and `OverflowError` for too many steps, or where a
@@ -848,10 +852,11 @@ _USAGES: Tuple[Literal["unsaid", "installable", "editable", "preview_and_print",
 
 
 def _choice(what: str, value: str, known: Tuple[str, ...]) -> int:
+    wanted = f"{what} is one of {', '.join(known)}"
     if not isinstance(value, str):
-        raise TypeError(f"{what} is a str, and no {type(value).__name__}")
+        raise TypeError(f"{wanted}, and no {type(value).__name__}")
     if value not in known:
-        raise ValueError(f"{what} is {value!r}, and none of {', '.join(known)}")
+        raise ValueError(f"{wanted}, and not {value!r}")
     return known.index(value)
 
 
@@ -894,6 +899,13 @@ class _Entries:
 
     def fault(self) -> str:
         return _surrogate(self.text) or "a text has more than 256 UTF-16 units"
+
+    def excess(self, codes: Codes) -> str:
+        """That there are too many for their codes."""
+        texts = [self.text[start:end].tobytes() if codes == "each_text" else b"" for start, end in zip([0, *self.ends], self.ends)]
+        count = len({it for it in zip(self.glyphs, texts) if it[0]})
+        what = "pairs of a glyph and a text" if any(texts) else "glyphs"
+        return f"{count} {what}, and at most 65534 besides glyph 0" if count > 65_534 else ""
 
     def arguments(self) -> Tuple[Any, ...]:
         glyphs, text, ends = self.glyphs, self.text, (ctypes.c_size_t * len(self.ends))(*self.ends)
@@ -946,8 +958,8 @@ def codes_of(shown: Iterable[Tuple[SupportsIndex, str]], codes: Codes = "consecu
     """The code of each entry, in order, as `pdf_font` gives it: it takes no font, so that pages can be written first. Where a list
     goes on, the codes of the entries before stay.
 
-    Raises `OverflowError` for more than 65,535 glyphs, or pairs of a glyph and a text, `InvalidText` for an unpaired
-    surrogate, and `NotImplementedError` where the library is of an older version.
+    Raises `OverflowError` for more than 65,534 glyphs, or pairs of a glyph and a text, besides glyph 0, `InvalidText` for an
+    unpaired surrogate, and `NotImplementedError` where the library is of an older version.
     """
     entries, kind = _Entries(shown), _choice("codes", codes, _CODES)
     library, length = _library_with("subsetter_codes_of"), ctypes.c_size_t()
@@ -955,7 +967,7 @@ def codes_of(shown: Iterable[Tuple[SupportsIndex, str]], codes: Codes = "consecu
     status = library.subsetter_codes_of(
         *entries.arguments(), kind, found.buffer_info()[0], len(found), ctypes.byref(length),
     )
-    _check(library, status, None, lambda: _surrogate(entries.text))
+    _check(library, status, None, lambda: _surrogate(entries.text), lambda: entries.excess(codes))
     return found.tolist()
 
 
@@ -1332,7 +1344,8 @@ def pdf_font(
         try:
             with _bytes_of(data) as (font, size):
                 status = library.subsetter_make_font_by_words(font, size, face, *given, ctypes.byref(made))
-                _check(library, status, _Asked(_PDF_FONT, font, size, face, entries.glyphs, words, place), entries.fault)
+                asked = _Asked(_PDF_FONT, font, size, face, entries.glyphs, words, place)
+                _check(library, status, asked, entries.fault, lambda: entries.excess(codes))
                 has_kinds = hasattr(library, "subsetter_glyph_kinds")
                 kinds = _kind_bits(library, font, size, face, entries.glyphs) if has_kinds else None
             found = PdfFont(made.pdf, entries, made)
@@ -1403,11 +1416,18 @@ def _no_glyph(glyph: int, count: int) -> str:
     return f"glyph {glyph}: " + (f"the font's glyphs are 0 to {count - 1}" if count else "the font has no glyph")
 
 
+def _unlaid(texts: Iterable[str]) -> str:
+    """Why a run of clusters with these texts isn't laid out."""
+    if any(len(it.encode("utf-16-le", "surrogatepass")) > 2 * 16_382 for it in texts):
+        return "a text that needs an ActualText has more than 16382 UTF-16 units"
+    return "a glyph or the pen is further away than 32 bits count"
+
+
 def _cluster_fault(text: str, width: int, clusters: List[int], direction: str) -> str:
-    """What is wrong with cluster numbers that count units of `width` bits."""
-    begins, at = set(), 0
-    for it in text:
-        begins.add(at)
+    """What is wrong with cluster numbers that count units of `width` bits, or with a run of them."""
+    begins, at = {}, 0
+    for place, it in enumerate(text):
+        begins[at] = place
         at += 8 * len(it.encode("utf-8" if width == 8 else f"utf-{width}-le", "surrogatepass")) // width
     wrong = [it for it in clusters if it not in begins]
     if wrong:
@@ -1415,7 +1435,8 @@ def _cluster_fault(text: str, width: int, clusters: List[int], direction: str) -
     for one, other in zip(clusters, clusters[1:]):
         if other < one if direction != "rtl" else other > one:
             return f"cluster {other} comes after cluster {one}, and direction is {direction}"
-    return ""
+    places = [*sorted(begins[it] for it in set(clusters)), len(text)]
+    return _unlaid(text[start:end] for start, end in zip(places, places[1:]))
 
 
 def _thousandths(size: Value) -> int:
@@ -1426,7 +1447,7 @@ def _thousandths(size: Value) -> int:
     except builtins.OverflowError:
         scaled = math.inf
     if not 0 <= scaled <= 0xFFFFFFFF:
-        raise ValueError(f"size is {_shown(size)}, and none from 0 to 4294967.295")
+        raise ValueError(f"size is from 0 to 4294967.295, and not {_shown(size)}")
     return round(scaled)
 
 
@@ -1580,7 +1601,9 @@ class PdfText:
                 rows[place] += (0, -height, 0, self._above(glyph)) if self._vertical else (width, 0, 0, 0)
 
         def fault(_: str) -> str:
-            return "the first item continues a cluster, as its text is None" if rows and rows[0][1] else self._fault(rows, characters)
+            if rows and rows[0][1]:
+                return "the first item continues a cluster, as its text is None"
+            return self._fault(rows, characters) or _unlaid("".join(map(chr, characters[row[2]:row[3]])) for row in rows)
 
         given = _packed(_ITEM, rows, ("a glyph", "", "", "", *_PLACES))
         return self._shown("subsetter_show_run", direction, size, rows, fault, given, len(rows), characters.buffer_info()[0], len(characters))

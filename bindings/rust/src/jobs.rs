@@ -64,16 +64,29 @@ pub fn main(rt: HostRuntime) -> End {
     }
 }
 
+/// The value of an option that comes first, in its word or in the next, and the arguments after it.
+fn value_of<'a>(words: &'a [String], name: &str) -> Option<(&'a str, &'a [String])> {
+    match words {
+        [word, value, rest @ ..] if word.as_str() == name => Some((value.as_str(), rest)),
+        [word, rest @ ..] => {
+            let value = word.as_str().strip_prefix(name)?.strip_prefix('=')?;
+            Some((value, rest))
+        }
+        [] => None,
+    }
+}
+
+/// The values of two options, where these are all arguments, in this order.
+fn values_of<'a>(words: &'a [String], one: &str, other: &str) -> Option<(&'a str, &'a str)> {
+    let (first, rest) = value_of(words, one)?;
+    let (second, rest) = value_of(rest, other)?;
+    rest.is_empty().then_some((first, second))
+}
+
 /// FILE and N, where the arguments are `--batch FILE` and `--jobs N`.
 fn jobs_in(words: &[String]) -> Option<(&str, &str)> {
-    match words {
-        [batch, file, jobs, number] | [jobs, number, batch, file]
-            if batch.as_str() == BATCH && jobs.as_str() == JOBS =>
-        {
-            Some((file.as_str(), number.as_str()))
-        }
-        _ => None,
-    }
+    let turned = || values_of(words, JOBS, BATCH).map(|(number, file)| (file, number));
+    values_of(words, BATCH, JOBS).or_else(turned)
 }
 
 /// Whether `--jobs` is an argument, where the arguments aren't `--batch FILE` and `--jobs N`.
@@ -107,7 +120,7 @@ fn refuse_apart(rt: &HostRuntime) -> u8 {
 fn refuse(rt: &HostRuntime, number: &str) -> u8 {
     let failure = &Failure::Usage;
     let _ = eprintln!(rt; "{}", Report { failure, file: None });
-    let _ = eprintln!(rt; "{}: \"{}\" is not a number", JOBS, Shown(number));
+    let _ = eprintln!(rt; "{}: \"{}\" is not a number of threads", JOBS, Shown(number));
     let _ = eprintln!(rt; "expected: a number from 1 to {}", MOST);
     failure.status()
 }

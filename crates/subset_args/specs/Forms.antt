@@ -11,14 +11,14 @@ use Rattle.subset_args.specs.Words.{number_in_bits}
 use Rattle.subset_args.specs.Coordinates.{has_byte, is_equals}
 use Rattle.subset_args.specs.Mistakes.{Fault, refused, or_refused, unless, ◌>>=◌}
 use Rattle.subset_args.specs.Nearest.{front}
-use Rattle.subset_args.specs.Options.{Choice, setting_of, kind_of, with_switch, with_setting}
+use Rattle.subset_args.specs.Options.{Choice, no_choice, setting_of, kind_of, with_switch, with_setting}
 use Rattle.subset_args.specs.declared.jobs.command.Topic.{Topic}
 use Rattle.subset_args.specs.declared.jobs.command.Topic.TheVariants.{Axes, Info}
 use Rattle.subset_args.specs.declared.mistakes.Wrong.{Wrong}
 use Rattle.subset_args.specs.declared.mistakes.Wrong.TheVariants.{NoInput, NoOutput, NoIndex, NoGlyphs, Further, Late}
 use Rattle.subset_args.specs.declared.mistakes.Wrong.TheVariants.{ShownLate, BatchLate, Unknown, NoValue, BesideOption}
 use Rattle.subset_args.specs.declared.mistakes.Wrong.TheVariants.{Index, Glyph, BesideInput, NoSource, NoPdf}
-use Rattle.subset_args.specs.declared.mistakes.Wrong.TheVariants.{OutputTwice}
+use Rattle.subset_args.specs.declared.mistakes.Wrong.TheVariants.{OutputTwice, Taken}
 use Rattle.subset_args.specs.declared.options.names.Setting.{Setting}
 use Rattle.subset_args.specs.declared.options.names.Kind.{Kind}
 use Rattle.subset_args.specs.declared.options.names.Kind.TheVariants.{Switch as IsSwitch, Setting as IsSetting, Help}
@@ -58,9 +58,10 @@ joined word =
     (long_setting (before_first is_equals word))
     else None
 
--- `--axes`, `--info` and `--batch` come first
+-- `--axes`, `--info` and `--batch`, also with its value in one word, come first
 abbrev pub not_first : List ℕ → Option Wrong
-not_first word = if is_some (topic_of word) then Some ShownLate else (if is_batch word then Some BatchLate else None)
+not_first word =
+    if is_some (topic_of word) then Some ShownLate else (if is_batch (front word) then Some BatchLate else None)
 
 -- what is wrong with an argument that is no other option, by itself
 abbrev pub wrong_place : List ℕ → Option Wrong
@@ -181,6 +182,15 @@ parsed None choice is_after (word ∷ words) = elim (kind_of word) [
   ]
 ]
 
+-- the file of `--batch=FILE`, where the arguments from it on aren't of the plain form: then it is IN
+abbrev pub joined_batch : List ℕ → List (List ℕ) → Option (List ℕ)
+joined_batch word words =
+    if has_byte is_equals word
+    then if is_batch (before_first is_equals word) && not (is_ok (plain no_choice words))
+    then Some (after_first is_equals word)
+    else None
+    else None
+
 -- ---- IN with options before and after it
 
 -- whether an option says where the new font or a PDF goes
@@ -270,3 +280,19 @@ from_input fault choice is_ended (input ∷ words) =
 unfoldable pub asked : Choice → Bool → List (List ℕ) → Result Asked Fault
 asked choice is_ended words =
     elim (plain choice words) [ Ok found ↦ Ok found | Err fault ↦ from_input fault choice is_ended words ]
+
+-- ---- what is wrong where an option is the value of another
+
+-- no word after it is an option
+abbrev pub ends_options : List ℕ → Bool
+ends_options word = bytes_eq word (codes "--") || is_some (not_first word)
+
+-- the first option whose value is one, too: what follows an option is its value, whatever it looks like
+abbrev pub taken : List (List ℕ) → Option Fault
+taken [] = None
+taken (word ∷ []) = None
+taken (word ∷ value ∷ words) = elim (setting_of word) [
+  | Some setting ↦ if is_some (wrong_after value) then Some (record { wrong = Taken setting; word = value })
+      else taken words
+  | None ↦ if ends_options word then None else taken (value ∷ words)
+]

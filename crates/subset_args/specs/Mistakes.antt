@@ -1,5 +1,5 @@
 -- What is wrong with the arguments, first.
-use Rattle.std.specs.Prelude.{◌≡◌, ℕ, List, Option, Some, None, Result, Ok, Err}
+use Rattle.std.specs.Prelude.{◌≡◌, ℕ, List, Option, Some, None, Result, Ok, Err, unwrap_or}
 use Rattle.subset_args.specs.declared.mistakes.Wrong.{Wrong}
 use Rattle.subset_args.specs.declared.mistakes.Mistake.{Mistake}
 use Rattle.subset_args.specs.declared.mistakes.Unread.{Unread}
@@ -31,6 +31,11 @@ or_refused wrong word (Some x) = Ok x
 abbrev pub unless : {A : Type 0} → Option Fault → Result A Fault → Result A Fault
 unless None more = more
 unless (Some fault) more = Err fault
+
+-- what is wrong is this, if it is there
+abbrev pub or_instead : {A : Type 0} → Option Fault → Result A Fault → Result A Fault
+or_instead other (Ok x) = Ok x
+or_instead other (Err fault) = Err (unwrap_or other fault)
 
 -- ---- what the code returns
 

@@ -8,12 +8,12 @@ use Rattle.subset_args.specs.Words.{number_in_bits}
 use Rattle.subsetter_base.specs.declared.tag.Tag.{Tag}
 use Rattle.subset_args.specs.Coordinates.{has_byte, is_equals, coordinates_in}
 use Rattle.subset_args.specs.Forms.{Asked, Options, helped, versioned, chosen, looks_like_option, topic_of, is_batch}
-use Rattle.subset_args.specs.Forms.{is_option, wrong_pdf, parsed, asked}
+use Rattle.subset_args.specs.Forms.{is_option, wrong_after, wrong_pdf, parsed, asked, joined_batch, taken}
 use Rattle.subset_args.specs.Limits.{Bounds}
 use Rattle.subset_args.specs.Listing.Lists.{FileList, every, these, characters, text_of, argument_list}
 use Rattle.subset_args.specs.Listing.Characters.{argument_characters}
 use Rattle.subset_args.specs.Listing.Wrong.{list_fault}
-use Rattle.subset_args.specs.Mistakes.{Fault, refused, or_fault, unless, ◌>>=◌}
+use Rattle.subset_args.specs.Mistakes.{Fault, refused, or_fault, unless, or_instead, ◌>>=◌}
 use Rattle.subset_args.specs.Options.{GlyphSource, in_file, by_text, in_list, in_codes, Choice, kind_of, no_choice}
 use Rattle.subset_args.specs.declared.listing.lists.FileKind.{FileKind}
 use Rattle.subset_args.specs.declared.listing.lists.FileKind.TheVariants.{Glyphs as OfGlyphs}
@@ -222,12 +222,18 @@ instead_of input fault =
     else (if is_option (kind_of input) || is_some (topic_of input) then record { wrong = AfterShown; word = input }
     else record { wrong = Unknown; word = input })
 
+-- what is wrong with an INDEX that is no number: it may be an option
+abbrev pub no_index : List ℕ → Fault
+no_index index =
+    if is_some (wrong_after index) then record { wrong = AfterShown; word = index }
+    else record { wrong = Index; word = index }
+
 -- what is shown by the arguments `FONT [INDEX]`, with or without JSON; INDEX is 0 where it isn't given
 abbrev pub shown_of : Topic → Bool → List (List ℕ) → Result Command Fault
 shown_of topic json [] = refused NoInput []
 shown_of topic json (input ∷ []) = Ok (show topic json input 0)
 shown_of topic json (input ∷ index ∷ []) =
-    or_fault (instead_of input (record { wrong = Index; word = index }))
+    or_fault (instead_of input (no_index index))
     (option_map (show topic json input) (number_in_bits 32 index))
 shown_of topic json (input ∷ index ∷ word ∷ words) = Err (instead_of input (record { wrong = AfterShown; word = word }))
 
@@ -245,11 +251,22 @@ batch_of [] = refused NoBatchFile []
 batch_of (file ∷ []) = Ok (batch file)
 batch_of (file ∷ word ∷ words) = refused AfterBatch word
 
--- what the arguments request: `--batch FILE`, `--axes [--json] FONT [INDEX]` or `--info` in its place, or the making of
--- a subset
-abbrev pub command : List (List ℕ) → Result Command Fault
-command [] = command_by_options []
-command (word ∷ words) = if is_batch word then batch_of words else (elim (topic_of word) [
+-- without `--batch` and a value: `--axes [--json] FONT [INDEX]`, `--info` in its place, or the making of a subset
+abbrev pub command_without : List ℕ → List (List ℕ) → Result Command Fault
+command_without word words = elim (topic_of word) [
   | Some topic ↦ shown_by topic words
   | None ↦ command_by_options (word ∷ words)
+]
+
+-- what the arguments request: `--batch FILE`, `--batch=FILE`, or that
+abbrev pub command : List (List ℕ) → Result Command Fault
+command [] = command_by_options []
+command (word ∷ words) = if is_batch word then batch_of words else (elim (joined_batch word (word ∷ words)) [
+  | Some file ↦ batch_of (file ∷ words)
+  | None ↦ command_without word words
 ])
+
+-- the same, as a person types them: where they request nothing, and an option is the value of another, that is what is
+-- wrong
+abbrev pub typed : List (List ℕ) → Result Command Fault
+typed words = or_instead (taken words) (command words)

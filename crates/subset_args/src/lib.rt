@@ -1,9 +1,9 @@
 //! What the arguments of `subset_font` request, and the lists of glyphs that they name.
 //!
-//! [`read_words`] reads them all; [`read_list`] reads the list that a file holds.
+//! [`read_typed`] reads them all; [`read_list`] reads the list that a file holds.
 //!
 //! ```text
-//! match read_words(alloc, &words) {
+//! match read_typed(alloc, &words) {
 //!     Ok(Command::Subset(job)) => ..,
 //!     Ok(Command::Batch(file)) => ..,
 //!     Err(Unread::Mistake(mistake)) => ..,
@@ -24,7 +24,7 @@ mod words;
 pub use coordinates::read_coordinates;
 pub use jobs::command::{ArgsError, Command, Glyphs, Job, PdfJob, Position, Topic};
 pub use jobs::parts::is_stream;
-pub use jobs::reading::read_words;
+pub use jobs::reading::{read_typed, read_words};
 pub use limits::RunLimits;
 pub use listing::characters::codes_descend;
 pub use listing::files::{find_wrong, read_list};

@@ -3,6 +3,7 @@
 ghost use Rattle.std.specs.Prelude.{◌≡◌};
 ghost use Rattle.subset_args.specs.Mistakes.{Fault, fault_view};
 
+use crate::options::names::Setting;
 use std::alloc::AllocError;
 
 /// What is wrong with an argument, or with one of the values that it lists.
@@ -76,6 +77,8 @@ pub enum Wrong {
     NoPdf,
     /// It is the file of a PDF, and OUT.
     OutputTwice,
+    /// It is an option, and the value of this one, which is before it.
+    Taken(Setting),
 }
 
 /// A mistake in the arguments.

@@ -16,7 +16,7 @@ use Rattle.subset_task.specs.Refusals.Texts.{failure_text}
 use Rattle.subset_task.specs.declared.batch.answers.Answer.{Answer}
 use Rattle.subset_task.specs.declared.batch.answers.Answer.TheVariants.{Done, Failed, NoMemory}
 use Rattle.subset_task.specs.declared.refusals.failure.Failure.{Failure}
-use Rattle.subset_task.specs.declared.refusals.failure.Failure.TheVariants.{Error, NoMapping, MissingCharacters, BlankGlyphs, NoInstance, NotPermitted, Usage, List as WrongList, Read, ReadList, Write, WritePdf, Output, LongAnswer}
+use Rattle.subset_task.specs.declared.refusals.failure.Failure.TheVariants.{Error, NoMapping, MissingCharacters, BlankGlyphs, TextTooLong, NoInstance, NotPermitted, Usage, List as WrongList, Read, ReadList, Write, WritePdf, Output, LongAnswer}
 use Rattle.subset_task.specs.declared.task.Plan.{Plan}
 use Rattle.subset_font.proofs.RefusalsLaws.Failing.{unmade}
 
@@ -64,6 +64,7 @@ message_is NoMapping job h = refl
 message_is NoInstance job h = refl
 message_is MissingCharacters job h = refl
 message_is BlankGlyphs job h = refl
+message_is TextTooLong job h = refl
 message_is (NotPermitted permission) job h = refl
 message_is Usage job h = refl
 message_is (WrongList place) job h = absurd (h place refl)

@@ -9,7 +9,7 @@ use Rattle.subset_args.specs.declared.jobs.command.Glyphs.TheVariants.{Listed, C
 use Rattle.subset_args.specs.declared.jobs.command.Job.{Job}
 use Rattle.subset_task.specs.declared.refusals.failure.Failure.{Failure}
 use Rattle.subset_task.specs.declared.refusals.failure.Failure.TheVariants.{Error, NoMapping, MissingCharacters}
-use Rattle.subset_task.specs.declared.refusals.failure.Failure.TheVariants.{BlankGlyphs, NoInstance, NotPermitted}
+use Rattle.subset_task.specs.declared.refusals.failure.Failure.TheVariants.{BlankGlyphs, TextTooLong, NoInstance, NotPermitted}
 use Rattle.subset_task.specs.declared.refusals.failure.Failure.TheVariants.{Usage, List as WrongList, Read, ReadList}
 use Rattle.subset_task.specs.declared.refusals.failure.Failure.TheVariants.{Write, WritePdf, Output, LongAnswer}
 
@@ -40,6 +40,7 @@ name_by NoMapping job = None
 name_by NoInstance job = None
 name_by MissingCharacters job = None
 name_by BlankGlyphs job = None
+name_by TextTooLong job = None
 name_by (NotPermitted permission) job = None
 name_by Usage job = None
 name_by (WrongList place) job = None
@@ -73,6 +74,7 @@ IsReasonBy NoMapping kept reason = reason ≡ None
 IsReasonBy NoInstance kept reason = reason ≡ None
 IsReasonBy MissingCharacters kept reason = reason ≡ None
 IsReasonBy BlankGlyphs kept reason = reason ≡ None
+IsReasonBy TextTooLong kept reason = reason ≡ None
 IsReasonBy (NotPermitted permission) kept reason = reason ≡ None
 IsReasonBy Usage kept reason = reason ≡ None
 IsReasonBy (WrongList place) kept reason = reason ≡ None

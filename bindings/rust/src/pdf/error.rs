@@ -46,7 +46,7 @@ pub enum TextError {
     /// The glyphs are no run of the font or not of their text, or a number is too large: [`run`](super::Text::run) and
     /// [`shaped`](super::Text::shaped) list the causes. Often the direction is another one.
     InvalidText,
-    /// The font of the text would have more than 65,535 codes: the run is for another one.
+    /// The font of the text would have more than 65,535 codes, code 0 among them, or glyphs: the run is for another one.
     Overfull,
     /// The error of a call that subsets a font.
     Subset(Error),

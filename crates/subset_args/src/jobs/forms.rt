@@ -3,13 +3,13 @@
 ghost use Rattle.std.specs.Prelude.{◌≡◌, None};
 ghost use Rattle.std.specs.Option.{option_copied, option_map};
 ghost use Rattle.std.specs.Result.{is_ok};
-ghost use Rattle.subset_args.specs.Forms.{is_same, without_pdf, wrong_file, wrong_pdf, names_position, begins_with_digit, numbers, listed_after, plain_with, plain_at, plain, unless_after, joined_at, parsed, has_output, free, first_late, say_position, beside_input, wrong_at, second, before, alone, parsed_after, from_input, asked};
+ghost use Rattle.subset_args.specs.Forms.{is_same, without_pdf, wrong_file, wrong_pdf, names_position, begins_with_digit, numbers, listed_after, plain_with, plain_at, plain, unless_after, joined_at, joined_batch, parsed, has_output, free, first_late, say_position, beside_input, wrong_at, second, before, alone, parsed_after, from_input, asked};
 ghost use Rattle.subset_args.specs.Mistakes.{fault_view, read_view};
 ghost use Rattle.subset_args.specs.View.{chosen_view, ended_by, given_view, parsed_view, asked_view, words_view};
 
 use crate::mistakes::{Mistake, Wrong, mistake_in};
 use crate::options::chosen::Chosen;
-use crate::options::joined::{Given, joined, says_position, wrong_after, wrong_place};
+use crate::options::joined::{Given, is_batch, joined, says_position, wrong_after, wrong_place};
 use crate::options::names::{Kind, kind_of};
 use crate::words::u32_of;
 
@@ -239,6 +239,17 @@ fn joined_at<'a>(
         return None;
     }
     joined(word)
+}
+
+/// The file of `--batch=FILE`, where the arguments from it on aren't of the plain form: then it is IN.
+pub fn joined_batch<'a>(word: &'a str, words: &[String]) -> Option<&'a str>
+    ensures { option_copied result ≡ joined_batch word.now (words_view words.now) }
+{
+    let (name, value) = word.split_once('=')?;
+    if is_batch(name) && !is_plain(Chosen::NOTHING, words) {
+        return Some(value);
+    }
+    None
 }
 
 /// What the options before IN, or after it, say, besides what is chosen already.

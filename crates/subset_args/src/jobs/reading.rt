@@ -1,18 +1,20 @@
 //! What all arguments request, or what is wrong with them first.
 
-ghost use Rattle.std.specs.Prelude.{◌≡◌, map, IfOk};
+ghost use Rattle.std.specs.Prelude.{◌≡◌, ◌∷◌, map, IfOk};
 ghost use Rattle.std.specs.Option.{option_map};
 ghost use Rattle.subset_args.specs.Mistakes.{fault_view, Gives};
-ghost use Rattle.subset_args.specs.Request.{request_with, request_at, request_of, request_from, command_of, command_by_options, instead_of, shown_of, shown_by, batch_of, command};
+ghost use Rattle.subset_args.specs.Request.{request_with, request_at, request_of, request_from, command_of, command_by_options, instead_of, no_index, shown_of, shown_by, batch_of, command_without, command, typed};
 ghost use Rattle.subset_args.specs.declared.mistakes.Wrong.TheVariants.{AfterShown};
 ghost use Rattle.subset_args.specs.View.{chosen_view, parsed_view, asked_view, requested_view, position_view, job_view, command_view, words_view};
 
 use crate::jobs::command::{Command, Glyphs, Job, Position, Topic};
-use crate::jobs::forms::{Asked, Ending, Parsed, asked_by, parse_options, wrong_pdf};
+use crate::jobs::forms::{Asked, Ending, Parsed, asked_by, joined_batch, parse_options, wrong_pdf};
 use crate::jobs::parts::{is_stream, owned, read_at, read_glyphs, read_pdf, wrong_stream};
 use crate::mistakes::{Mistake, Unread, Wrong, mistake_in};
 use crate::options::chosen::Chosen;
-use crate::options::joined::{is_batch, is_option, looks_like_option, topic_of};
+use crate::options::joined::{
+    is_batch, is_option, looks_like_option, taken, topic_of, wrong_after,
+};
 use crate::options::names::kind_of;
 use crate::words::u32_of;
 use std::alloc::{AllocError, Global};
@@ -120,6 +122,17 @@ fn instead_of<'a>(input: &'a str, wrong: Mistake<'a>) -> Mistake<'a>
     }
 }
 
+/// What is wrong with an INDEX that is no number: it may be an option.
+fn no_index(index: &str) -> Mistake<'_>
+    ensures { fault_view result ≡ no_index index.now }
+{
+    if wrong_after(index).is_some() {
+        mistake_in(Wrong::AfterShown, index)
+    } else {
+        mistake_in(Wrong::Index, index)
+    }
+}
+
 /// What is wrong where an argument follows INDEX.
 fn after_index<'a>(input: &'a str, word: &'a str) -> Mistake<'a>
     ensures { fault_view result ≡ instead_of input.now (record { wrong = AfterShown; word = word.now }) }
@@ -136,7 +149,7 @@ fn read_shown<'a>(topic: Topic, json: bool, words: &'a [String]) -> Result<Comma
         [input] => Ok(Command::Show(topic, json, input.clone()?, 0)),
         [input, index] => match u32_of(index) {
             Some(number) => Ok(Command::Show(topic, json, input.clone()?, number)),
-            None => Err(Unread::Mistake(instead_of(input, mistake_in(Wrong::Index, index)))),
+            None => Err(Unread::Mistake(instead_of(input, no_index(index)))),
         },
         [input, _, word, ..] => Err(Unread::Mistake(after_index(input, word))),
     }
@@ -156,18 +169,27 @@ fn read_topic<'a>(topic: Topic, words: &'a [String]) -> Result<Command, Unread<'
     }
 }
 
+/// What FILE and the arguments after it request.
+fn batch_of<'a>(alloc: Global, file: &str, words: &'a [String]) -> Result<Command, Unread<'a>>
+    ensures { Gives command_view result (batch_of (file.now ∷ words_view words.now)) }
+{
+    match words {
+        [] => Ok(Command::Batch(String::from_str(alloc, file)?)),
+        [word, ..] => Err(Unread::Mistake(mistake_in(Wrong::AfterBatch, word))),
+    }
+}
+
 /// What the arguments after `--batch` request: FILE.
-fn read_batch<'a>(words: &'a [String]) -> Result<Command, Unread<'a>>
+fn read_batch<'a>(alloc: Global, words: &'a [String]) -> Result<Command, Unread<'a>>
     ensures { Gives command_view result (batch_of (words_view words.now)) }
 {
     match words {
         [] => Err(Unread::Mistake(mistake_in(Wrong::NoBatchFile, ""))),
-        [file] => Ok(Command::Batch(file.clone()?)),
-        [_, word, ..] => Err(Unread::Mistake(mistake_in(Wrong::AfterBatch, word))),
+        [file, following @ ..] => batch_of(alloc, file, following),
     }
 }
 
-/// What the arguments after the program's name request: `--batch FILE`, `--axes [--json] FONT [INDEX]` or `--info` in its place,
+/// What the arguments after the program's name request: `--batch FILE` (or `--batch=FILE`), `--axes [--json] FONT [INDEX]` or `--info` in its place,
 /// or `[OPTIONS] IN OUT INDEX GID[,GID..]`, where the last one is left out with an option that requests glyphs; or IN with options
 /// before and after it, where one gives OUT or the file of a PDF. An option and its value may be one word, `--name=value`, but
 /// where that is IN in the plain form.
@@ -180,10 +202,26 @@ pub fn read_words<'a>(alloc: Global, words: &'a [String]) -> Result<Command, Unr
         return read_by_options(alloc, words);
     };
     if is_batch(word) {
-        return read_batch(following);
+        return read_batch(alloc, following);
+    }
+    if let Some(file) = joined_batch(word, words) {
+        return batch_of(alloc, file, following);
     }
     match topic_of(word) {
         Some(topic) => read_topic(topic, following),
         None => read_by_options(alloc, words),
+    }
+}
+
+/// The same, as a person types them: where they request nothing, and an option is the value of another, that is the error.
+pub fn read_typed<'a>(alloc: Global, words: &'a [String]) -> Result<Command, Unread<'a>>
+    ensures { Gives command_view result (typed (words_view words.now)) }
+{
+    match read_words(alloc, words) {
+        Err(Unread::Mistake(found)) => match taken(words) {
+            Some(other) => Err(Unread::Mistake(other)),
+            None => Err(Unread::Mistake(found)),
+        },
+        other => other,
     }
 }

@@ -1,12 +1,13 @@
 //! Words that are no option by themselves: `--name=value`, and those that begin as an option does.
 
-ghost use Rattle.std.specs.Prelude.{◌≡◌};
+ghost use Rattle.std.specs.Prelude.{◌≡◌, Some};
 ghost use Rattle.std.specs.Option.{option_map};
-ghost use Rattle.subset_args.specs.Forms.{topic_of, is_batch, looks_like_option, long_setting, joined, not_first, wrong_place, wrong_after, is_option, says_position};
-ghost use Rattle.subset_args.specs.View.{given_view};
+ghost use Rattle.subset_args.specs.Forms.{topic_of, is_batch, looks_like_option, long_setting, joined, not_first, wrong_place, wrong_after, is_option, says_position, ends_options, taken};
+ghost use Rattle.subset_args.specs.Mistakes.{fault_view};
+ghost use Rattle.subset_args.specs.View.{given_view, words_view};
 
 use crate::jobs::command::Topic;
-use crate::mistakes::Wrong;
+use crate::mistakes::{Mistake, Wrong, mistake_in};
 use crate::nearest::front;
 use crate::options::names::{Kind, Setting, kind_of, setting_of};
 
@@ -65,14 +66,14 @@ pub fn joined(word: &str) -> Option<Given<'_>>
     }
 }
 
-/// What is wrong with `--axes`, `--info` and `--batch` where they aren't first.
+/// What is wrong with `--axes`, `--info`, `--batch` and `--batch=FILE` where they aren't first.
 fn not_first(word: &str) -> Option<Wrong>
     ensures { result ≡ not_first word.now }
 {
     if topic_of(word).is_some() {
         return Some(Wrong::ShownLate);
     }
-    if is_batch(word) {
+    if is_batch(front(word)) {
         return Some(Wrong::BatchLate);
     }
     None
@@ -122,4 +123,61 @@ pub fn says_position(word: &str) -> bool
     let name = front(word);
     name == "--output-file"
         || (name == "--face-index" || matches!(word.as_bytes(), [b'-', b'o', ..]))
+}
+
+/// The long name of an option that a value follows.
+#[tactic(auto, unfolding(crate::specs::Options::setting_of))]
+pub fn name_of(setting: Setting) -> &'static str
+    ensures { long_setting result.now ≡ Some setting }
+{
+    match setting {
+        Setting::Limits => "--limits",
+        Setting::GidsFile => "--gids-file",
+        Setting::Text => "--text",
+        Setting::At => "--at",
+        Setting::Gids => "--gids",
+        Setting::FaceIndex => "--face-index",
+        Setting::Output => "--output-file",
+        Setting::TextFile => "--text-file",
+        Setting::Unicodes => "--unicodes",
+        Setting::UnicodesFile => "--unicodes-file",
+        Setting::Pdf => "--pdf",
+        Setting::Codes => "--codes",
+        Setting::Rights => "--rights",
+        Setting::MostInput => "--most-input",
+    }
+}
+
+/// Whether no word after it is an option.
+fn ends_options(word: &str) -> bool
+    ensures { result ≡ ends_options word.now }
+{
+    word == "--" || not_first(word).is_some()
+}
+
+/// The first option whose value is one, too.
+pub fn taken(words: &[String]) -> Option<Mistake<'_>>
+    ensures { option_map fault_view result ≡ taken (words_view words.now) }
+{
+    let mut rest = words;
+    while let [word, others @ ..] = rest {
+        let [value, following @ ..] = others else {
+            return None;
+        };
+        match setting_of(word) {
+            Some(setting) => {
+                if wrong_after(value).is_some() {
+                    return Some(mistake_in(Wrong::Taken(setting), value));
+                }
+                rest = following;
+            }
+            None => {
+                if ends_options(word) {
+                    return None;
+                }
+                rest = others;
+            }
+        }
+    }
+    None
 }

@@ -21,7 +21,7 @@ use Rattle.subset_font.specs.declared.making.subset.Made.{Made}
 use Rattle.subset_font.specs.declared.making.outcome.Outcome.{Outcome}
 use Rattle.subset_task.specs.declared.task.Plan.{Plan}
 use Rattle.subset_task.specs.declared.refusals.failure.Failure.{Failure}
-use Rattle.subset_task.specs.declared.refusals.failure.Failure.TheVariants.{Error, NoMapping, MissingCharacters, BlankGlyphs, NoInstance, NotPermitted, Usage, List as WrongList, Read, ReadList, Write, WritePdf, Output, LongAnswer}
+use Rattle.subset_task.specs.declared.refusals.failure.Failure.TheVariants.{Error, NoMapping, MissingCharacters, BlankGlyphs, TextTooLong as LongText, NoInstance, NotPermitted, Usage, List as WrongList, Read, ReadList, Write, WritePdf, Output, LongAnswer}
 
 no_kind : (kind : Option FontKind) (failure : Failure) → IsOfMaking failure → IsOfMaking (unless_no_kind kind failure)
 no_kind (Some kind) failure h = h
@@ -104,6 +104,7 @@ making_before NoMapping h = tt
 making_before NoInstance h = tt
 making_before MissingCharacters h = tt
 making_before BlankGlyphs h = tt
+making_before LongText h = tt
 making_before (NotPermitted permission) h = tt
 making_before Usage h = elim h [ ]
 making_before (WrongList place) h = elim h [ ]
@@ -144,6 +145,7 @@ IsElse NoMapping = Unit {0}
 IsElse NoInstance = Unit {0}
 IsElse MissingCharacters = Unit {0}
 IsElse BlankGlyphs = Unit {0}
+IsElse LongText = Unit {0}
 IsElse (NotPermitted permission) = Unit {0}
 IsElse Usage = ⊥
 IsElse (WrongList place) = Unit {0}
@@ -160,6 +162,7 @@ making_else NoMapping h = tt
 making_else NoInstance h = tt
 making_else MissingCharacters h = tt
 making_else BlankGlyphs h = tt
+making_else LongText h = tt
 making_else (NotPermitted permission) h = tt
 making_else Usage h = elim h [ ]
 making_else (WrongList place) h = tt

@@ -18,7 +18,7 @@ use Rattle.subset_task.specs.declared.task.Plan.{Plan}
 use Rattle.subset_font.specs.declared.making.outcome.Outcome.{Outcome}
 use Rattle.subset_task.specs.declared.refusals.failure.Failure.{Failure}
 use Rattle.subset_task.specs.declared.refusals.failure.Failure.TheVariants.{Error, NoMapping, MissingCharacters}
-use Rattle.subset_task.specs.declared.refusals.failure.Failure.TheVariants.{BlankGlyphs, NoInstance, NotPermitted}
+use Rattle.subset_task.specs.declared.refusals.failure.Failure.TheVariants.{BlankGlyphs, TextTooLong, NoInstance, NotPermitted}
 use Rattle.subset_task.specs.declared.refusals.failure.Failure.TheVariants.{Usage, List as WrongList, Read, ReadList}
 use Rattle.subset_task.specs.declared.refusals.failure.Failure.TheVariants.{Write, WritePdf, Output, LongAnswer}
 use Rattle.subset_task.specs.declared.batch.answers.Answer.{Answer}
@@ -62,6 +62,7 @@ message_of NoMapping job = failure_text NoMapping
 message_of NoInstance job = failure_text NoInstance
 message_of MissingCharacters job = failure_text MissingCharacters
 message_of BlankGlyphs job = failure_text BlankGlyphs
+message_of TextTooLong job = failure_text TextTooLong
 message_of (NotPermitted permission) job = failure_text (NotPermitted permission)
 message_of Usage job = failure_text Usage
 message_of (WrongList place) job = named_text (codes "no list of glyphs in") (file_at job.glyphs.items place)

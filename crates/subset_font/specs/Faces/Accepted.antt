@@ -19,7 +19,7 @@ use Rattle.subset_task.specs.declared.task.Task.{Task}
 use Rattle.subset_font.specs.declared.making.subset.Made.{Made}
 use Rattle.subset_task.specs.declared.refusals.failure.Failure.{Failure}
 use Rattle.subset_task.specs.declared.refusals.failure.Failure.TheVariants.{Error, NoMapping, MissingCharacters}
-use Rattle.subset_task.specs.declared.refusals.failure.Failure.TheVariants.{BlankGlyphs, NoInstance, NotPermitted}
+use Rattle.subset_task.specs.declared.refusals.failure.Failure.TheVariants.{BlankGlyphs, TextTooLong, NoInstance, NotPermitted}
 use Rattle.subset_task.specs.declared.refusals.failure.Failure.TheVariants.{Usage, List as WrongList, Read, ReadList}
 use Rattle.subset_task.specs.declared.refusals.failure.Failure.TheVariants.{Write, WritePdf, Output, LongAnswer}
 
@@ -75,6 +75,7 @@ is_of_memory NoMapping = false
 is_of_memory NoInstance = false
 is_of_memory MissingCharacters = false
 is_of_memory BlankGlyphs = false
+is_of_memory TextTooLong = false
 is_of_memory (NotPermitted permission) = false
 is_of_memory Usage = false
 is_of_memory (WrongList place) = false

@@ -8,7 +8,7 @@ use Rattle.subset_task.specs.declared.task.Plan.{Plan}
 use Rattle.subset_font.specs.declared.making.outcome.Outcome.{Outcome}
 use Rattle.subset_task.specs.declared.refusals.failure.Failure.{Failure}
 use Rattle.subset_task.specs.declared.refusals.failure.Failure.TheVariants.{Error, NoMapping, MissingCharacters}
-use Rattle.subset_task.specs.declared.refusals.failure.Failure.TheVariants.{BlankGlyphs, NoInstance, NotPermitted}
+use Rattle.subset_task.specs.declared.refusals.failure.Failure.TheVariants.{BlankGlyphs, TextTooLong, NoInstance, NotPermitted}
 use Rattle.subset_task.specs.declared.refusals.failure.Failure.TheVariants.{Usage, List as WrongList, Read, ReadList}
 use Rattle.subset_task.specs.declared.refusals.failure.Failure.TheVariants.{Write, WritePdf, Output, LongAnswer}
 
@@ -33,6 +33,7 @@ IsOfMaking NoMapping = Unit {0}
 IsOfMaking NoInstance = Unit {0}
 IsOfMaking MissingCharacters = Unit {0}
 IsOfMaking BlankGlyphs = Unit {0}
+IsOfMaking TextTooLong = Unit {0}
 IsOfMaking (NotPermitted permission) = Unit {0}
 IsOfMaking Usage = ⊥
 IsOfMaking (WrongList place) = ⊥
@@ -55,6 +56,7 @@ IsBeforeWriting NoMapping = Unit {0}
 IsBeforeWriting NoInstance = Unit {0}
 IsBeforeWriting MissingCharacters = Unit {0}
 IsBeforeWriting BlankGlyphs = Unit {0}
+IsBeforeWriting TextTooLong = Unit {0}
 IsBeforeWriting (NotPermitted permission) = Unit {0}
 IsBeforeWriting Usage = Unit {0}
 IsBeforeWriting (WrongList place) = Unit {0}

@@ -4,7 +4,6 @@ use Rattle.std.specs.Prelude.{None, unwrap_or, IsSome, IfSome, Result, Ok, Err}
 use Rattle.std.specs.Option.{option_copied}
 use Rattle.subsetter_base.specs.declared.tag.Tag.{Tag}
 use Rattle.subsetter_base.specs.declared.error.Error.{Error as Refusal}
-use Rattle.subsetter_base.specs.declared.error.Error.TheVariants.{OverflowError}
 use Rattle.glyph_kinds.specs.Kinds.{unseen_glyphs}
 use Rattle.subset_args.specs.declared.options.chosen.PdfChoice.{PdfChoice}
 use Rattle.subset_lines.specs.Objects.Pdf.{pdf_member}
@@ -17,6 +16,7 @@ use Rattle.subset_pdf.specs.declared.sheet.SheetError.{SheetError}
 use Rattle.subset_pdf.specs.declared.sheet.SheetError.TheVariants.{Font, NotPermitted as Forbidden, TextTooLong}
 use Rattle.subset_task.specs.declared.refusals.failure.Failure.{Failure}
 use Rattle.subset_task.specs.declared.refusals.failure.Failure.TheVariants.{Error, NotPermitted, BlankGlyphs}
+use Rattle.subset_task.specs.declared.refusals.failure.Failure.TheVariants.{TextTooLong as LongText}
 use Rattle.subset_font.specs.Making.Made.{face_of}
 use Rattle.subset_font.specs.declared.making.subset.Made.{Made}
 use Rattle.subset_task.specs.declared.task.RequestedGlyphs.{RequestedGlyphs}
@@ -74,7 +74,7 @@ IsSheetIf (Some choice) task bytes made sheet =
 abbrev pub failure_of : SheetError → Failure
 failure_of (Font e) = Error e
 failure_of (Forbidden permission) = NotPermitted permission
-failure_of TextTooLong = Error OverflowError
+failure_of TextTooLong = LongText
 
 pub record IsUnshown (choice : PdfChoice) (task : Task) (bytes : List ℕ) (made : Made) (failure : Failure)
     : Type 0 where

@@ -19,7 +19,7 @@ use Rattle.pdf_values.specs.Permission.{is_usable}
 use Rattle.pdf_values.specs.declared.permission.Permission.{Permission}
 use Rattle.subset_task.specs.declared.refusals.failure.Failure.{Failure}
 use Rattle.subset_task.specs.declared.refusals.failure.Failure.TheVariants.{Error, NoMapping, MissingCharacters}
-use Rattle.subset_task.specs.declared.refusals.failure.Failure.TheVariants.{BlankGlyphs, NoInstance, NotPermitted}
+use Rattle.subset_task.specs.declared.refusals.failure.Failure.TheVariants.{BlankGlyphs, TextTooLong, NoInstance, NotPermitted}
 use Rattle.subset_task.specs.declared.refusals.failure.Failure.TheVariants.{Usage, List as WrongList, Read, ReadList}
 use Rattle.subset_task.specs.declared.refusals.failure.Failure.TheVariants.{Write, WritePdf, Output, LongAnswer}
 use Rattle.subset_task.specs.declared.refusals.hint.text.Hint.{Hint}
@@ -83,6 +83,7 @@ axes_hint NoMapping bytes index = None
 axes_hint NoInstance bytes index = None
 axes_hint MissingCharacters bytes index = None
 axes_hint BlankGlyphs bytes index = None
+axes_hint TextTooLong bytes index = None
 axes_hint (NotPermitted permission) bytes index = None
 axes_hint Usage bytes index = None
 axes_hint (WrongList place) bytes index = None
@@ -104,6 +105,7 @@ hint_of NoMapping task bytes = hint_of_mapping (face_of task bytes)
 hint_of NoInstance task bytes = None
 hint_of MissingCharacters task bytes = None
 hint_of BlankGlyphs task bytes = None
+hint_of TextTooLong task bytes = None
 hint_of (NotPermitted permission) task bytes = Some (Forbidden (forbidden_bit permission))
 hint_of Usage task bytes = None
 hint_of (WrongList place) task bytes = None

@@ -16,8 +16,8 @@ use subset_task::task::Plan;
 /// the new numbers to the third. The bytes that were read are kept. Memory for `room` bytes is reserved at once.
 ///
 /// `Read` where the reader fails; `Error`, `NoMapping` or `NoInstance` where the glyphs or the font are refused, or the font
-/// has no widths that are requested; `NotPermitted` where it may not be embedded into the PDF; `WritePdf`, `Write` and `Output`
-/// where a writer fails. A writer is first used when all is made.
+/// has no widths that are requested; `NotPermitted` where it may not be embedded into the PDF, `TextTooLong` where it would show a
+/// glyph with too long a text; `WritePdf`, `Write` and `Output` where a writer fails. A writer is first used when all is made.
 pub fn carry_out<R: Read, P: Write, W: Write, L: Write>(
     alloc: Global,
     plan: &Plan<'_>,

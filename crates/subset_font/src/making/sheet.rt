@@ -86,7 +86,7 @@ fn make_shown(
         Ok(sheet) => Ok(sheet),
         Err(SheetError::Font(error)) => Err(Failure::Error(error)),
         Err(SheetError::NotPermitted(permission)) => Err(Failure::NotPermitted(permission)),
-        Err(SheetError::TextTooLong) => Err(Failure::Error(Error::OverflowError)),
+        Err(SheetError::TextTooLong) => Err(Failure::TextTooLong),
     }
 }
 

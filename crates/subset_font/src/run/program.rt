@@ -10,7 +10,7 @@ use crate::run::reports::report;
 use crate::run::showing::{print_text, run_shown};
 use std::process::{ExitCode, Termination};
 use std::rt::{Env, Files};
-use subset_args::{Advice, Command, Mistake, Unread, read_words};
+use subset_args::{Advice, Command, Mistake, Unread, read_typed};
 use subset_task::refusals::failure::Failure;
 use subset_task::run::request::read_arguments;
 use subset_task::streams::hold_streams;
@@ -45,7 +45,7 @@ fn refuse<R: Eprint>(rt: &R, mistake: &Mistake<'_>) -> u8
 fn run_words<R: Files + Print + Eprint + Input + AllocGlobal>(rt: &R, words: &[String]) -> u8
     ensures { result ≤ 3 }
 {
-    match read_words(rt.alloc(), words) {
+    match read_typed(rt.alloc(), words) {
         Ok(Command::Help) => print_text(rt, HELP),
         Ok(Command::Version) => print_text(rt, VERSION_LINE),
         Ok(Command::Subset(job)) => run_job(rt, &job),

@@ -2,7 +2,7 @@
 use Rattle.std.specs.Prelude.{ℕ, Result, Ok, Err}
 use Rattle.subset_task.specs.declared.refusals.failure.Failure.{Failure}
 use Rattle.subset_task.specs.declared.refusals.failure.Failure.TheVariants.{Error, NoMapping, MissingCharacters}
-use Rattle.subset_task.specs.declared.refusals.failure.Failure.TheVariants.{BlankGlyphs, NoInstance, NotPermitted}
+use Rattle.subset_task.specs.declared.refusals.failure.Failure.TheVariants.{BlankGlyphs, TextTooLong, NoInstance, NotPermitted}
 use Rattle.subset_task.specs.declared.refusals.failure.Failure.TheVariants.{Usage, List, Read, ReadList, Write}
 use Rattle.subset_task.specs.declared.refusals.failure.Failure.TheVariants.{WritePdf, Output, LongAnswer}
 
@@ -13,6 +13,7 @@ status_of NoMapping = 1
 status_of NoInstance = 1
 status_of MissingCharacters = 1
 status_of BlankGlyphs = 1
+status_of TextTooLong = 1
 status_of (NotPermitted permission) = 1
 status_of Usage = 2
 status_of (List place) = 2

@@ -4,7 +4,7 @@ use Rattle.subsetter_base.specs.Texts.{error_text}
 use Rattle.font_reasons.specs.Texts.{reason_text}
 use Rattle.subset_task.specs.declared.refusals.failure.Failure.{Failure}
 use Rattle.subset_task.specs.declared.refusals.failure.Failure.TheVariants.{Error, NoMapping, MissingCharacters}
-use Rattle.subset_task.specs.declared.refusals.failure.Failure.TheVariants.{BlankGlyphs, NoInstance, NotPermitted}
+use Rattle.subset_task.specs.declared.refusals.failure.Failure.TheVariants.{BlankGlyphs, TextTooLong, NoInstance, NotPermitted}
 use Rattle.subset_task.specs.declared.refusals.failure.Failure.TheVariants.{Usage, List as WrongList, Read, ReadList}
 use Rattle.subset_task.specs.declared.refusals.failure.Failure.TheVariants.{Write, WritePdf, Output, LongAnswer}
 use Rattle.subset_task.specs.declared.refusals.hint.text.Hint.{Hint}
@@ -18,6 +18,7 @@ failure_text NoMapping = codes "no Unicode cmap in font"
 failure_text NoInstance = codes "no such instance in font"
 failure_text MissingCharacters = codes "characters without a glyph"
 failure_text BlankGlyphs = codes "glyphs without an outline"
+failure_text TextTooLong = codes "text too long"
 failure_text (NotPermitted permission) = codes "embedding not permitted"
 failure_text Usage = codes "usage: subset_font IN OUT INDEX GID[,GID..]"
 failure_text (WrongList place) = codes "usage: subset_font IN OUT INDEX GID[,GID..]"

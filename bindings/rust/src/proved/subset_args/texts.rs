@@ -3,15 +3,18 @@
 
 use crate::proved::plain_text::characters::plain;
 use crate::proved::subset_args::mistakes::{Mistake, Wrong};
-use crate::proved::subset_args::nearest::{remedy_of, Remedy};
+use crate::proved::subset_args::nearest::{front, remedy_of, Remedy};
+use crate::proved::subset_args::options::joined::name_of;
+use crate::proved::subset_args::options::names::{kind_of, Kind, Setting};
 use crate::rattle::fmt;
 
 /// What a list of glyphs may have.
-pub const PARTS_EXPECTED: &str = "expected: numbers to 65535 and ranges as 36-38, or * alone";
+pub const PARTS_EXPECTED: &str =
+    "expected: numbers from 0 to 65535 and ranges, as 36,40-42; or * alone";
 
 /// What a list of characters may have.
 pub const CODES_EXPECTED: &str =
-    "expected: hexadecimal numbers to 10FFFF and ranges, as U+0041-005A";
+    "expected: hexadecimal numbers to 10FFFF and ranges, as U+0041-005A,20AC";
 
 /// What is expected in place of a range whose ends aren't in order.
 pub const ORDER_EXPECTED: &str = "expected: the lesser number first, as 10-20";
@@ -70,9 +73,9 @@ fn around(wrong: Wrong) -> (&'static str, Option<&'static str>) {
         Wrong::NoValue => ("", Some(": its value is missing")),
         Wrong::BesideOption => ("GID \"", Some("\": an option requests the glyphs")),
         Wrong::InputTwice => ("", Some(": standard input is requested twice")),
-        Wrong::Index => ("INDEX \"", Some("\" is not a number")),
-        Wrong::FaceIndex => ("--face-index: \"", Some("\" is not a number")),
-        Wrong::MostInput => ("--most-input: \"", Some("\" is not a number")),
+        Wrong::Index => ("INDEX \"", Some("\" is not a face number")),
+        Wrong::FaceIndex => ("--face-index: \"", Some("\" is not a face number")),
+        Wrong::MostInput => ("--most-input: \"", Some("\" is not a number of bytes")),
         Wrong::Glyph => ("GID \"", Some("\" is not a glyph number")),
         Wrong::Limits => ("--limits: \"", Some("\" is not TOKENS,DEPTH[,BYTES]")),
         Wrong::Coordinate => ("--at: \"", Some("\" is not TAG=VALUE")),
@@ -86,6 +89,16 @@ fn around(wrong: Wrong) -> (&'static str, Option<&'static str>) {
         Wrong::Rights => ("--rights: \"", Some("\" is not held")),
         Wrong::NoPdf => ("", Some(": no PDF is requested")),
         Wrong::OutputTwice => ("--pdf: \"", Some("\" is OUT, too")),
+        Wrong::Taken(_) => ("", Some(" is taken as the value of ")),
+    }
+}
+
+/// The option that a mistake's line ends with, as most people type it.
+fn option_in(wrong: Wrong) -> &'static str {
+    match wrong {
+        Wrong::Taken(Setting::Output) => "-o",
+        Wrong::Taken(setting) => name_of(setting),
+        _ => "",
     }
 }
 
@@ -94,7 +107,10 @@ impl fmt::Display for Mistake<'_> {
         let (before, following) = around(self.wrong);
         match following {
             None => write!(f, "{before}"),
-            Some(following) => write!(f, "{before}{}{following}", Shown(self.word)),
+            Some(following) => {
+                let word = Shown(self.word);
+                write!(f, "{before}{word}{following}{}", option_in(self.wrong))
+            }
         }
     }
 }
@@ -106,6 +122,12 @@ pub struct Advice<'a>(pub &'a Mistake<'a>);
 impl fmt::Display for Advice<'_> {
     fn fmt(&self, f: &mut fmt::Formatter<'_>) -> fmt::Result {
         match self.0.wrong {
+            Wrong::Unknown if front(self.0.word) == "--jobs" => {
+                write!(
+                    f,
+                    "expected: --batch FILE --jobs N, of the program that Cargo builds"
+                )
+            }
             Wrong::Unknown => match remedy_of(self.0.word) {
                 Remedy::Apart(option) => {
                     write!(f, "{option} and its value are two arguments")
@@ -113,6 +135,17 @@ impl fmt::Display for Advice<'_> {
                 Remedy::Instead(option) => write!(f, "did you mean {option}?"),
                 Remedy::Manual => write!(f, "see subset_font --help"),
             },
+            Wrong::Late if matches!(kind_of(self.0.word), Kind::Help | Kind::Version) => {
+                write!(f, "expected: {} alone", self.0.word)
+            }
+            Wrong::Taken(setting) => {
+                let (option, word) = (option_in(self.0.wrong), Shown(self.0.word));
+                write!(
+                    f,
+                    "expected: a value after {option}; if {word} is it, {}={word}",
+                    name_of(setting)
+                )
+            }
             other => write!(f, "{}", expected(other)),
         }
     }
@@ -137,15 +170,16 @@ fn expected(wrong: Wrong) -> &'static str {
             "expected: --batch and a FILE of requests, and no more"
         }
         Wrong::Late => "expected: options before IN; with -o or --pdf also after it",
-        Wrong::Unknown => "see subset_font --help",
+        Wrong::Unknown | Wrong::NoValue | Wrong::Taken(_) => "see subset_font --help",
         Wrong::Twice => "expected: each option at most once",
-        Wrong::NoValue => "see subset_font --help",
         Wrong::BesideOption => {
             "expected: GID or one of --gids, --text and --unicodes or their -file"
         }
         Wrong::InputTwice => "expected: - for IN or for FILE, not for both",
         Wrong::MostInput => "expected: a number of bytes to 4294967295",
-        Wrong::Glyph => "expected: numbers from 0 to 65535, with commas, as 36,37,38",
+        Wrong::Glyph => {
+            "expected: numbers from 0 to 65535, with commas, as 36,37,38; ranges by --gids"
+        }
         Wrong::Limits => "expected: numbers, as 1000000,64, with DEPTH from 1 to 255",
         Wrong::Coordinate | Wrong::Tag => {
             "expected: numbers from -32768 to 32767, as wght=650,wdth=87.5, or a name"
@@ -155,9 +189,11 @@ fn expected(wrong: Wrong) -> &'static str {
         Wrong::Descends | Wrong::CodesDescend => ORDER_EXPECTED,
         Wrong::TooMany => FEW_EXPECTED,
         Wrong::BesideInput => {
-            "expected: with -o or --face-index, IN and options alone; glyphs by --gids"
+            "expected: with -o or --face-index, IN and options alone; a text with blanks in quotes"
         }
-        Wrong::Coding => "expected: consecutive, source or text",
+        Wrong::Coding => {
+            "expected: consecutive, source, or text (a code for each glyph and character)"
+        }
         Wrong::Rights => "expected: held, where you may embed the font whatever it says",
         Wrong::NoPdf => "expected: --pdf FILE beside it",
         Wrong::OutputTwice => "expected: two files, for the new font and for the PDF",

@@ -6,7 +6,7 @@ use crate::rattle::prelude::String;
 use crate::proved::subset_args::mistakes::{mistake_in, Mistake, Wrong};
 use crate::proved::subset_args::options::chosen::Chosen;
 use crate::proved::subset_args::options::joined::{
-    joined, says_position, wrong_after, wrong_place, Given,
+    is_batch, joined, says_position, wrong_after, wrong_place, Given,
 };
 use crate::proved::subset_args::options::names::{kind_of, Kind};
 use crate::proved::subset_args::words::u32_of;
@@ -209,6 +209,15 @@ fn joined_at<'a>(
         return None;
     }
     joined(word)
+}
+
+/// The file of `--batch=FILE`, where the arguments from it on aren't of the plain form: then it is IN.
+pub fn joined_batch<'a>(word: &'a str, words: &[String]) -> Option<&'a str> {
+    let (name, value) = word.split_once('=')?;
+    if is_batch(name) && !is_plain(Chosen::NOTHING, words) {
+        return Some(value);
+    }
+    None
 }
 
 /// What the options before IN, or after it, say, besides what is chosen already.

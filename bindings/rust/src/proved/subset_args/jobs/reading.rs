@@ -5,7 +5,7 @@ use crate::rattle::prelude::{String, Vec};
 
 use crate::proved::subset_args::jobs::command::{Command, Glyphs, Job, Position, Topic};
 use crate::proved::subset_args::jobs::forms::{
-    asked_by, parse_options, wrong_pdf, Asked, Ending, Parsed,
+    asked_by, joined_batch, parse_options, wrong_pdf, Asked, Ending, Parsed,
 };
 use crate::proved::subset_args::jobs::parts::{
     is_stream, owned, read_at, read_glyphs, read_pdf, wrong_stream,
@@ -13,7 +13,7 @@ use crate::proved::subset_args::jobs::parts::{
 use crate::proved::subset_args::mistakes::{mistake_in, Mistake, Unread, Wrong};
 use crate::proved::subset_args::options::chosen::Chosen;
 use crate::proved::subset_args::options::joined::{
-    is_batch, is_option, looks_like_option, topic_of,
+    is_batch, is_option, looks_like_option, taken, topic_of, wrong_after,
 };
 use crate::proved::subset_args::options::names::kind_of;
 use crate::proved::subset_args::words::u32_of;
@@ -105,6 +105,15 @@ fn instead_of<'a>(input: &'a str, wrong: Mistake<'a>) -> Mistake<'a> {
     }
 }
 
+/// What is wrong with an INDEX that is no number: it may be an option.
+fn no_index(index: &str) -> Mistake<'_> {
+    if wrong_after(index).is_some() {
+        mistake_in(Wrong::AfterShown, index)
+    } else {
+        mistake_in(Wrong::Index, index)
+    }
+}
+
 /// What is wrong where an argument follows INDEX.
 fn after_index<'a>(input: &'a str, word: &'a str) -> Mistake<'a> {
     instead_of(input, mistake_in(Wrong::AfterShown, word))
@@ -117,10 +126,7 @@ fn read_shown<'a>(topic: Topic, json: bool, words: &'a [String]) -> Result<Comma
         [input] => Ok(Command::Show(topic, json, input.clone()?, 0)),
         [input, index] => match u32_of(index) {
             Some(number) => Ok(Command::Show(topic, json, input.clone()?, number)),
-            None => Err(Unread::Mistake(instead_of(
-                input,
-                mistake_in(Wrong::Index, index),
-            ))),
+            None => Err(Unread::Mistake(instead_of(input, no_index(index)))),
         },
         [input, _, word, ..] => Err(Unread::Mistake(after_index(input, word))),
     }
@@ -141,16 +147,23 @@ fn read_topic<'a>(topic: Topic, words: &'a [String]) -> Result<Command, Unread<'
     }
 }
 
-/// What the arguments after `--batch` request: FILE.
-fn read_batch<'a>(words: &'a [String]) -> Result<Command, Unread<'a>> {
+/// What FILE and the arguments after it request.
+fn batch_of<'a>(alloc: Global, file: &str, words: &'a [String]) -> Result<Command, Unread<'a>> {
     match words {
-        [] => Err(Unread::Mistake(mistake_in(Wrong::NoBatchFile, ""))),
-        [file] => Ok(Command::Batch(file.clone()?)),
-        [_, word, ..] => Err(Unread::Mistake(mistake_in(Wrong::AfterBatch, word))),
+        [] => Ok(Command::Batch(String::from_str(alloc, file)?)),
+        [word, ..] => Err(Unread::Mistake(mistake_in(Wrong::AfterBatch, word))),
     }
 }
 
-/// What the arguments after the program's name request: `--batch FILE`, `--axes [--json] FONT [INDEX]` or `--info` in its place,
+/// What the arguments after `--batch` request: FILE.
+fn read_batch<'a>(alloc: Global, words: &'a [String]) -> Result<Command, Unread<'a>> {
+    match words {
+        [] => Err(Unread::Mistake(mistake_in(Wrong::NoBatchFile, ""))),
+        [file, following @ ..] => batch_of(alloc, file, following),
+    }
+}
+
+/// What the arguments after the program's name request: `--batch FILE` (or `--batch=FILE`), `--axes [--json] FONT [INDEX]` or `--info` in its place,
 /// or `[OPTIONS] IN OUT INDEX GID[,GID..]`, where the last one is left out with an option that requests glyphs; or IN with options
 /// before and after it, where one gives OUT or the file of a PDF. An option and its value may be one word, `--name=value`, but
 /// where that is IN in the plain form.
@@ -164,10 +177,24 @@ pub fn read_words<'a>(alloc: Global, words: &'a [String]) -> Result<Command, Unr
         }
     };
     if is_batch(word) {
-        return read_batch(following);
+        return read_batch(alloc, following);
+    }
+    if let Some(file) = joined_batch(word, words) {
+        return batch_of(alloc, file, following);
     }
     match topic_of(word) {
         Some(topic) => read_topic(topic, following),
         None => read_by_options(alloc, words),
+    }
+}
+
+/// The same, as a person types them: where they request nothing, and an option is the value of another, that is the error.
+pub fn read_typed<'a>(alloc: Global, words: &'a [String]) -> Result<Command, Unread<'a>> {
+    match read_words(alloc, words) {
+        Err(Unread::Mistake(found)) => match taken(words) {
+            Some(other) => Err(Unread::Mistake(other)),
+            None => Err(Unread::Mistake(found)),
+        },
+        other => other,
     }
 }

@@ -3,7 +3,7 @@
 
 use crate::rattle::prelude::{AllocGlobal, Eprint, Input, Print, String, Vec};
 
-use crate::proved::subset_args::{read_words, Advice, Command, Mistake, Unread};
+use crate::proved::subset_args::{read_typed, Advice, Command, Mistake, Unread};
 use crate::proved::subset_font::batch::running::run_batch;
 use crate::proved::subset_font::help::{HELP, VERSION_LINE};
 use crate::proved::subset_font::run::job::run_job;
@@ -37,7 +37,7 @@ fn refuse<R: Eprint>(rt: &R, mistake: &Mistake<'_>) -> u8 {
 
 /// Runs the program with the arguments after its name, and returns the status.
 fn run_words<R: Files + Print + Eprint + Input + AllocGlobal>(rt: &R, words: &[String]) -> u8 {
-    match read_words(rt.alloc(), words) {
+    match read_typed(rt.alloc(), words) {
         Ok(Command::Help) => print_text(rt, HELP),
         Ok(Command::Version) => print_text(rt, VERSION_LINE),
         Ok(Command::Subset(job)) => run_job(rt, &job),

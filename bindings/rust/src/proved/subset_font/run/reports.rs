@@ -24,6 +24,10 @@ use crate::proved::subsetter::{Error, Tag};
 use crate::rattle::alloc::{AllocError, Global};
 use crate::rattle::io;
 
+/// Why the text of a glyph is too long, and how a PDF has longer ones.
+const LONG_TEXT: &str =
+    "a glyph has a text of more than 256 UTF-16 units: give --text or --text-file alone, without --codes";
+
 /// Prints why a run failed, if it did, and returns the status.
 pub fn report<R: Eprint>(rt: &R, ended: &Result<(), Failure>, file: Option<&str>) -> u8 {
     if let Err(failure) = ended {
@@ -360,6 +364,9 @@ fn report_more<R: Eprint + AllocGlobal>(rt: &R, failure: &Failure, font: &[u8], 
         Failure::NoInstance => report_names(rt, font, plan.task.index),
         Failure::MissingCharacters => report_missing(rt, font, &plan.task),
         Failure::BlankGlyphs => report_blank(rt, font, &plan.task),
+        Failure::TextTooLong => {
+            let _ = rt.eprintln(LONG_TEXT);
+        }
         _ => {}
     }
 }

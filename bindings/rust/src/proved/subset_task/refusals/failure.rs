@@ -19,6 +19,8 @@ pub enum Failure {
     MissingCharacters,
     /// A PDF would show a blank of a glyph that has another picture than an outline, and may show none.
     BlankGlyphs,
+    /// A PDF would show a glyph with a text of more than 256 UTF-16 units.
+    TextTooLong,
     /// The face has no named instance of the requested name.
     NoInstance,
     /// The font's maker doesn't permit to embed it, and the user holds no rights.
@@ -48,6 +50,7 @@ impl fmt::Display for Failure {
             Failure::NoMapping => f.write_str("no Unicode cmap in font"),
             Failure::MissingCharacters => f.write_str("characters without a glyph"),
             Failure::BlankGlyphs => f.write_str("glyphs without an outline"),
+            Failure::TextTooLong => f.write_str("text too long"),
             Failure::NoInstance => f.write_str("no such instance in font"),
             Failure::NotPermitted(_) => f.write_str("embedding not permitted"),
             Failure::Usage | Failure::List(_) => {
@@ -75,7 +78,8 @@ impl Failure {
         match self {
             Failure::Error(_) => 1,
             Failure::NoMapping | Failure::NoInstance | Failure::NotPermitted(_) => 1,
-            Failure::MissingCharacters | Failure::BlankGlyphs | Failure::LongAnswer => 1,
+            Failure::MissingCharacters | Failure::BlankGlyphs => 1,
+            Failure::TextTooLong | Failure::LongAnswer => 1,
             Failure::Usage | Failure::List(_) => 2,
             Failure::Read | Failure::ReadList(_) => 3,
             Failure::Write | Failure::WritePdf | Failure::Output => 3,
