@@ -226,7 +226,7 @@ def add(row, key, text):
         row.after[name] = rest
     elif key == "pdf":
         layout, codes, encoding, *more = text.split(" ", 3)
-        row.pdf = layout, [int(it) for it in codes.split(",")], encoding, "".join(more)
+        row.pdf = layout, [int(it) for it in codes.split(",")], encoding, quoted("".join(more)).decode()
     elif key == "program":
         row.program = words_of(text)
     else:

@@ -1207,7 +1207,11 @@ static char *try_text(char *rows)
     static const subsetter_line pages[] = {{(const uint8_t *)"[<0001>]TJ\n", 11, 2509}, {(const uint8_t *)"", 0, 400000}};
     subsetter_pdf_options options = defaults();
     size_t size;
-    uint8_t *bytes = file_of(word(), &size);
+    char *name = word(), *weight = strchr(name, '@');
+    const subsetter_coordinate at = {SUBSETTER_TAG('w', 'g', 'h', 't'), weight == NULL ? 0 : atoi(weight + 1) * 65536};
+    if (weight != NULL)
+        *weight = 0;
+    uint8_t *bytes = file_of(name, &size);
     const char choice = *word();
     const size_t codes = numbers_in(word(), widths), glyph_count = numbers_in(word(), glyphs);
     options.direction = choice == 'v';
@@ -1221,7 +1225,7 @@ static char *try_text(char *rows)
         long before = held;
         requests = 0;
         refused = request;
-        const uint32_t opened = subsetter_new_text(bytes, size, 0, NO_PLACE, &options, &text);
+        const uint32_t opened = subsetter_new_text(bytes, size, 0, &at, weight != NULL, &options, &text);
         int is_whole = opened == 0;
         check(is_whole ? text.units_per_em > 0 : opened == 7 && request != 0 && requests >= request && text.units_per_em == 0, "a text", "runs");
         for (char *after; (after = next_row(next)) != NULL && strcmp(row_text, "run") == 0; next = after) {

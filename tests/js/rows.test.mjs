@@ -76,15 +76,16 @@ function itemsOf(word) {
 test("each row of runs", () => {
     const rows = rowsOf("runs.txt"), texts = rows.flatMap(([kind], i) => (kind === "text" ? [i] : []));
     texts.forEach((first, i) => {
-        const [, name, choice, widths, glyphs] = rows[first], order = choice === "logical" ? "logical" : "visual";
-        const text = new subsetter.PdfText(made(name), { vertical: choice === "vertical", order, ownGlyphs: choice === "own", rights: "held" });
+        const [, font, choice, widths, glyphs] = rows[first], order = choice === "logical" ? "logical" : "visual";
+        const [name, weight] = font.split("@"), coordinates = weight ? { wght: Number(weight) } : {};
+        const text = new subsetter.PdfText(made(name), { coordinates, vertical: choice === "vertical", order, ownGlyphs: choice === "own", rights: "held" });
         for (const [, direction, ...words] of rows.slice(first + 1, texts[i + 1])) {
             const end = words.indexOf("="), wanted = words.slice(end + 1).join(" "), run = () => text.run(words.slice(0, end).flatMap(itemsOf), { direction });
             const found = outcome(() => [run()].map((it) => `${it.advance} ${latin1(it).replaceAll("\n", "~")}`)[0]);
             assert.ok(wanted === "*" || found === wanted, `${found.slice(0, 200)}, and not ${wanted.slice(0, 200)}`);
         }
-        const font = text.font();
-        assert.deepEqual([[...font.widths], [...font.cidToGidMap ?? []]], [numbersOf(widths), numbersOf(glyphs).flatMap((it) => [it >> 8, it & 255])]);
+        const { widths: found, cidToGidMap } = text.font();
+        assert.deepEqual([[...found], [...cidToGidMap ?? []]], [numbersOf(widths), numbersOf(glyphs).flatMap((it) => [it >> 8, it & 255])]);
     });
 });
 

@@ -160,8 +160,9 @@ def test_runs():
     firsts = [place for place, row in enumerate(rows) if row[0] == "text"]
     for first, end in zip(firsts, [*firsts[1:], len(rows)]):
         _, font, choice, widths, glyphs = rows[first]
-        order = "logical" if choice == "logical" else "visual"
-        text = subsetter.PdfText(made(font), vertical=choice == "vertical", order=order, own_glyphs=choice == "own", rights="held")
+        name, _, weight = font.partition("@")
+        order, at = "logical" if choice == "logical" else "visual", {"wght": int(weight)} if weight else None
+        text = subsetter.PdfText(made(name), coordinates=at, vertical=choice == "vertical", order=order, own_glyphs=choice == "own", rights="held")
         for _, direction, *words in rows[first + 1:end]:
             items, wanted = words[:words.index("=")], " ".join(words[words.index("=") + 1:])
             try:

@@ -8,7 +8,7 @@ use Rattle.subsetter_sfnt.specs.Read.{Font, table_in}
 use Rattle.font_advances.specs.Advances.{advances_of}
 use Rattle.text_metrics.specs.Ink.{each_from}
 use Rattle.text_metrics.specs.Metrics.{Metrics, count_in, metrics_seen, text_metrics}
-use Rattle.own_choice.specs.Parts.{has_charstrings, most_parts_in, parts_in}
+use Rattle.own_choice.specs.Parts.{has_charstrings, parts_in}
 use Rattle.own_choice.specs.declared.choice.OwnChoice.{OwnChoice}
 
 -- what lines need, and of each glyph the advance in units of the font and whether it can be a part; how many parts own
@@ -37,10 +37,11 @@ own_choice font settings steps = do
   records ← opened font
   count ← count_in (table_in font.bytes records)
   advances ← advances_of font settings steps (each_from (λ g. g) 0 count)
+  parts ← parts_in (table_in font.bytes records) settings steps count
   Ok (record {
     lines = lines;
     advances = advances.widths;
-    can_be_part = parts_in (table_in font.bytes records) settings count;
-    most_parts = most_parts_in (table_in font.bytes records) count;
+    can_be_part = parts.can_be;
+    most_parts = parts.most;
     is_still = has_charstrings (table_in font.bytes records);
   })

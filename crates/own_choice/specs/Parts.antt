@@ -1,77 +1,47 @@
--- Which glyphs can be parts of own ones, and of how many parts these can be (OpenType, "glyf", "loca", "maxp").
+-- Which glyphs can be parts of own ones, and of how many parts these can be (OpenType, "glyf", "gvar", "loca", "maxp").
 use Rattle.std.specs.Prelude.{ℕ, ◌/◌, ◌==◌, not, ◌&&◌, ◌||◌, max, min, nat_lt, nat_le, Bool, true, false, is_some}
-use Rattle.std.specs.Prelude.{if◌then◌else◌, List, [], ◌∷◌, length, replicate, codes, Option, Some, None, ℤ}
-use Rattle.std.specs.Prelude.{unsigned_abs}
+use Rattle.std.specs.Prelude.{if◌then◌else◌, List, [], ◌∷◌, length, map, replicate, codes, Option, Some, None, Result}
+use Rattle.std.specs.Prelude.{Ok, Err, ℤ, unsigned_abs}
+use Rattle.std.specs.List.{fold}
 use Rattle.std.specs.Option.{option_map_or}
-use Rattle.subsetter_base.specs.Bytes.{signed_at}
+use Rattle.subsetter_base.specs.Bytes.{◌>>=◌}
+use Rattle.subsetter_base.specs.declared.error.Error.{Error}
+use Rattle.subsetter_base.specs.declared.error.Error.TheVariants.{OverflowError}
 use Rattle.subsetter_base.specs.declared.tag.Tag.{Tag}
+use Rattle.subsetter_points.specs.declared.bounds.Bounds.{Bounds}
 use Rattle.subsetter_sfnt.specs.Fields.Head.{index_to_loc_format}
 use Rattle.subsetter.specs.Glyf.Read.{Outlines, outline_in, outlines_in}
+use Rattle.subsetter_instance.specs.Glyphs.Drawn.{Drawn, drawn}
+use Rattle.subsetter_instance.specs.Source.{Source, normalized_coordinates, source_or_fault}
+use Rattle.subsetter_instance.specs.Tables.Extremes.{glyph_extents}
+use Rattle.subsetter_instance.specs.declared.tables.extremes.Extents.{Extents}
+use Rattle.pdf_source.specs.Moved.{are_zero}
+use Rattle.own_glyphs.specs.Composite.{header_box}
 use Rattle.own_glyphs.specs.Profile.{field_at}
 use Rattle.text_metrics.specs.Ink.{each_from}
+use Rattle.own_choice.specs.declared.drawn.Size.{Size}
 use Rattle.own_choice.specs.declared.outlines.Outlines.{Outlines as GivenOutlines}
+use Rattle.own_choice.specs.declared.parts.Parts.{Parts as GivenParts}
 
--- ---- a glyph
+-- the glyphs that can be parts, and how many parts an own glyph can have
+pub record Parts : Type 0 where
+  pub can_be : List Bool
+  pub most : ℕ
 
--- a side of a box is at most so far from the origin
-abbrev pub is_within : ℕ → ℤ → Bool
-is_within reach side = nat_le (unsigned_abs side) reach
+abbrev pub parts_seen : GivenParts → Parts
+parts_seen p = record { can_be = p.can_be.items; most = p.most }
 
--- xMin, yMin, xMax and yMax of a header are (OpenType, "glyf", "Glyph headers")
-abbrev pub has_small_box : ℕ → List ℕ → Bool
-has_small_box reach bytes =
-    (is_within reach (signed_at bytes 2) && is_within reach (signed_at bytes 4))
-    && (is_within reach (signed_at bytes 6) && is_within reach (signed_at bytes 8))
+abbrev pub no_parts : Parts
+no_parts = record { can_be = []; most = 0 }
 
--- an outline is empty, or has a header of ten bytes with such a box
-abbrev pub is_small : ℕ → List ℕ → Bool
-is_small reach [] = true
-is_small reach (b ∷ bytes) = nat_le 10 (length (b ∷ bytes)) && has_small_box reach (b ∷ bytes)
+-- ---- a box
 
--- a glyph has such an outline
-abbrev pub has_small_outline : ℕ → Outlines → ℕ → Bool
-has_small_outline reach t g = option_map_or (is_small reach) (outline_in t g) false
+-- a side is at most 16,384 units from the origin
+abbrev pub is_within : ℤ → Bool
+is_within side = nat_le (unsigned_abs side) 16384
 
--- ---- all glyphs
-
--- indexToLocFormat isn't 0
-abbrev pub is_long : List ℕ → Bool
-is_long head = option_map_or (λ (format : ℕ). not (format == 0)) (index_to_loc_format head) false
-
-abbrev pub outlines_seen : GivenOutlines → Outlines
-outlines_seen t =
-    record { loca = t.loca.now; glyf = t.glyf.now; head = t.head.now; long = is_long t.head.now; hinting = true }
-
--- glyphs may have other pictures than outlines (OpenType, "COLR", "SVG ", "CBDT", "sbix", "EBDT")
-abbrev pub has_pictures : (List ℕ → Option (List ℕ)) → Bool
-has_pictures find =
-    (is_some (find (codes "COLR")) || is_some (find (codes "SVG ")))
-    || (is_some (find (codes "CBDT")) || (is_some (find (codes "sbix")) || is_some (find (codes "EBDT"))))
-
--- outlines are in `CFF `, as they aren't in `glyf`: an own glyph can be a glyph at the origin, with another width
-abbrev pub has_charstrings : (List ℕ → Option (List ℕ)) → Bool
-has_charstrings find = not (is_some (find (codes "glyf"))) && is_some (find (codes "CFF "))
-
--- a font is asked for off its default, as far as that shows without a look at the coordinates
-abbrev pub may_move : (List ℕ → Option (List ℕ)) → List (Tag × ℤ) → Bool
-may_move find [] = false
-may_move find (s ∷ settings) = is_some (find (codes "fvar"))
-
--- boxes are those of the default, and may grow off it
-abbrev pub reach_of : Bool → ℕ
-reach_of moves = if moves then 8192 else 16384
-
--- of `count` glyphs of `glyf`
-abbrev pub parts_by : Option Outlines → ℕ → ℕ → List Bool
-parts_by None reach count = []
-parts_by (Some t) reach count = each_from (has_small_outline reach t) 0 count
-
--- where there may be other pictures no glyph can be a part; of `CFF ` each can
-abbrev pub parts_in : (List ℕ → Option (List ℕ)) → List (Tag × ℤ) → ℕ → List Bool
-parts_in find settings count =
-    if has_pictures find then []
-    else if has_charstrings find then replicate count true
-    else parts_by (outlines_in true find) (reach_of (may_move find settings)) count
+abbrev pub is_small_box : Bounds → Bool
+is_small_box b = (is_within b.x_min && is_within b.y_min) && (is_within b.x_max && is_within b.y_max)
 
 -- ---- how many parts
 
@@ -88,13 +58,93 @@ room_in maxp =
 abbrev pub most_in : List ℕ → ℕ
 most_in maxp = if nat_le 32 (length maxp) && nat_lt (field_at maxp 30) 65535 then room_in maxp else 0
 
-abbrev pub most_by : Option Outlines → Option (List ℕ) → ℕ
-most_by None maxp = 0
-most_by (Some t) maxp = option_map_or most_in maxp 0
+-- ---- at a font's default
 
--- a font with 65,535 glyphs has no room for another
-abbrev pub most_parts_in : (List ℕ → Option (List ℕ)) → ℕ → ℕ
-most_parts_in find count =
-    if nat_lt count 65535
-    then (if has_charstrings find then 1 else most_by (outlines_in true find) (find (codes "maxp")))
-    else 0
+-- an outline is empty, or has a header of ten bytes with such a box (OpenType, "glyf", "Glyph headers")
+abbrev pub is_small : List ℕ → Bool
+is_small [] = true
+is_small (b ∷ bytes) = nat_le 10 (length (b ∷ bytes)) && is_small_box (header_box (b ∷ bytes))
+
+-- a glyph has such an outline
+abbrev pub has_small_outline : Outlines → ℕ → Bool
+has_small_outline t g = option_map_or is_small (outline_in t g) false
+
+-- indexToLocFormat isn't 0
+abbrev pub is_long : List ℕ → Bool
+is_long head = option_map_or (λ (format : ℕ). not (format == 0)) (index_to_loc_format head) false
+
+abbrev pub outlines_seen : GivenOutlines → Outlines
+outlines_seen t =
+    record { loca = t.loca.now; glyf = t.glyf.now; head = t.head.now; long = is_long t.head.now; hinting = true }
+
+abbrev pub most_by : Option (List ℕ) → ℕ
+most_by maxp = option_map_or most_in maxp 0
+
+-- of `count` glyphs
+abbrev pub still_by : Option Outlines → Option (List ℕ) → ℕ → Parts
+still_by None maxp count = no_parts
+still_by (Some t) maxp count = record { can_be = each_from (has_small_outline t) 0 count; most = most_by maxp }
+
+abbrev pub still_parts : (List ℕ → Option (List ℕ)) → ℕ → Parts
+still_parts find count = still_by (outlines_in true find) (find (codes "maxp")) count
+
+-- ---- off its default, as an instance has its glyphs
+
+-- what is drawn of a glyph: whether it is in such a box, and how many points it has, or contours, if these are more
+abbrev pub drawn_size : Drawn → Size
+drawn_size d = record {
+  is_small = option_map_or (λ (e : Extents). is_small_box e.bounds) (glyph_extents d.advance d.points) true;
+  count = max (length d.points) (length d.ends);
+}
+
+-- of a glyph that isn't drawn: one that takes more steps may have any number of points
+abbrev pub no_size : Error → Size
+no_size OverflowError = record { is_small = false; count = 65536 }
+no_size e = record { is_small = false; count = 0 }
+
+abbrev pub size_of : Result Drawn Error → Size
+size_of (Err e) = no_size e
+size_of (Ok d) = drawn_size d
+
+-- of glyphs that may each take `steps` steps
+abbrev pub sizes : Source → List ℤ → ℕ → ℕ → List Size
+sizes s at steps count = each_from (λ g. size_of (drawn s at steps g)) 0 count
+
+abbrev pub most_points : List Size → ℕ
+most_points all = fold max 0 (map (λ (z : Size). z.count) all)
+
+-- an instance has at most as many points as the largest glyph
+abbrev pub sized_parts : List Size → Parts
+sized_parts all = record { can_be = map (λ (z : Size). z.is_small) all; most = times_in (most_points all) }
+
+unfoldable pub moved_parts : (List ℕ → Option (List ℕ)) → List ℤ → ℕ → ℕ → Result Parts Error
+moved_parts find at steps count = source_or_fault find (length at) >>= λ s. Ok (sized_parts (sizes s at steps count))
+
+-- ---- of a font
+
+-- outlines are in `glyf`
+unfoldable pub glyf_parts : (List ℕ → Option (List ℕ)) → List (Tag × ℤ) → ℕ → ℕ → Result Parts Error
+glyf_parts find settings steps count = do
+  at ← normalized_coordinates find settings
+  if are_zero at then Ok (still_parts find count) else moved_parts find at steps count
+
+-- glyphs may have other pictures than outlines (OpenType, "COLR", "SVG ", "CBDT", "sbix", "EBDT")
+abbrev pub has_pictures : (List ℕ → Option (List ℕ)) → Bool
+has_pictures find =
+    (is_some (find (codes "COLR")) || is_some (find (codes "SVG ")))
+    || (is_some (find (codes "CBDT")) || (is_some (find (codes "sbix")) || is_some (find (codes "EBDT"))))
+
+-- outlines are in `CFF `, as they aren't in `glyf`: an own glyph can be a glyph at the origin, with another width
+abbrev pub has_charstrings : (List ℕ → Option (List ℕ)) → Bool
+has_charstrings find = not (is_some (find (codes "glyf"))) && is_some (find (codes "CFF "))
+
+abbrev pub one_each : ℕ → Parts
+one_each count = record { can_be = replicate count true; most = 1 }
+
+-- a font with 65,535 glyphs has no room for another; where there may be other pictures no glyph can be a part
+abbrev pub parts_in : (List ℕ → Option (List ℕ)) → List (Tag × ℤ) → ℕ → ℕ → Result Parts Error
+parts_in find settings steps count =
+    if count == 65535 || has_pictures find then Ok no_parts
+    else if has_charstrings find then Ok (one_each count)
+    else if is_some (find (codes "glyf")) then glyf_parts find settings steps count
+    else Ok no_parts

@@ -11,8 +11,7 @@ ghost use Rattle.text_metrics.specs.Metrics.{count_in};
 ghost use Rattle.own_choice.specs.Choosing.{chosen_seen, own_choice};
 
 use crate::choice::OwnChoice;
-use crate::outlines::{has_charstrings, parts_in};
-use crate::room::most_parts_in;
+use crate::parts::{has_charstrings, parts_in};
 use font_advances::advances;
 use std::alloc::Global;
 use subsetter_base::{Error, Tag};
@@ -48,12 +47,13 @@ fn count_in(face: &Face<'_>) -> Result<u16, Error>
 /// what `text_metrics` has of it, and of each glyph the advance in units of the font and whether it can be a part.
 /// `data`, `index` and `coordinates` are as for `advances`.
 ///
-/// - Own glyphs can have parts where outlines are in `glyf`, the font has fewer than 65,535 glyphs, and `maxp` has 32
-///   bytes: as many as leave the points and contours of a glyph, and its depth, 16 bits there. Where outlines are in
-///   `CFF ` they can have one, which stays at the origin.
+/// - Own glyphs can have parts where the font has fewer than 65,535 glyphs, and outlines in `glyf`: as many as leave the points
+///   and contours of a glyph, and its depth, 16 bits by `maxp`, which has 32 bytes. Off its default, where the font becomes an
+///   instance, these are the points and contours of the largest glyph there. Where outlines are in `CFF ` they can have one,
+///   which stays at the origin.
 /// - A glyph can be a part where its outline is empty, or the box in its header is within 16,384 units of the origin on
-///   each side; at coordinates, where the font has `fvar`, within 8,192 units, as boxes are those of the default. Of
-///   `CFF ` each can. In a font with `COLR`, `SVG `, `CBDT`, `sbix` or `EBDT` none can be one.
+///   each side; off the default this is the box that an instance has. A glyph that an instance can't have isn't one. Of `CFF `
+///   each can. In a font with `COLR`, `SVG `, `CBDT`, `sbix` or `EBDT` none can be one.
 ///
 /// # Errors
 ///
@@ -73,12 +73,12 @@ pub fn own_choice(
     let count = count_in(&face)?;
     let glyphs = numbers(alloc, count)?;
     let found = advances(alloc, data, index, &glyphs, coordinates, limits)?;
-    let can_be_part = parts_in(alloc, &face, coordinates, count)?;
+    let parts = parts_in(alloc, &face, coordinates, limits.tokens(), count)?;
     Ok(OwnChoice {
         lines,
         advances: found.widths,
-        can_be_part,
-        most_parts: most_parts_in(&face, count),
+        can_be_part: parts.can_be,
+        most_parts: parts.most,
         is_still: has_charstrings(&face),
     })
 }

@@ -8,10 +8,12 @@
 
 mod call;
 mod choice;
+mod drawn;
 mod laws;
 mod outlines;
+mod parts;
 mod room;
 
 pub use call::own_choice;
 pub use choice::OwnChoice;
-pub use laws::{parts_fit, parts_have_boxes};
+pub use laws::{drawn_are_small, instances_fit, parts_fit, parts_have_boxes};

@@ -2,13 +2,9 @@
 
 ghost use Rattle.std.specs.Prelude.{◌≡◌, ◌≤◌, length};
 ghost use Rattle.std.specs.Option.{option_copied};
-ghost use Rattle.subsetter_sfnt.specs.Read.{table_in};
-ghost use Rattle.own_choice.specs.Parts.{most_by, most_in, most_parts_in, outlines_seen, room_in, times_in};
+ghost use Rattle.own_choice.specs.Parts.{most_by, most_in, room_in, times_in};
 
-use crate::outlines::{has_charstrings, outlines_in};
-use subsetter_base::Tag;
 use subsetter_base::read::u16_at;
-use subsetter_sfnt::face::Face;
 
 /// maxPoints, and after it maxContours, two bytes each.
 const MAX_POINTS: usize = 6;
@@ -24,10 +20,10 @@ const MAX_COMPONENT_DEPTH: usize = 30;
 const SIZE: usize = 32;
 
 /// How many times a number has 16 bits.
-fn times_in(number: u16) -> u16
+pub fn times_in(number: usize) -> u16
     ensures { result ≡ times_in number }
 {
-    u16::MAX / number.max(1)
+    (65535 / number.max(1)) as u16
 }
 
 /// How many parts leave the points and the contours of a glyph 16 bits.
@@ -37,7 +33,7 @@ fn room_in(maxp: &[u8]) -> u16
 {
     let points = u16_at(maxp, MAX_POINTS).max(u16_at(maxp, MAX_COMPOSITE_POINTS));
     let contours = u16_at(maxp, MAX_CONTOURS).max(u16_at(maxp, MAX_COMPOSITE_CONTOURS));
-    times_in(points).min(times_in(contours))
+    times_in(usize::from(points)).min(times_in(usize::from(contours)))
 }
 
 /// How many parts leave the points and the contours of a glyph 16 bits, where `maxp` has these fields and its depth leaves room for one
@@ -51,20 +47,11 @@ fn most_in(maxp: &[u8]) -> u16
     0
 }
 
-/// How many parts own glyphs can have in a font with `count` glyphs: one for `CFF `, none without outlines in that or `glyf`.
-pub fn most_parts_in(face: &Face<'_>, count: u16) -> u16
-    ensures { result ≡ most_parts_in (table_in face.now.«data».now face.now.records.now) count }
+/// The same of a font's `maxp`, if there is one.
+pub fn most_for(maxp: Option<&[u8]>) -> u16
+    ensures { result ≡ most_by (option_copied maxp.entry) }
 {
-    if count == u16::MAX {
-        return 0;
-    }
-    if has_charstrings(face) {
-        return 1;
-    }
-    if outlines_in(face).is_none() {
-        return 0;
-    }
-    match face.stored(Tag::MAXP) {
+    match maxp {
         Some(maxp) => most_in(maxp),
         None => 0,
     }

@@ -27,7 +27,7 @@ below s g bytes h = by (ltb g s.count) refl h
 part_below : (s : Source) (p : Part) (b : Option Bounds) → part_box s p ≡ Ok b → p.glyph < s.count
 unfolding part_box
 part_below s p b h =
-    let a = bind_ok (ok_or (outline_of s p.glyph) MalformedFont) (λ bytes. ok_or (box_in bytes) MalformedFont >>= λ found. Ok (moved_box found p)) b h in
+    let a = bind_ok (ok_or (outline_of s p.glyph) MalformedFont) (λ bytes. ok_or (box_in bytes) MalformedFont >>= λ found. moved_box found p) b h in
     below s p.glyph a.0 (named_ok (outline_of s p.glyph) MalformedFont a.0 a.1)
 
 module _ (s : Source) (few : s.count ≤ 65535) where

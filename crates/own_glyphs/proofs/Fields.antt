@@ -3,9 +3,10 @@ use Rattle.std.proofs.Common.{◌≡◌, ℕ, ◌*◌, ◌<◌, ◌≤◌, ◌^�
 use Rattle.std.specs.Prelude.{◌==◌}
 use Rattle.std.specs.Int.{w16, to_be_bytes}
 use Rattle.std.proofs.lemmas.List.{length-append, length-take-le}
+use Rattle.subsetter_base.specs.Bytes.{◌>>=◌}
 use Rattle.subsetter_base.specs.declared.error.Error.TheVariants.{MalformedFont}
 use Rattle.subsetter_base.proofs.ByteLemmas.{be-u16, number_at}
-use Rattle.subsetter_base.proofs.Results.{done_is}
+use Rattle.subsetter_base.proofs.Results.{bind_ok, done_is}
 use Rattle.subsetter_sfnt.specs.Fields.Loca.{loca_bytes, offset_bytes}
 use Rattle.subsetter_sfnt.specs.Fields.Maxp.{num_glyphs}
 use Rattle.subsetter.specs.Common.Hmtx.Written.{hhea_bytes}
@@ -36,10 +37,12 @@ pub profile_back : (n parts : ℕ) (maxp new : List ℕ) → 6 ≤ length maxp �
 unfolding maxp_with
 profile_back n parts maxp new whole small h = by (parts == 0) (ltb (length maxp) 32) h
   where
-    by : (a b : Bool) → cond a (Ok (counted n maxp)) (cond b (Err MalformedFont) (Ok (limited n (limits_of parts maxp) maxp))) ≡ Ok new → num_glyphs new ≡ Some n
+    by : (a b : Bool) → cond a (Ok (counted n maxp)) (cond b (Err MalformedFont) (limits_of parts maxp >>= λ l. Ok (limited n l maxp))) ≡ Ok new → num_glyphs new ≡ Some n
     by true b k = ap num_glyphs (sym (done_is (counted n maxp) new k)) ∙ counted_back n maxp whole small
     by false true k = absurd cc
-    by false false k = ap num_glyphs (sym (done_is (limited n (limits_of parts maxp) maxp) new k)) ∙ limited_back n (limits_of parts maxp) maxp whole small
+    by false false k =
+        let a = bind_ok (limits_of parts maxp) (λ l. Ok (limited n l maxp)) new k in
+        ap num_glyphs (sym (done_is (limited n a.0 maxp) new a.2)) ∙ limited_back n a.0 maxp whole small
 
 pub length-loca : (long : Bool) (offsets : List ℕ) → length (loca_bytes long offsets) ≡ entry_size long * length offsets
 length-loca true [] = refl

@@ -1,14 +1,14 @@
 -- Own glyphs as outlines (OpenType, "glyf": glyph header, composite glyph description).
-use Rattle.std.specs.Prelude.{ℕ, Bool, true, List, [], ◌∷◌, ◌++◌, length, Option, Some, None, Result, Ok, nat_lt}
+use Rattle.std.specs.Prelude.{ℕ, Bool, true, List, [], ◌∷◌, ◌++◌, length, Option, Some, None, Result, Ok, Err, nat_lt}
 use Rattle.std.specs.Prelude.{nat_le, if◌then◌else◌, ℤ, pos, ◌+ℤ◌}
 use Rattle.std.specs.List.{fold}
 use Rattle.std.specs.Option.{ok_or}
-use Rattle.std.specs.Int.{int_max, int_min, saturate_signed, w16}
+use Rattle.std.specs.Int.{int_max, int_min}
 use Rattle.subsetter_base.specs.Bytes.{signed_at, ◌>>=◌}
 use Rattle.subsetter_base.specs.declared.error.Error.{Error}
-use Rattle.subsetter_base.specs.declared.error.Error.TheVariants.{MalformedFont}
+use Rattle.subsetter_base.specs.declared.error.Error.TheVariants.{MalformedFont, OverflowError}
 use Rattle.subsetter_points.specs.Bounds.{bounds_bytes}
-use Rattle.subsetter_points.specs.Simple.{signed_word}
+use Rattle.subsetter_points.specs.Simple.{has_16_bits, signed_word}
 use Rattle.subsetter_points.specs.declared.bounds.Bounds.{Bounds}
 use Rattle.subsetter.specs.Glyf.Read.{Outlines, outline_in}
 use Rattle.subsetter.specs.Glyf.Parts.{Component, Composite, Empty, Parts}
@@ -33,19 +33,18 @@ abbrev pub box_in : List ℕ → Option (Option Bounds)
 box_in [] = Some None
 box_in (b ∷ bytes) = if nat_le 10 (length (b ∷ bytes)) then Some (Some (header_box (b ∷ bytes))) else None
 
--- a side, moved, or the number of 16 bits that is nearest
-abbrev pub moved : ℤ → ℤ → ℤ
-moved side by = saturate_signed w16 (side +ℤ by)
+-- a side, moved, has 16 bits
+abbrev pub moved : ℤ → ℤ → Result ℤ Error
+moved side by = if has_16_bits (side +ℤ by) then Ok (side +ℤ by) else Err OverflowError
 
-abbrev pub moved_box : Option Bounds → Part → Option Bounds
-moved_box None p = None
-moved_box (Some b) p =
-    Some (record {
-      x_min = moved b.x_min p.x;
-      y_min = moved b.y_min p.y;
-      x_max = moved b.x_max p.x;
-      y_max = moved b.y_max p.y;
-    })
+abbrev pub moved_box : Option Bounds → Part → Result (Option Bounds) Error
+moved_box None p = Ok None
+moved_box (Some b) p = do
+  x_min ← moved b.x_min p.x
+  y_min ← moved b.y_min p.y
+  x_max ← moved b.x_max p.x
+  y_max ← moved b.y_max p.y
+  Ok (Some (record { x_min = x_min; y_min = y_min; x_max = x_max; y_max = y_max }))
 
 -- the tables that outlines are read from
 abbrev pub tables : Source → Outlines
@@ -60,7 +59,7 @@ unfoldable pub part_box : Source → Part → Result (Option Bounds) Error
 part_box s p = do
   bytes ← ok_or (outline_of s p.glyph) MalformedFont
   found ← ok_or (box_in bytes) MalformedFont
-  Ok (moved_box found p)
+  moved_box found p
 
 -- ---- the box of a glyph
 

@@ -31,9 +31,9 @@ pub data IsUnmade (find : List ℕ → Option (List ℕ)) (s : Source) (own : Li
   faulty : HasSourceFault s → IsUnmade find s own MalformedFont
   -- more than 65,535 glyphs
   too_many : 65535 < s.count + length own → IsUnmade find s own OverflowError
-  -- a part isn't one of the font's glyphs, or its outline is cut
+  -- a part isn't one of the font's glyphs or its outline is cut, or a side of a box hasn't 16 bits
   no_box : {e : Error} → own_boxes s own ≡ Err e → IsUnmade find s own e
-  -- maxp has no limits of composites
+  -- maxp has no limits of composites, or they haven't 16 bits
   no_profile : {e : Error} → maxp_with (s.count + length own) (most_parts own) s.maxp ≡ Err e → IsUnmade find s own e
   -- a table's place or length doesn't fit 32 bits
   too_large : {e : Error} (offsets : List ℕ) (metrics : List LongHorMetric) (boxes : List Bounds) (maxp : List ℕ)

@@ -237,8 +237,7 @@ fn made(
 /// number n + i, where n is numGlyphs.
 ///
 /// `font` is a TrueType subset, as `subset` returns it for a font with `glyf`, and has `hmtx` and `maxp`. Tables that a subset
-/// doesn't have aren't kept. A side of the box of a glyph, or a limit of composites in `maxp`, that hasn't 16 bits is the number of 16 bits
-/// that is nearest.
+/// doesn't have aren't kept.
 ///
 /// # Errors
 ///
@@ -246,7 +245,8 @@ fn made(
 /// - `MalformedFont`: the directory is cut, or one of the seven tables of outlines and metrics is missing or cut, or `loca` doesn't
 ///   end at the end of `glyf`: no subset with `hmtx` and `maxp` has any of it. Or a part isn't a glyph of the font, or its outline has
 ///   fewer than 10 bytes, or there are parts and `maxp` has fewer than 32 bytes.
-/// - `OverflowError`: there would be more than 65,535 glyphs, or 2^32 bytes.
+/// - `OverflowError`: there would be more than 65,535 glyphs, or 2^32 bytes; or a side of the box of a glyph, or a limit of composites in
+///   `maxp`, hasn't 16 bits.
 /// - `OutOfMemory`: a request for memory was refused.
 pub fn with_own_glyphs(alloc: Global, font: &[u8], own: &[OwnGlyph<'_>]) -> Result<Vec<u8>, Error>
     ensures ok { IfOk result (λ v. HasOwnGlyphs font.now own.now v.items) }

@@ -55,11 +55,15 @@ pub fn most_parts(own: &[OwnGlyph<'_>]) -> usize
     most
 }
 
-/// A limit, or the most that has 16 bits.
-fn limit(n: usize) -> u16
+/// A limit, `OverflowError` where it hasn't 16 bits.
+fn limit(n: usize) -> Result<u16, Error>
     ensures { result ≡ limit n }
 {
-    n.min(65535) as u16
+    if n < 65536 {
+        Ok(n as u16)
+    } else {
+        Err(Error::OverflowError)
+    }
 }
 
 /// A product of two numbers of 16 bits.
@@ -71,19 +75,22 @@ fn times(a: u16, b: u16) -> usize
 
 /// The limits with glyphs of `parts` parts.
 #[tactic(auto, unfolding(crate::specs::Profile::limits_of))]
-fn limits_of(parts: usize, maxp: &[u8]) -> Limits
+fn limits_of(parts: usize, maxp: &[u8]) -> Result<Limits, Error>
     requires { 32 ≤ length maxp.now }
     ensures { result ≡ limits_of parts maxp.now }
 {
-    let few = limit(parts);
+    let few = limit(parts)?;
     let most_points = u16_at(maxp, MAX_POINTS).max(u16_at(maxp, MAX_COMPOSITE_POINTS));
     let most_contours = u16_at(maxp, MAX_CONTOURS).max(u16_at(maxp, MAX_COMPOSITE_CONTOURS));
-    Limits {
-        points: limit(times(few, most_points)),
-        contours: limit(times(few, most_contours)),
+    let points = limit(times(few, most_points))?;
+    let contours = limit(times(few, most_contours))?;
+    let depth = limit(usize::from(u16_at(maxp, MAX_COMPONENT_DEPTH)) + 1)?;
+    Ok(Limits {
+        points,
+        contours,
         elements: few.max(u16_at(maxp, MAX_COMPONENT_ELEMENTS)),
-        depth: limit(usize::from(u16_at(maxp, MAX_COMPONENT_DEPTH)) + 1),
-    }
+        depth,
+    })
 }
 
 /// `maxp` with another numGlyphs.
@@ -126,7 +133,7 @@ fn limited(alloc: Global, maxp: &[u8], count: u16, limits: Limits) -> Result<Vec
 }
 
 /// `maxp` for `count` glyphs, own ones of at most `parts` parts among them. `MalformedFont` where some have parts and it has fewer
-/// than 32 bytes.
+/// than 32 bytes, `OverflowError` where a limit doesn't fit 16 bits.
 #[tactic(auto, unfolding(crate::specs::Profile::maxp_with))]
 pub fn maxp(alloc: Global, maxp: &[u8], count: u16, parts: usize) -> Result<Vec<u8>, Error>
     requires { 6 ≤ length maxp.now }
@@ -138,6 +145,6 @@ pub fn maxp(alloc: Global, maxp: &[u8], count: u16, parts: usize) -> Result<Vec<
     if maxp.len() < SIZE {
         return Err(Error::MalformedFont);
     }
-    let limits = limits_of(parts, maxp);
+    let limits = limits_of(parts, maxp)?;
     limited(alloc, maxp, count, limits)
 }

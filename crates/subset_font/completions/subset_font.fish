@@ -11,7 +11,7 @@ complete -c subset_font -l face-index -x -d 'the face, with -o or --pdf (default
 complete -c subset_font -l most-input -x -d 'the most bytes of IN (default 1 GiB)'
 complete -c subset_font -l pdf -r -F -d 'the PDF, with their font: the line of --text or --text-file, else a grid of the glyphs; - is standard output'
 complete -c subset_font -l vertical -d 'its text runs from top to bottom'
-complete -c subset_font -l codes -x -d 'the codes in its strings: consecutive (new numbers, as in grids), source (the numbers in IN), or text (one for each glyph with each text)'
+complete -c subset_font -l codes -x -d 'the codes in its strings: consecutive (new numbers, as printed), source (the numbers in IN), or text (one for each glyph with each text)'
 complete -c subset_font -l rights -x -d 'held: you may embed the font, whatever it says (fsType)'
 complete -c subset_font -l allow-blank -d 'takes glyphs that have other pictures and no outline, as blanks'
 complete -c subset_font -l at -x -d 'a variable font at coordinates, as wght=650,wdth=87.5, or at a named instance, as Bold or bold; empty: at the default. CFF2 outlines become CFF, and need this option where GID is given'

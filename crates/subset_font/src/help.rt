@@ -63,7 +63,7 @@ A PDF that shows the glyphs, also in place of OUT:
                     the glyphs; - is standard output
   --vertical        its text runs from top to bottom
   --codes KIND      the codes in its strings: consecutive
-                    (new numbers, as in grids), source (the
+                    (new numbers, as printed), source (the
                     numbers in IN), or text (one for each
                     glyph with each text)
   --rights RIGHTS   held: you may embed the font, whatever

@@ -1,5 +1,5 @@
 -- What is answered for glyphs in use, and for glyphs and their texts.
-use Rattle.std.proofs.Common.{◌≡◌, ◌⊎◌, inl, inr, ℕ, ℤ, List, [], ◌∷◌, Bool, length, map, Result, Ok, Err, sym, ap, subst, ◌∙◌}
+use Rattle.std.proofs.Common.{◌≡◌, ◌≢◌, ◌⊎◌, inl, inr, ℕ, ℤ, List, [], ◌∷◌, Bool, false, length, map, Result, Ok, Err, sym, ap, subst, ◌∙◌}
 use Rattle.std.specs.Prelude.{IfOk, IfErr, Option}
 use Rattle.std.specs.Option.{option_map}
 use Rattle.subsetter_base.specs.declared.tag.Tag.{Tag}
@@ -27,10 +27,11 @@ use Rattle.pdf_runs.specs.declared.codes.Pair.{Pair}
 use Rattle.pdf_text_font.specs.Pairs.{by_code}
 use Rattle.pdf_text_font.specs.TextFont.{HasTextFault, IsTextFont, in_drawing, in_subset, subset_options}
 use Rattle.pdf_text_font.specs.declared.font.TextFont.{TextFont}
+use Rattle.subset_pdf.specs.Cells.{are_single}
 use Rattle.subset_pdf.specs.Line.{HasLineFault, IsLineFor}
 use Rattle.subset_pdf.specs.Options.{options_of}
 use Rattle.subset_pdf.specs.Shown.{entries_of, entry_of}
-use Rattle.subset_pdf.specs.Sheet.{HasCodedFault, HasFaultFor, HasNoPage, HasSheetFault, HasSheetFaultAs, HasSheetFaultBy, HasTextFaultFor, HasTextSheetFault, IsCodedSheet, IsFontFor, IsPage, IsSheetAs, IsSheetBy, IsSheetFor, IsTextFor, IsTextSheet, IsTooLargeAs, IsViewOfLine, fault_of, in_font, is_text, named, no_line, no_page, no_text, too_large}
+use Rattle.subset_pdf.specs.Sheet.{HasCodedFault, HasFaultFor, HasNoPage, HasSheetFault, HasSheetFaultAs, HasSheetFaultBy, HasTextFaultFor, HasTextSheetFault, IsCodedSheet, IsFontFor, IsGrid, IsPage, IsSheetAs, IsSheetBy, IsSheetFor, IsShownAs, IsTextFor, IsTextSheet, IsTooLargeAs, IsUnshownAs, IsViewOfLine, fault_of, in_font, instead, is_coded, named, no_line, no_page, no_text, several, too_large}
 use Rattle.subset_pdf.specs.declared.line.Line.{Line}
 use Rattle.subset_pdf.specs.declared.options.PdfRequest.{PdfRequest}
 use Rattle.subset_pdf.specs.declared.sheet.Sheet.{Sheet}
@@ -96,7 +97,7 @@ module _ (bytes : List ℕ) (request : PdfRequest) (shown : List Shown) where
   pub text_refused : (line : Line) (options : FontOptions) (e : FontError) (why : SheetError) → options ≡ options_of request → TextFaultBy line options e → why ≡ named e → (why ≡ RefusedFont OutOfMemory) ⊎ HasTextFaultFor bytes request line why
   text_refused line options e why is h name = subst (λ (w : SheetError). (w ≡ RefusedFont OutOfMemory) ⊎ HasTextFaultFor bytes request line w) (sym name) (unmade_by line e (subst (λ (o : FontOptions). TextFaultBy line o e) is h))
 
-  pub text_drawn : (line : Line) (text : TextFont) (sheet : Sheet) → IsLineFor bytes request shown line → IsTextFor bytes request line text → sheet.font ≡ record text.font { codes = line.codes } → IsPage text line sheet.file.items → IsTextSheet bytes request shown sheet
+  pub text_drawn : (line : Line) (text : TextFont) (sheet : Sheet) → IsLineFor bytes request shown line → IsTextFor bytes request line text → sheet.font ≡ record text.font { codes = line.codes } → IsShownAs request.layout text line shown sheet.file.items → IsTextSheet bytes request shown sheet
   text_drawn line text sheet is made font page = record { line = line; text = text; is_line = is; is_text = made; font = font; page = page }
 
   pub no_line_for : (e : Error) (why : SheetError) → (e ≡ OutOfMemory) ⊎ HasLineFault bytes request shown e → why ≡ RefusedFont e → (why ≡ RefusedFont OutOfMemory) ⊎ HasTextSheetFault bytes request shown why
@@ -107,17 +108,30 @@ module _ (bytes : List ℕ) (request : PdfRequest) (shown : List Shown) where
   no_text_for line why is (inl memory) = inl memory
   no_text_for line why is (inr fault) = inr (no_text line is fault)
 
-  pub no_page_for : (line : Line) (text : TextFont) (e : Error) (why : SheetError) → IsLineFor bytes request shown line → IsTextFor bytes request line text → (e ≡ OutOfMemory) ⊎ ((e ≡ OverflowError) × HasNoPage text line) → why ≡ RefusedFont e → (why ≡ RefusedFont OutOfMemory) ⊎ HasTextSheetFault bytes request shown why
+  pub no_page_for : (line : Line) (text : TextFont) (e : Error) (why : SheetError) → IsLineFor bytes request shown line → IsTextFor bytes request line text → (e ≡ OutOfMemory) ⊎ ((e ≡ OverflowError) × IsUnshownAs request.layout text line shown) → why ≡ RefusedFont e → (why ≡ RefusedFont OutOfMemory) ⊎ HasTextSheetFault bytes request shown why
   no_page_for line text e why is made (inl memory) name = inl (name ∙ ap RefusedFont memory)
   no_page_for line text e why is made (inr (over, large)) name = inr (no_page line text is made (name ∙ ap RefusedFont over) large)
 
   -- ---- both
 
-  pub sheet_as : (b : Bool) (r : Result Sheet SheetError) → b ≡ is_text request → IfOk r (IsSheetAs b bytes request shown) → IfOk r (IsSheetBy bytes request shown)
-  sheet_as b r is h = subst (λ (c : Bool). IfOk r (IsSheetAs c bytes request shown)) is h
+  -- the reason of a refusal that isn't want of memory
+  pub is_fault : (e : SheetError) → e ≢ RefusedFont OutOfMemory → (e ≡ RefusedFont OutOfMemory) ⊎ HasTextSheetFault bytes request shown e → HasTextSheetFault bytes request shown e
+  is_fault e ne (inl memory) = absurd (ne memory)
+  is_fault e ne (inr fault) = fault
 
-  pub no_sheet_as : (b : Bool) (r : Result Sheet SheetError) → b ≡ is_text request → IfErr r (λ e. (e ≡ RefusedFont OutOfMemory) ⊎ HasSheetFaultAs b bytes request shown e) → IfErr r (λ e. (e ≡ RefusedFont OutOfMemory) ⊎ HasSheetFaultBy bytes request shown e)
-  no_sheet_as b r is h = subst (λ (c : Bool). IfErr r (λ e. (e ≡ RefusedFont OutOfMemory) ⊎ HasSheetFaultAs c bytes request shown e)) is h
+  pub grid_by : (why : SheetError) (r : Result Sheet SheetError) → HasTextSheetFault bytes request shown why → IfOk r (IsCodedSheet bytes request shown) → IfOk r (IsGrid bytes request shown)
+  grid_by why (Ok s) fault h = instead why fault h
+  grid_by why (Err e) fault h = tt
+
+  pub several_by : (r : Result Sheet SheetError) → are_single shown ≡ false → IfOk r (IsCodedSheet bytes request shown) → IfOk r (IsGrid bytes request shown)
+  several_by (Ok s) is h = several is h
+  several_by (Err e) is h = tt
+
+  pub sheet_as : (b : Bool) (r : Result Sheet SheetError) → b ≡ is_coded request → IfOk r (IsSheetAs b request.layout bytes request shown) → IfOk r (IsSheetBy bytes request shown)
+  sheet_as b r is h = subst (λ (c : Bool). IfOk r (IsSheetAs c request.layout bytes request shown)) is h
+
+  pub no_sheet_as : (b : Bool) (r : Result Sheet SheetError) → b ≡ is_coded request → IfErr r (λ e. (e ≡ RefusedFont OutOfMemory) ⊎ HasSheetFaultAs b request.layout bytes request shown e) → IfErr r (λ e. (e ≡ RefusedFont OutOfMemory) ⊎ HasSheetFaultBy bytes request shown e)
+  no_sheet_as b r is h = subst (λ (c : Bool). IfErr r (λ e. (e ≡ RefusedFont OutOfMemory) ⊎ HasSheetFaultAs c request.layout bytes request shown e)) is h
 
   -- ---- for glyphs and their texts
 

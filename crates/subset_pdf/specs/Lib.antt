@@ -1,4 +1,5 @@
 pub mod Options
 pub mod Shown
 pub mod Line
+pub mod Cells
 pub mod Sheet

@@ -1,5 +1,5 @@
 -- A PDF that shows glyphs of a font, and why there is none.
-use Rattle.std.specs.Prelude.{◌≡◌, ℕ, Bool, true, false, not, is_some, List, [], ◌∷◌, map, length}
+use Rattle.std.specs.Prelude.{◌≡◌, ℕ, Bool, true, false, is_some, List, [], ◌∷◌, map, length}
 use Rattle.std.specs.Option.{option_map}
 use Rattle.subsetter_base.specs.declared.error.Error.{Error}
 use Rattle.subsetter_base.specs.declared.error.Error.TheVariants.{OverflowError, UnknownKind}
@@ -21,6 +21,7 @@ use Rattle.pdf_sheet.specs.declared.lines.SheetLine.{SheetLine}
 use Rattle.pdf_text_font.specs.Pairs.{by_code}
 use Rattle.pdf_text_font.specs.TextFont.{HasTextFault, IsTextFont}
 use Rattle.pdf_text_font.specs.declared.font.TextFont.{TextFont}
+use Rattle.subset_pdf.specs.Cells.{AreCells, HasNoCells, are_single}
 use Rattle.subset_pdf.specs.Line.{HasLineFault, IsLineFor}
 use Rattle.subset_pdf.specs.Options.{options_of}
 use Rattle.subset_pdf.specs.Shown.{entries_of, entry_of}
@@ -105,14 +106,23 @@ pub record HasNoPage (text : TextFont) (line : Line) : Type 0 where
   pub is : IsViewOfLine text line view shown
   pub large : AreTooLarge view.values (shown ∷ [])
 
--- the page of their line; the codes are those that it shows
+-- a line on its page, or its codes in cells of a grid
+abbrev pub IsShownAs : Layout → TextFont → Line → List Shown → List ℕ → Type 0
+IsShownAs InLine text line shown file = IsPage text line file
+IsShownAs Grid text line shown file = AreCells text line shown file
+
+abbrev pub IsUnshownAs : Layout → TextFont → Line → List Shown → Type 0
+IsUnshownAs InLine text line shown = HasNoPage text line
+IsUnshownAs Grid text line shown = HasNoCells text line shown
+
+-- the sheet of their line; the codes are those that it shows
 pub record IsTextSheet (bytes : List ℕ) (request : PdfRequest) (shown : List Shown) (sheet : Sheet) : Type 0 where
   pub line : Line
   pub text : TextFont
   pub is_line : IsLineFor bytes request shown line
   pub is_text : IsTextFor bytes request line text
   pub font : sheet.font ≡ record text.font { codes = line.codes }
-  pub page : IsPage text line sheet.file.items
+  pub page : IsShownAs request.layout text line shown sheet.file.items
 
 pub data HasTextSheetFault (bytes : List ℕ) (request : PdfRequest) (shown : List Shown) (why : SheetError)
     : Type 0 where
@@ -120,32 +130,38 @@ pub data HasTextSheetFault (bytes : List ℕ) (request : PdfRequest) (shown : Li
   no_text : (line : Line) → IsLineFor bytes request shown line → HasTextFaultFor bytes request line why
       → HasTextSheetFault bytes request shown why
   no_page : (line : Line) (text : TextFont) → IsLineFor bytes request shown line → IsTextFor bytes request line text
-      → why ≡ Font OverflowError → HasNoPage text line
+      → why ≡ Font OverflowError → IsUnshownAs request.layout text line shown
       → HasTextSheetFault bytes request shown why
 
 -- ---- both
 
--- glyphs in a line are a text, unless a way of getting codes is given
-abbrev pub is_text_by : Layout → Bool → Bool
-is_text_by InLine is_coded = not is_coded
-is_text_by Grid is_coded = false
+-- glyphs in a grid are shown as a text, unless one has several characters, or there is no such text
+pub data IsGrid (bytes : List ℕ) (request : PdfRequest) (shown : List Shown) (sheet : Sheet) : Type 0 where
+  as_text : are_single shown ≡ true → IsTextSheet bytes request shown sheet → IsGrid bytes request shown sheet
+  several : are_single shown ≡ false → IsCodedSheet bytes request shown sheet → IsGrid bytes request shown sheet
+  instead : (why : SheetError) → HasTextSheetFault bytes request shown why → IsCodedSheet bytes request shown sheet
+      → IsGrid bytes request shown sheet
 
-abbrev pub is_text : PdfRequest → Bool
-is_text request = is_text_by request.layout (is_some request.choice.coding)
+-- by codes where a way of getting them is given
+abbrev pub IsSheetAs : Bool → Layout → List ℕ → PdfRequest → List Shown → Sheet → Type 0
+IsSheetAs true layout bytes request shown sheet = IsCodedSheet bytes request shown sheet
+IsSheetAs false InLine bytes request shown sheet = IsTextSheet bytes request shown sheet
+IsSheetAs false Grid bytes request shown sheet = IsGrid bytes request shown sheet
 
-abbrev pub IsSheetAs : Bool → List ℕ → PdfRequest → List Shown → Sheet → Type 0
-IsSheetAs true bytes request shown sheet = IsTextSheet bytes request shown sheet
-IsSheetAs false bytes request shown sheet = IsCodedSheet bytes request shown sheet
+abbrev pub is_coded : PdfRequest → Bool
+is_coded request = is_some request.choice.coding
 
 abbrev pub IsSheetBy : List ℕ → PdfRequest → List Shown → Sheet → Type 0
-IsSheetBy bytes request shown sheet = IsSheetAs (is_text request) bytes request shown sheet
+IsSheetBy bytes request shown sheet = IsSheetAs (is_coded request) request.layout bytes request shown sheet
 
-abbrev pub HasSheetFaultAs : Bool → List ℕ → PdfRequest → List Shown → SheetError → Type 0
-HasSheetFaultAs true bytes request shown why = HasTextSheetFault bytes request shown why
-HasSheetFaultAs false bytes request shown why = HasCodedFault bytes request shown why
+abbrev pub HasSheetFaultAs : Bool → Layout → List ℕ → PdfRequest → List Shown → SheetError → Type 0
+HasSheetFaultAs true layout bytes request shown why = HasCodedFault bytes request shown why
+HasSheetFaultAs false InLine bytes request shown why = HasTextSheetFault bytes request shown why
+HasSheetFaultAs false Grid bytes request shown why = HasCodedFault bytes request shown why
 
 abbrev pub HasSheetFaultBy : List ℕ → PdfRequest → List Shown → SheetError → Type 0
-HasSheetFaultBy bytes request shown why = HasSheetFaultAs (is_text request) bytes request shown why
+HasSheetFaultBy bytes request shown why =
+    HasSheetFaultAs (is_coded request) request.layout bytes request shown why
 
 -- ---- for glyphs and their texts
 

@@ -7,6 +7,7 @@
 //! ```
 #![tactic(auto)]
 
+mod cells;
 mod line;
 mod options;
 mod sheet;

@@ -1,12 +1,13 @@
 //! The PDF.
 
-ghost use Rattle.std.specs.Prelude.{◌≡◌, ◌⊎◌, IfOk, IfErr};
+ghost use Rattle.std.specs.Prelude.{◌≡◌, ◌≢◌, ◌⊎◌, false, IfOk, IfErr, OnOk};
 ghost use Rattle.std.specs.Option.{option_copied, option_map};
 ghost use Rattle.pdf_objects.specs.Glyphs.{IsSheetOfFont};
-ghost use Rattle.subset_pdf.specs.Sheet.{HasCodedFault, HasFaultFor, HasNoPage, HasSheetFault, HasSheetFaultBy, HasTextFaultFor, HasTextSheetFault, IsCodedSheet, IsFontFor, IsPage, IsSheetBy, IsSheetFor, IsTextFor, IsTextSheet, IsTooLargeAs, is_text, named};
+ghost use Rattle.subset_pdf.specs.Sheet.{HasCodedFault, HasFaultFor, HasNoPage, HasSheetFault, HasSheetFaultAs, HasSheetFaultBy, HasTextFaultFor, HasTextSheetFault, IsCodedSheet, IsFontFor, IsGrid, IsPage, IsSheetAs, IsSheetBy, IsSheetFor, IsShownAs, IsTextFor, IsTextSheet, IsTooLargeAs, IsUnshownAs, is_coded, named};
 ghost use Rattle.subset_pdf.specs.declared.sheet.SheetError.TheVariants.{Font as RefusedFont};
 ghost use Rattle.subsetter_base.specs.declared.error.Error.TheVariants.{OutOfMemory, OverflowError};
 
+use crate::cells::{are_single, cells_of};
 use crate::line::{Line, line_for};
 use crate::options::{PdfRequest, options_of};
 use crate::shown::shown_of;
@@ -135,7 +136,7 @@ fn text_for(
 }
 
 /// The bytes of CIDToGIDMap, if that is a stream.
-fn map_of(text: &TextFont) -> Option<&[u8]>
+pub fn map_of(text: &TextFont) -> Option<&[u8]>
     ensures { option_copied result ≡ option_map (λ m. m.items) text.now.cid_to_gid_map }
 {
     match &text.cid_to_gid_map {
@@ -159,6 +160,23 @@ fn page_of(alloc: Global, text: &TextFont, line: &Line) -> Result<Vec<u8>, Error
     Ok(file)
 }
 
+/// The pages of a line's glyphs.
+fn pages_of(
+    alloc: Global,
+    layout: Layout,
+    text: &TextFont,
+    line: &Line,
+    shown: &[Shown<'_>],
+) -> Result<Vec<u8>, Error>
+    ensures ok { IfOk result (λ file. IsShownAs layout text.now line.now shown.now file.items) }
+    ensures err { IfErr result (λ e. (e ≡ OutOfMemory) ⊎ ((e ≡ OverflowError) × IsUnshownAs layout text.now line.now shown.now)) }
+{
+    match layout {
+        Layout::Line => page_of(alloc, text, line),
+        Layout::Grid => cells_of(alloc, text, line, shown),
+    }
+}
+
 /// The PDF that shows glyphs in use as the line of a text.
 #[tactic(auto, using(crate::proofs::Sheets::text_drawn, crate::proofs::Sheets::no_line_for, crate::proofs::Sheets::no_text_for, crate::proofs::Sheets::no_page_for))]
 fn text_sheet(
@@ -172,7 +190,7 @@ fn text_sheet(
 {
     let line = line_for(alloc, data, request, shown)?;
     let text = text_for(alloc, data, request, &line)?;
-    let file = page_of(alloc, &text, &line)?;
+    let file = pages_of(alloc, request.layout, &text, &line, shown)?;
     let font = PdfFont {
         codes: line.codes,
         ..text.font
@@ -182,14 +200,61 @@ fn text_sheet(
 
 // ---- both
 
-/// Whether glyphs are a text: they are in a line, and no way of getting codes is given.
-fn is_text(request: &PdfRequest<'_>) -> bool
-    ensures { result ≡ is_text request.now }
+/// The error, where memory ran out; another one is passed over.
+fn unless_memory(error: SheetError) -> Result<(), SheetError>
+    ensures ok { OnOk result (error ≢ RefusedFont OutOfMemory) }
+    ensures err { IfErr result (λ e. e ≡ RefusedFont OutOfMemory) }
+{
+    match error {
+        SheetError::Font(Error::OutOfMemory) => Err(SheetError::Font(Error::OutOfMemory)),
+        _ => Ok(()),
+    }
+}
+
+/// The PDF that shows glyphs in use in a grid.
+#[tactic(auto, using(crate::proofs::Sheets::grid_by, crate::proofs::Sheets::is_fault))]
+fn grid_sheet(
+    alloc: Global,
+    data: &[u8],
+    request: &PdfRequest<'_>,
+    shown: &[Shown<'_>],
+) -> Result<Sheet, SheetError>
+    ensures ok { IfOk result (IsGrid «data».now request.now shown.now) }
+    ensures err { IfErr result (λ e. (e ≡ RefusedFont OutOfMemory) ⊎ HasCodedFault «data».now request.now shown.now e) }
+{
+    if !are_single(shown) {
+        return coded_sheet(alloc, data, request, shown);
+    }
+    match text_sheet(alloc, data, request, shown) {
+        Ok(sheet) => Ok(sheet),
+        Err(error) => {
+            unless_memory(error)?;
+            coded_sheet(alloc, data, request, shown)
+        }
+    }
+}
+
+/// The PDF that shows glyphs in use, where no way of getting codes is given.
+fn plain_sheet(
+    alloc: Global,
+    data: &[u8],
+    request: &PdfRequest<'_>,
+    shown: &[Shown<'_>],
+) -> Result<Sheet, SheetError>
+    ensures ok { IfOk result (IsSheetAs false request.now.layout «data».now request.now shown.now) }
+    ensures err { IfErr result (λ e. (e ≡ RefusedFont OutOfMemory) ⊎ HasSheetFaultAs false request.now.layout «data».now request.now shown.now e) }
 {
     match request.layout {
-        Layout::Line => request.choice.coding.is_none(),
-        Layout::Grid => false,
+        Layout::Line => text_sheet(alloc, data, request, shown),
+        Layout::Grid => grid_sheet(alloc, data, request, shown),
     }
+}
+
+/// Whether a way of getting codes is given.
+fn is_coded(request: &PdfRequest<'_>) -> bool
+    ensures { result ≡ is_coded request.now }
+{
+    request.choice.coding.is_some()
 }
 
 /// The PDF that shows glyphs in use.
@@ -203,21 +268,22 @@ fn sheet_of(
     ensures ok { IfOk result (IsSheetBy «data».now request.now shown.now) }
     ensures err { IfErr result (λ e. (e ≡ RefusedFont OutOfMemory) ⊎ HasSheetFaultBy «data».now request.now shown.now e) }
 {
-    if is_text(request) {
-        text_sheet(alloc, data, request, shown)
-    } else {
+    if is_coded(request) {
         coded_sheet(alloc, data, request, shown)
+    } else {
+        plain_sheet(alloc, data, request, shown)
     }
 }
 
 /// A PDF that shows glyphs of a font in 36 points, in a line, or in a grid of 12 by 16 a page. Each has its text: as many of the
-/// next characters as its length says. A line is that of a text, unless it is chosen how glyphs get codes.
+/// next characters as its length says. They are those of a text, by its codes, unless it is chosen how glyphs get codes; a grid is
+/// of what `pdf_font` returns also where a glyph has several characters, and where the font is refused as a text's.
 ///
 /// # Errors
 ///
 /// - `NotPermitted`: `fsType` forbids it, and the user holds no rights.
 /// - `TextTooLong`: the text of a glyph is too long.
-/// - `Font`: what `pdf_font` returns, and for a text `text_metrics`; a glyph of a text isn't the font's (`MalformedFont`), or the
+/// - `Font`: what `pdf_font` returns, and for a line `text_metrics`; a glyph of a line isn't the font's (`MalformedFont`), or its
 ///   text is too long (`OverflowError`); the PDF would have 10,000,000,000 bytes or more (`OverflowError`); a request for memory was
 ///   refused (`OutOfMemory`).
 #[tactic(auto, using(crate::proofs::Sheets::sheet_for, crate::proofs::Sheets::no_sheet_for))]

@@ -8,7 +8,9 @@
 
 mod call;
 mod choice;
+mod drawn;
 mod outlines;
+mod parts;
 mod room;
 
 pub use call::own_choice;

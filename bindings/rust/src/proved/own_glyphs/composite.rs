@@ -17,15 +17,34 @@ use crate::rattle::alloc::Global;
 /// How many bytes the header of an outline has: numberOfContours, xMin, yMin, xMax and yMax, two each.
 const HEADER_SIZE: usize = 10;
 
-/// The box of a part, if its glyph has one: each side, moved, or the number of 16 bits that is nearest.
-fn moved_box(bounds: Option<Bounds>, part: Part) -> Option<Bounds> {
-    let b = bounds?;
-    Some(Bounds {
-        x_min: b.x_min.saturating_add(part.x),
-        y_min: b.y_min.saturating_add(part.y),
-        x_max: b.x_max.saturating_add(part.x),
-        y_max: b.y_max.saturating_add(part.y),
-    })
+/// A side of a box, moved. `OverflowError` where it hasn't 16 bits.
+fn moved(side: i16, by: i16) -> Result<i16, Error> {
+    let sum = i32::from(side) + i32::from(by);
+    if sum >= -32768 && sum < 32768 {
+        Ok(sum as i16)
+    } else {
+        Err(Error::OverflowError)
+    }
+}
+
+/// The box of a part, if its glyph has one.
+fn moved_box(bounds: Option<Bounds>, part: Part) -> Result<Option<Bounds>, Error> {
+    let b = match bounds {
+        Some(b) => b,
+        _ => {
+            return Ok(None);
+        }
+    };
+    let x_min = moved(b.x_min, part.x)?;
+    let y_min = moved(b.y_min, part.y)?;
+    let x_max = moved(b.x_max, part.x)?;
+    let y_max = moved(b.y_max, part.y)?;
+    Ok(Some(Bounds {
+        x_min,
+        y_min,
+        x_max,
+        y_max,
+    }))
 }
 
 /// The box in the header of an outline.
@@ -53,7 +72,7 @@ fn box_in(outline: &[u8]) -> Option<Option<Bounds>> {
 fn part_box(source: &Source<'_>, part: Part) -> Result<Option<Bounds>, Error> {
     let outline = source.outline(part.glyph).ok_or(Error::MalformedFont)?;
     let found = box_in(outline).ok_or(Error::MalformedFont)?;
-    Ok(moved_box(found, part))
+    moved_box(found, part)
 }
 
 /// The least box around two.
@@ -100,7 +119,8 @@ fn own_box(source: &Source<'_>, parts: &[Part]) -> Result<Bounds, Error> {
     Ok(box_or_zero(all))
 }
 
-/// The boxes of own glyphs. `MalformedFont` where a part isn't a glyph of the font, or its outline is cut.
+/// The boxes of own glyphs. `MalformedFont` where a part isn't a glyph of the font, or its outline is cut; `OverflowError` where a side of its
+/// box hasn't 16 bits.
 pub fn own_boxes(
     alloc: Global,
     source: &Source<'_>,

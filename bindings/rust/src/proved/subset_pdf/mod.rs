@@ -7,6 +7,7 @@
 //! // sheet.file, and sheet.font of which it is a sheet
 //! ```
 
+mod cells;
 mod line;
 mod options;
 mod sheet;

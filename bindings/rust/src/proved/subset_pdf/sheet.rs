@@ -7,6 +7,7 @@ use crate::proved::pdf_font::{pdf_font, FontError, PdfFont, Permission, Shown};
 use crate::proved::pdf_objects::{view_of, view_with, write_sheet, Layout};
 use crate::proved::pdf_sheet::{write_lines, SheetLine};
 use crate::proved::pdf_text_font::{text_font, TextFont};
+use crate::proved::subset_pdf::cells::{are_single, cells_of};
 use crate::proved::subset_pdf::line::{line_for, Line};
 use crate::proved::subset_pdf::options::{options_of, PdfRequest};
 use crate::proved::subset_pdf::shown::shown_of;
@@ -108,7 +109,7 @@ fn text_for(
 }
 
 /// The bytes of CIDToGIDMap, if that is a stream.
-fn map_of(text: &TextFont) -> Option<&[u8]> {
+pub fn map_of(text: &TextFont) -> Option<&[u8]> {
     match &text.cid_to_gid_map {
         None => None,
         Some(map) => Some(map),
@@ -126,6 +127,20 @@ fn page_of(alloc: Global, text: &TextFont, line: &Line) -> Result<Vec<u8>, Error
     Ok(file)
 }
 
+/// The pages of a line's glyphs.
+fn pages_of(
+    alloc: Global,
+    layout: Layout,
+    text: &TextFont,
+    line: &Line,
+    shown: &[Shown<'_>],
+) -> Result<Vec<u8>, Error> {
+    match layout {
+        Layout::Line => page_of(alloc, text, line),
+        Layout::Grid => cells_of(alloc, text, line, shown),
+    }
+}
+
 /// The PDF that shows glyphs in use as the line of a text.
 fn text_sheet(
     alloc: Global,
@@ -135,7 +150,7 @@ fn text_sheet(
 ) -> Result<Sheet, SheetError> {
     let line = line_for(alloc, data, request, shown)?;
     let text = text_for(alloc, data, request, &line)?;
-    let file = page_of(alloc, &text, &line)?;
+    let file = pages_of(alloc, request.layout, &text, &line, shown)?;
     let font = PdfFont {
         codes: line.codes,
         ..text.font
@@ -145,12 +160,49 @@ fn text_sheet(
 
 // ---- both
 
-/// Whether glyphs are a text: they are in a line, and no way of getting codes is given.
-fn is_text(request: &PdfRequest<'_>) -> bool {
-    match request.layout {
-        Layout::Line => request.choice.coding.is_none(),
-        Layout::Grid => false,
+/// The error, where memory ran out; another one is passed over.
+fn unless_memory(error: SheetError) -> Result<(), SheetError> {
+    match error {
+        SheetError::Font(Error::OutOfMemory) => Err(SheetError::Font(Error::OutOfMemory)),
+        _ => Ok(()),
     }
+}
+
+/// The PDF that shows glyphs in use in a grid.
+fn grid_sheet(
+    alloc: Global,
+    data: &[u8],
+    request: &PdfRequest<'_>,
+    shown: &[Shown<'_>],
+) -> Result<Sheet, SheetError> {
+    if !are_single(shown) {
+        return coded_sheet(alloc, data, request, shown);
+    }
+    match text_sheet(alloc, data, request, shown) {
+        Ok(sheet) => Ok(sheet),
+        Err(error) => {
+            unless_memory(error)?;
+            coded_sheet(alloc, data, request, shown)
+        }
+    }
+}
+
+/// The PDF that shows glyphs in use, where no way of getting codes is given.
+fn plain_sheet(
+    alloc: Global,
+    data: &[u8],
+    request: &PdfRequest<'_>,
+    shown: &[Shown<'_>],
+) -> Result<Sheet, SheetError> {
+    match request.layout {
+        Layout::Line => text_sheet(alloc, data, request, shown),
+        Layout::Grid => grid_sheet(alloc, data, request, shown),
+    }
+}
+
+/// Whether a way of getting codes is given.
+fn is_coded(request: &PdfRequest<'_>) -> bool {
+    request.choice.coding.is_some()
 }
 
 /// The PDF that shows glyphs in use.
@@ -160,21 +212,22 @@ fn sheet_of(
     request: &PdfRequest<'_>,
     shown: &[Shown<'_>],
 ) -> Result<Sheet, SheetError> {
-    if is_text(request) {
-        text_sheet(alloc, data, request, shown)
-    } else {
+    if is_coded(request) {
         coded_sheet(alloc, data, request, shown)
+    } else {
+        plain_sheet(alloc, data, request, shown)
     }
 }
 
 /// A PDF that shows glyphs of a font in 36 points, in a line, or in a grid of 12 by 16 a page. Each has its text: as many of the
-/// next characters as its length says. A line is that of a text, unless it is chosen how glyphs get codes.
+/// next characters as its length says. They are those of a text, by its codes, unless it is chosen how glyphs get codes; a grid is
+/// of what `pdf_font` returns also where a glyph has several characters, and where the font is refused as a text's.
 ///
 /// # Errors
 ///
 /// - `NotPermitted`: `fsType` forbids it, and the user holds no rights.
 /// - `TextTooLong`: the text of a glyph is too long.
-/// - `Font`: what `pdf_font` returns, and for a text `text_metrics`; a glyph of a text isn't the font's (`MalformedFont`), or the
+/// - `Font`: what `pdf_font` returns, and for a line `text_metrics`; a glyph of a line isn't the font's (`MalformedFont`), or its
 ///   text is too long (`OverflowError`); the PDF would have 10,000,000,000 bytes or more (`OverflowError`); a request for memory was
 ///   refused (`OutOfMemory`).
 pub fn make_sheet(

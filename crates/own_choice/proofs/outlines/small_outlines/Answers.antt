@@ -6,7 +6,7 @@ use Rattle.own_choice.proofs.outlines.small_outlines.Goals as goal
 
 pub loop-glyph-preserved : goal.loop-glyph-preserved
 loop-glyph-preserved c =
-    let f = has_small_outline c.args.reach (outlines_seen c.args.tables) in
+    let f = has_small_outline (outlines_seen c.args.tables) in
     let g = c.loop-glyph.glyph in
     let m = c.args.count - (g + 1) in
     let step : c.args.count - g ≡ suc m = omega arith in
