@@ -154,6 +154,17 @@ static inline uint32_t below(uint32_t limit)
     return (uint32_t)((((state * 2685821657736338717u) >> 32) * limit) >> 32);
 }
 
+static inline int is_same(const void *a, size_t a_size, const void *b, size_t b_size)
+{
+    return a_size == b_size && (a_size == 0 || memcmp(a, b, a_size) == 0);
+}
+
+/* Whether two structs `a` and `b` have the same list. */
+#define SAME(LIST, COUNT) is_same(a->LIST, a->COUNT * sizeof *a->LIST, b->LIST, b->COUNT * sizeof *b->LIST)
+
+/* What is in room that nothing was written to. */
+enum { FILLED = 0xA5 };
+
 /* Bits of a number that a narrower type loses. */
 static const uint32_t HIGH[] = {1u << 8, 1u << 16, 1u << 24, 1u << 31};
 enum { HIGHS = sizeof HIGH / sizeof *HIGH };
