@@ -459,22 +459,41 @@ static void answer(const struct row *row)
 
 /* What the calls of a row make, up to the first that fails; the rest is 0. */
 struct all {
-    subsetter_font font;
-    subsetter_pdf_objects objects, page;
+    subsetter_font font, of_text;
+    subsetter_pdf_objects objects, page, line, sheet;
     subsetter_pdf_parts parts;
+    subsetter_text text;
 };
+
+/* The sheet of a line and of an empty one: a page for each, as long as its line. */
+static uint32_t text_sheet(const subsetter_font *font, subsetter_pdf_objects *sheet)
+{
+    static const subsetter_line pages[] = {{(const uint8_t *)"[<0001>]TJ\n", 11, 2509}, {(const uint8_t *)"", 0, 400000}};
+    return subsetter_make_text_sheet(font, pages, 2, sheet);
+}
 
 static uint32_t make_all(const struct row *row, struct all *it)
 {
     static const uint32_t numbers[] = {9, 8, 7, 6, 5, 4, 3};
+    static subsetter_item items[ENTRIES];
+    const uint32_t direction = row->options.direction == SUBSETTER_VERTICAL ? SUBSETTER_TOP_TO_BOTTOM : SUBSETTER_LEFT_TO_RIGHT;
+    uint32_t status = 0;
+    for (size_t i = 0; i < row->glyph_count; i++)
+        items[i] = (subsetter_item){row->glyphs[i], 0, i == 0 ? 0 : (uint32_t)row->ends[i - 1], (uint32_t)row->ends[i], 0, 0, 0, 0};
     memset(it, 0, sizeof *it);
-    uint32_t status = make_whole(row, &row->options, &it->font);
-    check(status == 0 || is_no_whole(&it->font), "a font that isn't whole", row->name);
-    if (status == 0 && (status = subsetter_make_pdf_objects(&it->font.pdf, 4, &it->objects)) != 0)
-        check(are_no_objects(&it->objects), "objects that aren't whole", row->name);
-    if (status == 0 && (status = subsetter_make_sheet(&it->font, 0, &it->page)) != 0)
-        check(are_no_objects(&it->page), "a sheet that isn't whole", row->name);
-    return status != 0 ? status : make_parts(&it->font, numbers, subsetter_pdf_part_count(&it->font), &it->parts);
+#define STEP(CALL, IS_NOTHING) \
+    if (status == 0 && (status = (CALL)) != 0) \
+        check(IS_NOTHING, #CALL, row->name)
+    STEP(make_whole(row, &row->options, &it->font), is_no_whole(&it->font));
+    STEP(subsetter_make_pdf_objects(&it->font.pdf, 4, &it->objects), are_no_objects(&it->objects));
+    STEP(subsetter_make_sheet(&it->font, 0, &it->page), are_no_objects(&it->page));
+    STEP(make_parts(&it->font, numbers, subsetter_pdf_part_count(&it->font), &it->parts), it->parts.part_count == 0);
+    STEP(subsetter_new_text(FONT, PLACE, &row->options, &it->text), it->text.units_per_em == 0);
+    STEP(subsetter_show_run(&it->text, items, row->glyph_count, row->text, (uint32_t)row->text_count, direction, 0, 12000, &it->line),
+        are_no_objects(&it->line) && it->text.pair_count == 0);
+    STEP(subsetter_make_text_font(&it->text, &row->options, &it->of_text), is_no_whole(&it->of_text));
+    STEP(text_sheet(&it->of_text, &it->sheet), are_no_objects(&it->sheet));
+    return status;
 }
 
 static void free_all(struct all *it)
@@ -482,11 +501,15 @@ static void free_all(struct all *it)
     subsetter_free_pdf_parts(&it->parts);
     subsetter_free_pdf_objects(&it->objects);
     subsetter_free_pdf_objects(&it->page);
+    subsetter_free_pdf_objects(&it->line);
+    subsetter_free_pdf_objects(&it->sheet);
     subsetter_free_font(&it->font);
+    subsetter_free_font(&it->of_text);
+    subsetter_free_text(&it->text);
 }
 
-/* Each request for memory is refused in turn: what is returned is whole, or nothing with status 7. Where a smaller block is requested the
- * call may go on. */
+/* Each request for memory is refused in turn: what is returned is whole, or nothing with status 7, and the codes of a text stay. Where a
+ * smaller block is requested the call may go on. */
 static void refuse(const struct row *row)
 {
     struct all whole, it;
@@ -501,13 +524,14 @@ static void refuse(const struct row *row)
         was_refused = requests >= refused;
         refused = 0;
         check(status == wanted || (was_refused && status == 7), "a refused request", row->name);
-        check(status != 0 || (are_same(&it.font.pdf, &whole.font.pdf) && are_same_objects(&it.objects, &whole.objects)
-            && are_same_objects(&it.page, &whole.page) && it.parts.part_count == whole.parts.part_count), "what isn't whole", row->name);
+        check(status != 0 || (are_same(&it.font.pdf, &whole.font.pdf) && are_same(&it.of_text.pdf, &whole.of_text.pdf) && are_same_objects(&it.objects, &whole.objects)
+            && are_same_objects(&it.page, &whole.page) && are_same_objects(&it.line, &whole.line) && are_same_objects(&it.sheet, &whole.sheet)
+            && it.parts.part_count == whole.parts.part_count && it.text.pair_count == whole.text.pair_count), "what isn't whole", row->name);
         goes_on += was_refused && status == 0;
         free_all(&it);
-        check(held == before, "memory that isn't given back", row->name);
+        check(held == before && it.text.pair_count == 0, "memory that isn't given back", row->name);
     }
-    check(wanted != 0 || all > 20, "requests of the calls", row->name);
+    check(wanted != 0 || all > 50, "requests of the calls", row->name);
 #ifdef SUBSETTER_BY_CARGO
     check(goes_on <= 2, "how many requests may be refused", row->name);
 #endif
@@ -768,15 +792,13 @@ static void try_read_text(const struct row *row)
     }
 }
 
-/* The kinds of glyphs, also with a buffer that is one too small, and with each request for memory refused; and a font without outlines and
- * `cmap`. */
+/* The kinds of glyphs, also with a buffer that is one too small, and with each request for memory refused. */
 static void try_kinds(void)
 {
     static const char name[] = "kinds";
     static const uint16_t glyphs[] = {10, 11};
     uint32_t kinds[] = {0xA5A5A5A5, 0xA5A5A5A5, 0xA5A5A5A5}, status = 7;
-    subsetter_font made;
-    size_t size, length;
+    size_t size;
     uint8_t *font = file_of("made_colour.ttf", &size);
     check(subsetter_glyph_kinds(font, size, 0, glyphs, 2, kinds, 1) == 8 && kinds[0] == 0xA5A5A5A5, "no room", name);
     for (refused = 1; status == 7; refused++) {
@@ -789,28 +811,18 @@ static void try_kinds(void)
     check(kinds[0] == (SUBSETTER_KIND_SVG | SUBSETTER_KIND_OUTLINE) && kinds[1] == (SUBSETTER_KIND_SVG | SUBSETTER_KIND_EMPTY), "kinds", name);
     check(!subsetter_is_unseen(kinds[0]) && subsetter_is_unseen(kinds[1]) && !subsetter_is_unseen(SUBSETTER_KIND_EMPTY), "unseen", name);
     __real_free(font);
-    font = file_of("made_cmaps.ttc", &size);
-    check(subsetter_glyphs_of(font, size, 6, NULL, 0, NULL, 0, &length) == 13 && length == 0, "no characters", name);
-    __real_free(font);
-    font = file_of("made.ttf", &size);
-    uint8_t *record = font + 12;
-    while (memcmp(record, "glyf", 4) != 0)
-        record += 16;
-    memcpy(record, "sbix", 4);
-    check(subsetter_make_font(font, size, 0, NOTHING, NULL, &made) == SUBSETTER_BITMAPS_ALONE && is_no_whole(&made), "no outlines", name);
-    __real_free(font);
 }
 
 /* What the font shows of why, in buffers that are large enough or too small. */
 static void try_reasons(const struct row *row)
 {
-    static const char name[] = "a reason", wanted[] = "glyph 12: the font's glyphs are 0 to 11", of_limits[] = "glyph 0: its charstring in CFF";
+    static const char name[] = "a reason", wanted[] = "glyph 12: the font's glyphs are 0 to 11";
     static const subsetter_coordinate at = {SUBSETTER_TAG('w', 'g', 'h', 't'), 650 << 16};
-    static const subsetter_options few = {20, 5, 0, 0, 0}, unknown = {20, 0, 0, 8, 0};
+    static const subsetter_options unknown = {20, 0, 0, 8, 0};
     static const uint16_t glyph = 12;
     const size_t whole = sizeof wanted - 1;
     uint8_t why[128];
-    size_t length, size;
+    size_t length;
     for (uint32_t call = 0; call < 8; call++)
         for (size_t room = 0; room <= sizeof why; room++) {
             memset(why, FILLED, sizeof why);
@@ -819,39 +831,9 @@ static void try_reasons(const struct row *row)
             check(memcmp(why, wanted, status == 0 ? whole : 0) == 0 && why[status == 0 ? whole : 0] == FILLED, "its text", name);
         }
     check(subsetter_explain(0, 2, FONT, NULL, 0, &glyph, 1, &unknown, why, sizeof why, &length) == 10 && length == 0, "an option", name);
-    uint8_t *font = file_of("made_version_1.otf", &size);
-    check(subsetter_explain(0, 6, font, size, 0, NULL, 0, NULL, 0, NULL, why, sizeof why, &length) == 0 && length == 0, "no reason", name);
-    check(subsetter_explain(0, 6, font, size, 0, NULL, 0, NULL, 0, &few, why, sizeof why, &length) == 0 && memcmp(why, of_limits, sizeof of_limits - 1) == 0, "limits", name);
-    __real_free(font);
 }
 
 /* ---- runs of text */
-
-static char row_text[1 << 20];
-
-/* Takes the first row of a text, with `{x*3}` as xxx, whose words after the first are those of `word`. What is after it; null after the last. */
-static char *next_row(char *text)
-{
-    char *into = row_text;
-    while (*text == '#' || *text == '\n')
-        text = strchr(text, '\n') + 1;
-    if (*text == 0)
-        return NULL;
-    for (; *text != '\n'; text++) {
-        const char *part = text + (*text == '{');
-        size_t length = *text == '{' ? strcspn(part, "*") : 1, count = *text == '{' ? strtoul(part + length + 1, &text, 10) : 1;
-        for (; count > 0; count--, into += length)
-            memcpy(into, part, length);
-    }
-    *into = 0;
-    strtok(row_text, " ");
-    return text + 1;
-}
-
-static char *word(void)
-{
-    return strtok(NULL, " ");
-}
 
 #define LEFT SUBSETTER_LEFT_TO_RIGHT, SUBSETTER_ORDER_VISUAL, 12000
 
@@ -900,7 +882,8 @@ static void try_units(const uint8_t *bytes, size_t size)
  * of parts. */
 static void try_own_glyphs(const uint8_t *bytes, size_t size)
 {
-    static const uint32_t accented[] = {'A', 0x301};
+    static const uint32_t accented[] = {'A', 0x301}, widths[] = {500, 667, 0};
+    static const uint8_t map[] = {0, 0, 0, 3, 0, 4};
     static const subsetter_item marked[] = {{1, 0, 0, 2, 1366, 0, 0, 0}, {7, 1, 0, 0, 0, 0, -1024, 205}};
     static const struct {
         subsetter_own_glyph own[2];
@@ -908,7 +891,7 @@ static void try_own_glyphs(const uint8_t *bytes, size_t size)
     } wrong[] = {{{{65536, 1}, {0, 1}}, {1, 0, 0}},  {{{9, 2}, {9, 2}}, {1, 0, 0}},   {{{9, 1}, {9, 0}}, {1, 0, 0}},
                  {{{9, 1}, {9, 1}}, {65536, 0, 0}}, {{{9, 1}, {9, 1}}, {1, 32768, 0}}, {{{9, 1}, {9, 1}}, {1, 0, -32769}}};
     subsetter_text text;
-    subsetter_pdf_objects line;
+    subsetter_pdf_objects line, sheet;
     subsetter_font font;
     check(subsetter_new_text(bytes, size, 0, NO_PLACE, NULL, &text) == 0 && text.most_parts > 1 && text.is_still == 0 && text.own_count == 0, "a text", "own glyphs");
     check(text.advance_count == text.metric_count && text.partable_count == text.metric_count && text.advances[1] == 1366 && text.partable[1] == 1, "glyphs", "own glyphs");
@@ -917,7 +900,13 @@ static void try_own_glyphs(const uint8_t *bytes, size_t size)
     check(text.own_count == 1 && text.own[0].advance == 1366 && text.own[0].part_end == 2 && text.part_count == 2, "an own glyph", "own glyphs");
     check(memcmp(text.parts, (subsetter_part[]){{1, 0, 0}, {7, 342, 205}}, 24) == 0, "its parts", "own glyphs");
     check(text.pair_count == 2 && text.pairs[0].kind == 0 && text.pairs[0].glyph == text.metric_count && text.pairs[0].character == 'A', "a pair", "own glyphs");
-    check(subsetter_make_text_font(&text, NULL, &font) == 0, "a font", "own glyphs");
+    check(subsetter_make_text_font(&text, NULL, &font) == 0 && is_same(font.pdf.widths, 4 * font.pdf.width_count, widths, sizeof widths), "a font", "own glyphs");
+    check(is_same(font.cid_to_gid_map, font.cid_to_gid_map_size, map, sizeof map), "its CIDToGIDMap", "own glyphs");
+    check(text_sheet(&font, &sheet) == 0 && subsetter_make_objects(&font, 7, &line) == 0 && contains(&sheet, line.bytes, line.size)
+        && contains(&sheet, " Tm\n[<0001>]TJ\nET\n", 18) && contains(&sheet, " Tm\nET\n", 7) && contains(&sheet, "[0 0 163 144]", 13)
+        && contains(&sheet, "[0 0 14400 144]", 15) && is_empty(sheet.offsets, sheet.offset_count), "a sheet", "own glyphs");
+    subsetter_free_pdf_objects(&line);
+    subsetter_free_pdf_objects(&sheet);
     font.size--;
     check(subsetter_make_text_sheet(&font, NULL, 0, &line) == 10 && are_no_objects(&line), "another size", "a sheet");
     font.size++;
@@ -937,113 +926,10 @@ static void try_own_glyphs(const uint8_t *bytes, size_t size)
     check(text.own_count == 0 && text.part_count == 0 && text.most_parts == 0, "a text that was given back", "own glyphs");
 }
 
-/* The sheet of a line and of an empty one: a page for each, as long as its line, and the objects of the font. */
-static int is_sheet(const subsetter_pdf_objects *sheet, const subsetter_font *font)
-{
-    subsetter_pdf_objects own;
-    int is_one = subsetter_make_objects(font, 7, &own) == 0 && contains(sheet, own.bytes, own.size) && contains(sheet, " Tm\n[<0001>]TJ\nET\n", 18)
-        && contains(sheet, " Tm\nET\n", 7) && contains(sheet, "[0 0 163 144]", 13) && contains(sheet, "[0 0 14400 144]", 15) && sheet->offset_count == 0;
-    subsetter_free_pdf_objects(&own);
-    return is_one;
-}
-
-/* What a text of runs.txt has: its widths, the glyphs of its CIDToGIDMap, and the items of a run with their characters. */
-static uint32_t widths[66000], glyphs[66000], characters[66000];
-static subsetter_item items[66000];
-
-/* The items of a run, up to the word `=`. */
-static size_t read_items(void)
-{
-    size_t count = 0;
-    uint32_t length = 0;
-    for (char *at; *(at = word()) != '=';) {
-        subsetter_item item = {(uint32_t)strtoul(at, &at, 10), 0, length, 0, 0, 0, 0, 0};
-        item.continues = at[1] == '-';
-        for (at += 1 + item.continues; *at != ':' && *at != '.'; at += *at == ',')
-            characters[length++] = (uint32_t)strtoul(at, &at, 16);
-        const uint32_t last = *at == '.' ? (uint32_t)strtoul(at + 2, &at, 16) : 0;
-        for (int32_t *place = &item.x_advance; *at != 0; place++)
-            *place = (int32_t)strtol(at + 1, &at, 10);
-        item.end = length;
-        for (items[count++] = item; last != 0 && characters[length - 1] < last; items[count++] = item) {
-            characters[length] = characters[length - 1] + 1;
-            item.start = length++;
-            item.end = length;
-        }
-    }
-    return count;
-}
-
-/* The runs below a text's row, its font and a sheet, where each request for memory is refused in turn: what is returned is whole, or nothing
- * with status 7, and the codes stay. (Long runs are shown once.) What is after them. */
-static char *try_text(char *rows)
-{
-    static const subsetter_line pages[] = {{(const uint8_t *)"[<0001>]TJ\n", 11, 2509}, {(const uint8_t *)"", 0, 400000}};
-    subsetter_pdf_options options = defaults();
-    size_t size;
-    uint8_t *bytes = file_of(word(), &size);
-    const char choice = *word();
-    const size_t codes = numbers_in(word(), widths), glyph_count = numbers_in(word(), glyphs);
-    options.direction = choice == 'v';
-    options.own_glyphs = choice != 'o';
-    options.rights = SUBSETTER_RIGHTS_HELD;
-    for (unsigned long request = 0;; request++) {
-        char *next = rows;
-        subsetter_text text;
-        subsetter_pdf_objects line, sheet;
-        subsetter_font font;
-        long before = held;
-        requests = 0;
-        refused = request;
-        const uint32_t opened = subsetter_new_text(bytes, size, 0, NO_PLACE, &options, &text);
-        int is_whole = opened == 0;
-        check(is_whole ? text.units_per_em > 0 : opened == 7 && request != 0 && requests >= request && text.units_per_em == 0, "a text", "runs");
-        for (char *after; (after = next_row(next)) != NULL && strcmp(row_text, "run") == 0; next = after) {
-            const char way = *word();
-            const size_t count = read_items(), length = count == 0 ? 0 : items[count - 1].end;
-            char *wanted = strtok(NULL, ""), *operators = wanted + strcspn(wanted, " ");
-            if (request != 0 && length > 100) {
-                is_whole = 0;
-                continue;
-            }
-            const uint32_t status = subsetter_show_run(&text, items, count, characters, length, way == 'l' ? 0 : way == 'r' ? 1 : 2, choice == 'l', 12000, &line);
-            int is_wanted = status == (*wanted == 'I' ? SUBSETTER_INVALID_TEXT : *wanted == 'O' ? SUBSETTER_OVERFULL : SUBSETTER_DONE);
-            check(!is_whole || is_wanted || (status == 7 && request != 0 && requests >= request), "a run", wanted);
-            is_whole = is_whole && is_wanted;
-            for (char *at = operators += *operators == ' '; *at != 0; at++)
-                *at = *at == '~' ? '\n' : *at;
-            check(status != 0 ? are_no_objects(&line) : !is_whole || *wanted == '*' || is_line(&line, operators), "operators", operators);
-            subsetter_free_pdf_objects(&line);
-        }
-        const uint32_t status = subsetter_make_text_font(&text, &options, &font), of_sheet = subsetter_make_text_sheet(&font, pages, 2, &sheet);
-        int was_refused = request != 0 && requests >= request;
-        refused = 0;
-        check(status == 0 || (was_refused && status == (text.units_per_em == 0 ? 10 : 7) && is_no_whole(&font)), "a font", "runs");
-        check(of_sheet == 0 ? status != 0 || options.direction != 0 || is_sheet(&sheet, &font) : was_refused && of_sheet == 7 && are_no_objects(&sheet), "a sheet", "runs");
-        if (is_whole && status == 0) {
-            check(is_same(font.pdf.widths, font.pdf.width_count * 4, widths, codes * 4) && font.cid_to_gid_map_size == 2 * glyph_count, "widths", "runs");
-            for (size_t i = 0; font.cid_to_gid_map_size == 2 * glyph_count && i < glyph_count; i++)
-                check((uint32_t)(font.cid_to_gid_map[2 * i] << 8 | font.cid_to_gid_map[2 * i + 1]) == glyphs[i], "CIDToGIDMap", "runs");
-        }
-        subsetter_free_pdf_objects(&sheet);
-        subsetter_free_font(&font);
-        subsetter_free_text(&text);
-        check(held == before && text.pair_count == 0, "memory that isn't given back", "runs");
-        if (request != 0 && !was_refused) {
-            __real_free(bytes);
-            return next;
-        }
-    }
-}
-
 /* Runs, units, and what is unknown. */
 static void try_runs(void)
 {
     size_t size;
-    char *table = (char *)file_of("runs.txt", &size), *row = table;
-    while ((row = next_row(row)) != NULL)
-        row = try_text(row);
-    __real_free(table);
     uint8_t *bytes = file_of("made.ttf", &size);
     try_own_glyphs(bytes, size);
     try_units(bytes, size);
