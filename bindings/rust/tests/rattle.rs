@@ -78,13 +78,8 @@ fn lists_answer_as_rusts() {
 fn lists_are_made_of_items() {
     let listed: [Result<Vec<u8>, AllocError>; 3] = [vec![in Global; 3, 1, 2,], vec![in Global; 9], vec![in Global]];
     assert_eq!(listed.map(Result::unwrap), [list(&[3, 1, 2]), list(&[9]), list(&[])]);
-    assert_eq!(rattle_vec().unwrap().as_slice(), [5, 5, 5]);
     assert_eq!(Vec::of(Global, 0u8, 3).unwrap().as_slice(), [0, 0, 0]);
     assert_eq!(Vec::<u32>::with_capacity(Global, 7).unwrap().capacity(), 7);
-}
-
-fn rattle_vec() -> Result<Vec<u16>, AllocError> {
-    vec![in Global; 5; 3]
 }
 
 #[test]
@@ -152,7 +147,8 @@ fn each_request_of_a_list_can_be_refused() {
     assert_eq!(each_refused(|| Vec::from_items(Global, [1u8])), 1);
     assert_eq!(each_refused(|| Vec::from_slice(Global, &[1u8])), 1);
     assert_eq!(each_refused(|| [1u8].to_vec_with(Global)), 1);
-    assert_eq!(each_refused(rattle_vec), 1);
+    let made = || -> Result<Vec<u16>, AllocError> { vec![in Global; 5; 3] };
+    assert_eq!((each_refused(made), made().unwrap().as_slice()), (1, &[5, 5, 5][..]));
     let pushed = each_refused(|| {
         let mut items = Vec::new(Global);
         (0..1000u16).try_for_each(|item| items.push(item).map_err(AllocError::from))
