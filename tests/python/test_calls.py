@@ -245,13 +245,13 @@ def test_a_number_that_python_doesnt_write(name):
 @pytest.mark.parametrize("kind, message, call", [
     (subsetter.Unimplemented, "unsupported feature in font: CFF2: its outlines are taken at coordinates alone: coordinates={} is the default", lambda: subsetter.subset(made("made_cff2.otf"), [])),
     (subsetter.OverflowError, "overflow occurred: most_bytes is 9", lambda: subsetter.subset(TTF, [1], most_bytes=9)),
-    (subsetter.OverflowError, "overflow occurred: the numbers from 4294967289 on don't fit 32 bits", lambda: MADE.objects(2**32 - 7)),
     (subsetter.OverflowError, "overflow occurred: tokens is 1", lambda: subsetter.advances(made("made_variable.ttf"), [1], coordinates={"wght": 650}, tokens=1)),
     (subsetter.NotPermitted, 'embedding not permitted: OS/2: fsType 0x0104 forbids subsets: if you hold the rights, rights="held"',
      lambda: subsetter.pdf_font(made("made.otf"), [])),
     (subsetter.InvalidText, "invalid text: U+DFFF is an unpaired surrogate", lambda: subsetter.glyphs_of(TTF, "A\udfff")),
     (subsetter.InvalidText, "invalid text: U+D800 is an unpaired surrogate", lambda: subsetter.codes_of([(1, "\ud800")])),
     (subsetter.InvalidText, "invalid text: a text has more than 256 UTF-16 units", lambda: subsetter.pdf_font(TTF, [(1, "\U0001f600" * 129)])),
+    (subsetter.OverflowError, "overflow occurred: the numbers from 4294967289 on don't fit 32 bits", lambda: MADE.objects(2**32 - 7)),
 ])
 def test_messages_say_why(kind, message, call):
     error = raised(call)
