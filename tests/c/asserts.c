@@ -1,5 +1,5 @@
 /* What the header promises to programs that were compiled earlier, and to other languages: the value of each constant, the place and the
- * type of each field, the size of each struct, and the type of each call. It is only compiled. */
+ * type of each field, and the size of each struct. It is only compiled. */
 #include "subsetter.h"
 
 #define IS(IT, ...) _Generic((IT), __VA_ARGS__: 1, default: 0)
@@ -7,14 +7,13 @@
 #define FIELD(STRUCT, NAME, PLACE, ...) \
     _Static_assert(offsetof(STRUCT, NAME) == (PLACE) && IS(&((STRUCT *)0)->NAME, __VA_ARGS__), #STRUCT ": " #NAME);
 #define SIZE(STRUCT, BYTES) _Static_assert(sizeof(STRUCT) == (BYTES), #STRUCT);
-#define CALL(NAME, RESULT, ...) _Static_assert(IS(NAME, RESULT (*)(__VA_ARGS__)), #NAME);
 
 /* ---- constants */
 
 NUMBER(SUBSETTER_DONE, 0) NUMBER(SUBSETTER_UNKNOWN_KIND, 1) NUMBER(SUBSETTER_MALFORMED_FONT, 2) NUMBER(SUBSETTER_UNIMPLEMENTED, 3)
 NUMBER(SUBSETTER_SUBSET_ERROR, 4) NUMBER(SUBSETTER_OVERFLOW_ERROR, 5) NUMBER(SUBSETTER_CFF_ERROR, 6) NUMBER(SUBSETTER_OUT_OF_MEMORY, 7)
 NUMBER(SUBSETTER_BUFFER_TOO_SMALL, 8) NUMBER(SUBSETTER_NO_DEPTH, 9) NUMBER(SUBSETTER_UNKNOWN_OPTION, 10) NUMBER(SUBSETTER_NOT_PERMITTED, 11)
-NUMBER(SUBSETTER_INVALID_TEXT, 12) NUMBER(SUBSETTER_OVERFULL, 15) NUMBER(SUBSETTER_INVALID_NUMBERS, 16) NUMBER(SUBSETTER_SMALL, 7)
+NUMBER(SUBSETTER_INVALID_TEXT, 12) NUMBER(SUBSETTER_NO_CMAP, 13) NUMBER(SUBSETTER_BITMAPS_ALONE, 14) NUMBER(SUBSETTER_OVERFULL, 15) NUMBER(SUBSETTER_INVALID_NUMBERS, 16) NUMBER(SUBSETTER_SMALL, 7)
 NUMBER(SUBSETTER_DROP_HINTING, 1) NUMBER(SUBSETTER_DROP_NAMES, 2) NUMBER(SUBSETTER_DROP_GLYPH_NAMES, 4)
 NUMBER(SUBSETTER_KIND_COLR_1, 1) NUMBER(SUBSETTER_KIND_COLR_0, 2) NUMBER(SUBSETTER_KIND_SVG, 4) NUMBER(SUBSETTER_KIND_CBDT_17, 8)
 NUMBER(SUBSETTER_KIND_CBDT_18, 16) NUMBER(SUBSETTER_KIND_CBDT_19, 32) NUMBER(SUBSETTER_KIND_CBDT_OTHER, 64) NUMBER(SUBSETTER_KIND_SBIX_PNG, 128)
@@ -32,6 +31,8 @@ NUMBER(SUBSETTER_LAYOUT_LINE, 0) NUMBER(SUBSETTER_LAYOUT_GRID, 1)
 NUMBER(SUBSETTER_ROLE_FONT, 0) NUMBER(SUBSETTER_ROLE_CID_FONT, 1) NUMBER(SUBSETTER_ROLE_DESCRIPTOR, 2) NUMBER(SUBSETTER_ROLE_PROGRAM, 3)
 NUMBER(SUBSETTER_ROLE_TO_UNICODE, 4) NUMBER(SUBSETTER_ROLE_CID_SET, 5) NUMBER(SUBSETTER_ROLE_ENCODING, 6)
 NUMBER(SUBSETTER_ROLE_CID_TO_GID_MAP, 7)
+NUMBER(SUBSETTER_CALL_SUBSET, 0) NUMBER(SUBSETTER_CALL_SUBSET_AT, 1) NUMBER(SUBSETTER_CALL_EMBED, 2) NUMBER(SUBSETTER_CALL_EMBED_AT, 3)
+NUMBER(SUBSETTER_CALL_PDF_FONT, 4) NUMBER(SUBSETTER_CALL_GLYPHS_OF, 5) NUMBER(SUBSETTER_CALL_ADVANCES, 6)
 NUMBER(SUBSETTER_LEFT_TO_RIGHT, 0) NUMBER(SUBSETTER_RIGHT_TO_LEFT, 1) NUMBER(SUBSETTER_TOP_TO_BOTTOM, 2)
 NUMBER(SUBSETTER_ORDER_VISUAL, 0) NUMBER(SUBSETTER_ORDER_LOGICAL, 1)
 
@@ -130,58 +131,3 @@ SIZE(subsetter_pair, 12)
 NUMBERS(subsetter_own_glyph, 0, advance, uint32_t *) NUMBERS(subsetter_own_glyph, 1, part_end, uint32_t *) SIZE(subsetter_own_glyph, 8)
 NUMBERS(subsetter_part, 0, glyph, uint32_t *) NUMBERS(subsetter_part, 1, x, int32_t *) NUMBERS(subsetter_part, 2, y, int32_t *) SIZE(subsetter_part, 12)
 NUMBERS(subsetter_metrics, 0, displacement, int32_t *) NUMBERS(subsetter_metrics, 1, position, int32_t *) SIZE(subsetter_metrics, 8)
-
-/* ---- calls */
-
-#define FONT const uint8_t *, size_t, uint32_t
-#define AT const subsetter_coordinate *, size_t
-#define GLYPHS const uint16_t *, size_t
-#define WORDS const uint32_t *, size_t
-#define CHOSEN const subsetter_options *
-#define OUT uint8_t *, size_t, size_t *
-#define ALL_OUT uint8_t *, size_t, uint16_t *, size_t, uint32_t *, size_t, subsetter_sizes *
-#define SHOWN GLYPHS, const uint32_t *, size_t, const size_t *, size_t
-
-CALL(subsetter_version, uint32_t, void) CALL(subsetter_error_text, uint32_t, uint32_t, OUT) CALL(subsetter_status_text, const char *, uint32_t)
-CALL(subsetter_subset, uint32_t, FONT, GLYPHS, OUT) CALL(subsetter_subset_with_limits, uint32_t, FONT, GLYPHS, uint32_t, uint8_t, OUT)
-CALL(subsetter_subset_by_words, uint32_t, FONT, GLYPHS, WORDS, OUT) CALL(subsetter_subset_with_options, uint32_t, FONT, GLYPHS, CHOSEN, OUT)
-CALL(subsetter_subset_at_by_words, uint32_t, FONT, AT, GLYPHS, WORDS, OUT) CALL(subsetter_subset_at, uint32_t, FONT, AT, GLYPHS, CHOSEN, OUT)
-CALL(subsetter_embed, uint32_t, FONT, GLYPHS, ALL_OUT) CALL(subsetter_embed_by_words, uint32_t, FONT, GLYPHS, WORDS, ALL_OUT)
-CALL(subsetter_embed_with_options, uint32_t, FONT, GLYPHS, CHOSEN, ALL_OUT)
-CALL(subsetter_embed_at_by_words, uint32_t, FONT, AT, GLYPHS, WORDS, ALL_OUT) CALL(subsetter_embed_at, uint32_t, FONT, AT, GLYPHS, CHOSEN, ALL_OUT)
-CALL(subsetter_make_subset_by_words, uint32_t, FONT, GLYPHS, WORDS, subsetter_made *)
-CALL(subsetter_make_subset, uint32_t, FONT, GLYPHS, CHOSEN, subsetter_made *)
-CALL(subsetter_make_subset_at_by_words, uint32_t, FONT, AT, GLYPHS, WORDS, subsetter_made *)
-CALL(subsetter_make_subset_at, uint32_t, FONT, AT, GLYPHS, CHOSEN, subsetter_made *)
-CALL(subsetter_make_embedded_by_words, uint32_t, FONT, GLYPHS, WORDS, subsetter_made *)
-CALL(subsetter_make_embedded, uint32_t, FONT, GLYPHS, CHOSEN, subsetter_made *)
-CALL(subsetter_make_embedded_at_by_words, uint32_t, FONT, AT, GLYPHS, WORDS, subsetter_made *)
-CALL(subsetter_make_embedded_at, uint32_t, FONT, AT, GLYPHS, CHOSEN, subsetter_made *) CALL(subsetter_free, void, subsetter_made *)
-CALL(subsetter_glyphs_of, uint32_t, FONT, const uint32_t *, size_t, uint16_t *, size_t, size_t *)
-CALL(subsetter_read_text, uint32_t, FONT, const uint32_t *, size_t, subsetter_entry *, size_t, size_t *, size_t, subsetter_read_sizes *)
-CALL(subsetter_make_pdf_font_by_words, uint32_t, FONT, AT, SHOWN, WORDS, subsetter_pdf_font *)
-CALL(subsetter_make_pdf_font, uint32_t, FONT, AT, SHOWN, const subsetter_pdf_options *, subsetter_pdf_font *)
-CALL(subsetter_free_pdf_font, void, subsetter_pdf_font *)
-CALL(subsetter_make_pdf_objects, uint32_t, const subsetter_pdf_font *, uint32_t, subsetter_pdf_objects *)
-CALL(subsetter_make_objects, uint32_t, const subsetter_font *, uint32_t, subsetter_pdf_objects *)
-CALL(subsetter_make_pdf_sheet, uint32_t, const subsetter_pdf_font *, SHOWN, uint32_t, subsetter_pdf_objects *)
-CALL(subsetter_free_pdf_objects, void, subsetter_pdf_objects *) CALL(subsetter_make_font_by_words, uint32_t, FONT, AT, SHOWN, WORDS, subsetter_font *)
-CALL(subsetter_make_font, uint32_t, FONT, AT, SHOWN, const subsetter_pdf_options *, subsetter_font *)
-CALL(subsetter_make_pdf_font_of_utf8_by_words, uint32_t, FONT, AT, const uint8_t *, size_t, WORDS, subsetter_font *)
-CALL(subsetter_make_pdf_font_of_utf8, uint32_t, FONT, AT, const char *, size_t, const subsetter_pdf_options *, subsetter_font *)
-CALL(subsetter_make_sheet, uint32_t, const subsetter_font *, uint32_t, subsetter_pdf_objects *) CALL(subsetter_free_font, void, subsetter_font *)
-CALL(subsetter_pdf_part_count, uint32_t, const subsetter_font *)
-CALL(subsetter_make_pdf_parts, uint32_t, const subsetter_font *, WORDS, subsetter_pdf_parts *)
-CALL(subsetter_free_pdf_parts, void, subsetter_pdf_parts *) CALL(subsetter_codes_of, uint32_t, SHOWN, uint32_t, uint16_t *, size_t, size_t *)
-CALL(subsetter_advances_by_words, uint32_t, FONT, AT, GLYPHS, WORDS, uint16_t *, size_t, uint16_t *, size_t, uint32_t *)
-CALL(subsetter_advances, uint32_t, FONT, AT, GLYPHS, CHOSEN, uint16_t *, uint16_t *, uint32_t *)
-CALL(subsetter_glyph_kinds, uint32_t, FONT, GLYPHS, uint32_t *, size_t) CALL(subsetter_is_unseen, int, uint32_t)
-CALL(subsetter_string, size_t, GLYPHS, char *, size_t)
-#define RUN uint32_t, uint32_t, uint32_t, subsetter_pdf_objects *
-CALL(subsetter_new_text_by_words, uint32_t, FONT, AT, WORDS, subsetter_text *)
-CALL(subsetter_new_text, uint32_t, FONT, AT, const subsetter_pdf_options *, subsetter_text *) CALL(subsetter_free_text, void, subsetter_text *)
-CALL(subsetter_show_run, uint32_t, subsetter_text *, const subsetter_item *, size_t, const uint32_t *, size_t, RUN)
-CALL(subsetter_show_shaped, uint32_t, subsetter_text *, const subsetter_shaped *, size_t, const void *, size_t, uint32_t, RUN)
-CALL(subsetter_make_text_font_by_words, uint32_t, const subsetter_text *, WORDS, subsetter_font *)
-CALL(subsetter_make_text_font, uint32_t, const subsetter_text *, const subsetter_pdf_options *, subsetter_font *)
-CALL(subsetter_make_text_sheet, uint32_t, const subsetter_font *, const subsetter_line *, size_t, subsetter_pdf_objects *)

@@ -121,38 +121,16 @@ static inline uint8_t *content(const char *path, size_t *size)
     return bytes;
 }
 
-/* The numbers of a list as `1,4..7`; none of `-`. */
-static inline size_t numbers_in(const char *list, uint32_t *numbers)
+static inline int is_same(const void *a, size_t a_size, const void *b, size_t b_size)
 {
-    size_t count = 0;
-    for (char *end = (char *)list; *end >= '0' && *end <= '9'; end += *end == ',') {
-        uint32_t first = (uint32_t)strtoul(end, &end, 10), last = *end == '.' ? (uint32_t)strtoul(end + 2, &end, 10) : first;
-        for (; first <= last; first++)
-            numbers[count++] = first;
-    }
-    return count;
+    return a_size == b_size && (a_size == 0 || memcmp(a, b, a_size) == 0);
 }
 
-/* The bytes of hexadecimal digits; none of `-`. */
-static inline size_t bytes_in(const char *digits, uint8_t *bytes)
-{
-    size_t count = 0;
-    for (; *digits != 0 && *digits != '-'; digits += 2) {
-        const char two[] = {digits[0], digits[1], 0};
-        bytes[count++] = (uint8_t)strtoul(two, NULL, 16);
-    }
-    return count;
-}
+/* Whether two structs `a` and `b` have the same list. */
+#define SAME(LIST, COUNT) is_same(a->LIST, a->COUNT * sizeof *a->LIST, b->LIST, b->COUNT * sizeof *b->LIST)
 
-/* A random number below the limit, the same on each platform. */
-static inline uint32_t below(uint32_t limit)
-{
-    static uint64_t state = 88172645463325253u;
-    state ^= state >> 12;
-    state ^= state << 25;
-    state ^= state >> 27;
-    return (uint32_t)((((state * 2685821657736338717u) >> 32) * limit) >> 32);
-}
+/* What is in room that nothing was written to. */
+enum { FILLED = 0xA5 };
 
 /* Bits of a number that a narrower type loses. */
 static const uint32_t HIGH[] = {1u << 8, 1u << 16, 1u << 24, 1u << 31};

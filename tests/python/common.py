@@ -113,6 +113,14 @@ def changed(name, change):
     return font
 
 
+def examples():
+    """The examples of the module's README and docstring."""
+    from support import blocks
+    found = [it for it in blocks((MODULE / "README.md").read_text(), "python") if it.startswith("import ")]
+    docstring = (MODULE / "subsetter/__init__.py").read_text().split('"""')[1]
+    return found + [textwrap.dedent(it) for it in re.findall(r"(?<=\n\n)(?:    .*\n)+", docstring)]
+
+
 def raised(call, *arguments, **choices):
     """The exception of a call, or None."""
     try:

@@ -8,10 +8,6 @@ def parts(font):
     return font.program, font.codes, font.widths, font.to_unicode, font.encoding, font.cid_set, font.objects(4), font.codes and font.sheet("grid"), font.exact_widths, font.parts(range(1, font.part_count + 1), compress=True)
 
 
-def pdf(module, name, **choices):
-    return lambda: parts(module.pdf_font(made(name), [(1, "A"), (5, "fi"), (1, "a")], **choices))
-
-
 def runs(module):
     with module.PdfText(made("made.ttf")) as text:
         return text.run([(1, "A"), (5, "fi"), (9, "e\u0301"), (7, None, 0, 0, -9, 99)]), text.codes, parts(text.font(cid_set=True))
@@ -28,8 +24,8 @@ def calls(module):
         "codes": lambda: module.codes_of([(1, "A"), (5, "fi")]),
         "advances": lambda: module.advances(made("made_variable.ttf"), [1, 5], coordinates={"wght": 650}),
         "runs of a text": lambda: runs(module),
-        "a font for a PDF": pdf(module, "made.ttf", cid_set=True, codes="each_text"),
-        "a vertical font for a PDF": pdf(module, "made.otf", vertical=True, rights="held"),
+        "a font for a PDF": lambda: parts(module.pdf_font(made("made.ttf"), [(1, "A"), (5, "fi"), (1, "a")], cid_set=True, codes="each_text")),
+        "a vertical font for a PDF": lambda: parts(module.pdf_font(made("made.otf"), [(1, "A"), (5, "fi")], vertical=True, rights="held")),
     }
 
 

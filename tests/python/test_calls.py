@@ -67,19 +67,6 @@ def test_buffers(tmp_path):
         assert type(raised(subsetter.subset, mapped, [2])) is subsetter.UnknownKind
 
 
-@pytest.mark.parametrize("name", CALLS)
-def test_no_buffers(name):
-    released = memoryview(TTF)
-    released.release()
-    assert type(raised(CALLS[name], released)) is ValueError
-    wrong = [5, "text", None, 1.5, [0, 1], {}, object(), open, array.array("H", [1, 2]), array.array("d", [1]), ctypes.c_uint8(5),
-             (ctypes.c_uint16 * 4)(), memoryview(TTF)[::2], memoryview(TTF)[::-1], memoryview(bytes(16)).cast("B", (4, 4)),
-             memoryview(bytes(16)).cast("I"), memoryview(bytes(4)).cast("?")]
-    for data in wrong:
-        error = raised(CALLS[name], data)
-        assert type(error) is TypeError and alone(error), data
-
-
 def test_a_buffer_is_held_during_a_call_and_released_after_it(monkeypatch):
     held, refused = bytearray(FONT), []
     library = subsetter._library()
@@ -118,9 +105,6 @@ def test_glyph_numbers(glyphs):
 def test_iterables_of_glyphs():
     for glyphs in ((2,), {2: 0}, range(2, 3), array.array("H", [2]), array.array("q", [2]), (it for it in (2, 2)), [number(index=2)]):
         assert subsetter.subset(FONT, glyphs) == WANTED
-    # (bytes and texts are iterables, but hardly what the caller means)
-    for glyphs in (b"", bytes([36, 3]), bytearray([36, 3]), memoryview(bytes([36, 3])), "", "36", 5, None, object(), [1.0], ["1"], [None], [[1]]):
-        assert type(raised(subsetter.subset, FONT, glyphs)) is type(raised(subsetter.embed, FONT, glyphs)) is TypeError
 
     def endless():
         yield 2
@@ -141,25 +125,6 @@ def test_limits(name, value):
             assert error is None or isinstance(error, subsetter.Error)
         else:
             assert type(error) is ValueError and str(error).startswith(f"{name} is from {least} to {most}, and not ") and len(str(error)) < 120
-
-
-@pytest.mark.parametrize("name", RANGES)
-def test_no_numbers(name):
-    for call in LIMITED:
-        # (Python writes no number this long)
-        error = raised(call, TTF, **{name: 10**5000})
-        assert type(error) is ValueError and alone(error) and str(error).startswith(f"{name} is ")
-        for value in ("1", 1.0, b"1", [1], *([None] if name == "index" else [])):
-            assert type(raised(call, TTF, **{name: value})) is TypeError
-
-
-def test_choices_that_are_true_or_false():
-    names = {"hinting": LIMITED, "names": LIMITED[:2], "glyph_names": LIMITED[:2], "vertical": LIMITED[2:], "cid_set": LIMITED[2:]}
-    for name, calls in [*names.items(), ("hint", LIMITED)]:
-        for call, value in itertools.product(calls, (0, 1, None, "no", "", 1.0, [])):
-            assert type(raised(call, TTF, **{name: value})) is TypeError
-    # (they are given by name alone)
-    assert type(raised(subsetter.subset, TTF, [], 0, 5)) is TypeError
 
 
 # ---- coordinates
@@ -209,16 +174,69 @@ def test_values_of_any_kind():
         assert subsetter._fixed("wght", number(float=OverflowError("x"), gt=value)) == wanted
 
 
-def test_no_coordinates():
-    for call in LIMITED:
-        for tag in ("", "w", "wgh", "wghtt", "wgh\xe9", "w\u0119ht", "\U0001F600", "wght\n"):
-            assert type(raised(call, TTF, coordinates={"wdth": 1, tag: 1})) is ValueError, tag
-        for tag in (b"wght", 0x77676874, None, ("w", "g", "h", "t")):
-            assert type(raised(call, TTF, coordinates={tag: 1})) is TypeError
-        for value in (None, "650", b"650", [650], (650,), 650j, {}):
-            assert type(raised(call, TTF, coordinates={"wght": value})) is TypeError
-        for coordinates in (5, "wght", [("wght", 650)], (("wght", 650),), {"wght"}, iter([]), [], True):
-            assert type(raised(call, TTF, coordinates=coordinates)) is TypeError
+# ---- what is refused
+
+def by(name, calls=LIMITED):
+    """Calls with a value for a keyword."""
+    return [lambda value, call=call: call(TTF, **{name: value}) for call in calls]
+
+
+def released():
+    view = memoryview(TTF)
+    view.release()
+    return view
+
+
+MADE = subsetter.pdf_font(TTF, SHOWN)
+COUNT = MADE.part_count
+GLYPHS = [lambda it: subsetter.subset(TTF, it), lambda it: subsetter.embed(TTF, it)]
+TEXTS_OF = [lambda it: subsetter.glyphs_of(TTF, it), lambda it: subsetter.pdf_font(TTF, [(1, it)])]
+NAMES = {"program": ["smallest", "opentype"], "codes": ["consecutive", "source", "each_text"], "bounds": ["font", "kept"], "rights": ["from_font", "held"]}
+CHOICES = {"hinting": LIMITED, "names": LIMITED[:2], "glyph_names": LIMITED[:2], "vertical": LIMITED[2:], "cid_set": LIMITED[2:], "hint": LIMITED}
+# Calls, and values that each of them refuses.
+WRONG = [
+    (ValueError, CALLS.values(), [released()]),
+    (TypeError, CALLS.values(), [5, "text", None, [0, 1], object(), array.array("H", [1, 2]), (ctypes.c_uint16 * 4)(), memoryview(TTF)[::2], memoryview(TTF)[::-1],
+                                 memoryview(bytes(16)).cast("B", (4, 4)), memoryview(bytes(16)).cast("I"), memoryview(bytes(4)).cast("?")]),
+    # (bytes and texts are iterables, but hardly what the caller means)
+    (TypeError, GLYPHS, [b"", bytes([36, 3]), bytearray([36, 3]), memoryview(bytes([36, 3])), "", "36", 5, None, object(), [1.0], ["1"], [None], [[1]]]),
+    *((TypeError, by(name), ["1", 1.0, b"1", [1], *([None] if name == "index" else [])]) for name in RANGES),
+    *((TypeError, by(name, calls), [0, 1, None, "no"]) for name, calls in CHOICES.items()),
+    # (they are given by name alone)
+    (TypeError, [lambda it: subsetter.subset(TTF, [], 0, it)], [5]),
+    (ValueError, by("coordinates"), [{"wdth": 1, tag: 1} for tag in ("", "wgh", "wghtt", "wgh\xe9", "\U0001F600", "wght\n")]),
+    (TypeError, by("coordinates"), [{tag: 1} for tag in (b"wght", 0x77676874, None, ("w", "g", "h", "t"))]),
+    (TypeError, by("coordinates"), [{"wght": it} for it in (None, "650", b"650", [650], 650j)]),
+    (TypeError, by("coordinates"), [5, "wght", [("wght", 650)], {"wght"}, iter([]), [], True]),
+    (TypeError, TEXTS_OF, [b"A", 5, None, ["A"], [65]]),
+    (subsetter.InvalidText, TEXTS_OF, ["\ud800", "A\udfff", "\udc00\ud800"]), (subsetter.InvalidText, TEXTS_OF[1:], ["a" * 257, "\U0001f600" * 129]),
+    (ValueError, by("tag", LIMITED[2:]), ["", "ABCDE", "ABCDEFG", "ABCDEf", "@BCDEF", "ABCDE[", "ABCDEF\n", "ABCDE\xc4", "ABC5EF"]),
+    (TypeError, by("tag", LIMITED[2:]), [b"ABCDEF", 5, 0, False, list("ABCDEF")]),
+    (TypeError, [lambda it: subsetter.pdf_font(TTF, it)], [5, [1], [("1", "A")]]),
+    (ValueError, [lambda it: subsetter.pdf_font(TTF, it)], [[(1, "A", 2)], [(65536, "A")], [(-1, "A")], [(1 << 64, "A")]]),
+    *((ValueError, by(name, LIMITED[2:]), ["", known[0].upper(), known[0] + " ", known[1] + "\n", ", ".join(known), "eachText"]) for name, known in NAMES.items()),
+    *((TypeError, by(name, LIMITED[2:]), [None, 0, True, known[0].encode(), [known[0]]]) for name, known in NAMES.items()),
+    (ValueError, [MADE.objects], [0, -1, 2**32, 2**32 + 4]), (TypeError, [MADE.objects], ["4", 1.0]),
+    (ValueError, [MADE.sheet], ["page", ""]), (TypeError, [MADE.sheet], [1, None]),
+    (ValueError, [MADE.parts], [[1, 2], range(COUNT), [7] * COUNT, [2**32] * COUNT, [-1] * COUNT]), (TypeError, [MADE.parts], [["1"] * COUNT, 5]),
+    (TypeError, [lambda it: MADE.parts(range(1, 1 + COUNT), **it)], [{"compress": 9}, {"pack": "zlib"}, {"pack": bytes.hex}, {"filter": b"/Own"}]),
+    (ValueError, [lambda it: MADE.parts(range(1, 1 + COUNT), **it)], [{"filter": "FlateDecode"}, {"filter": "/\xc4"}, {"compress": True, "filter": "/Own"}]),
+    (ValueError, [lambda it: subsetter.codes_of(SHOWN, it)], ["cids"]),
+]
+
+
+@pytest.mark.parametrize("kind, calls, values", WRONG)
+def test_wrong_values(kind, calls, values):
+    for call, value in itertools.product(calls, values):
+        error = raised(call, value)
+        assert type(error) is kind and alone(error), value
+
+
+@pytest.mark.parametrize("name", RANGES)
+def test_a_number_that_python_doesnt_write(name):
+    for call in by(name):
+        error = raised(call, 10**5000)
+        assert type(error) is ValueError and alone(error) and str(error).startswith(f"{name} is ")
 
 
 # ---- errors and names
@@ -235,6 +253,7 @@ def test_no_coordinates():
     (subsetter.InvalidText, "invalid text: U+DFFF is an unpaired surrogate", lambda: subsetter.glyphs_of(TTF, "A\udfff")),
     (subsetter.InvalidText, "invalid text: U+D800 is an unpaired surrogate", lambda: subsetter.codes_of([(1, "\ud800")])),
     (subsetter.InvalidText, "invalid text: a text has more than 256 UTF-16 units", lambda: subsetter.pdf_font(TTF, [(1, "\U0001f600" * 129)])),
+    (subsetter.OverflowError, "overflow occurred: the numbers from 4294967289 on don't fit 32 bits", lambda: MADE.objects(2**32 - 7)),
 ])
 def test_messages_say_why(kind, message, call):
     error = raised(call)
@@ -245,20 +264,15 @@ def test_errors():
     bases = {"OverflowError": (subsetter.Error, builtins.OverflowError), "OutOfMemory": (subsetter.Error, MemoryError),
              "InvalidText": (subsetter.Error, ValueError), "Overfull": (subsetter.OverflowError,), "BitmapsAlone": (subsetter.UnknownKind,)}
     library = subsetter._library()
-    assert raised(subsetter._check, library, 0) is None
+    assert raised(subsetter._check, library, 0) is raised(subsetter.pdf_font, TTF, [(1, "a" * 256)]) is None and subsetter.Error.__bases__ == (Exception,)
     for status in [*range(1, 20), 255, 256, 2**32 - 1]:
         error = raised(subsetter._check, library, status)
-        if status in ERRORS:
-            kind = getattr(subsetter, ERRORS[status])
-            assert type(error) is kind and str(error) == TEXTS.get(status, "too many codes")
-            assert kind.__bases__ == bases.get(kind.__name__, (subsetter.Error,))
-            again = pickle.loads(pickle.dumps(error))
-            assert type(again) is kind and again.args == error.args
-        elif status == 16:
-            assert type(error) is ValueError
-        else:
-            assert type(error) is RuntimeError and f"status {status}" in str(error)
-    assert subsetter.Error.__bases__ == (Exception,)
+        if status not in ERRORS:
+            assert type(error) is (ValueError if status == 16 else RuntimeError) and (status == 16 or f"status {status}" in str(error))
+            continue
+        kind, again = getattr(subsetter, ERRORS[status]), pickle.loads(pickle.dumps(error))
+        assert type(error) is type(again) is kind and again.args == error.args and str(error) == TEXTS.get(status, "too many codes")
+        assert kind.__bases__ == bases.get(kind.__name__, (subsetter.Error,))
 
 
 def test_names():

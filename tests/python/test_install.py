@@ -1,19 +1,16 @@
-"""The packages: pip installs the module from a clone and from the sdist, without a network, and each has its files."""
+"""The packages: pip builds and installs the sdist, without a network, and each has its files. (tests/test_documents.py installs a clone.)"""
 
 import base64
 import hashlib
 import re
-import shutil
 import sys
 import sysconfig
 import tarfile
-import textwrap
 import zipfile
 from pathlib import Path
 
 import pytest
-from common import MODULE, ROOT, run
-from support import blocks
+from common import MODULE, ROOT, examples, run
 
 sys.path.insert(0, str(MODULE))
 import subsetter_build  # noqa: E402
@@ -24,32 +21,17 @@ INFO = f"{FRONT}.dist-info"
 FONT = Path("/usr/share/fonts/truetype/dejavu/DejaVuSans.ttf")
 
 
-def examples():
-    """The examples of the README and of the module's docstring."""
-    found = [it for it in blocks((MODULE / "README.md").read_text(), "python") if it.startswith("import ")]
-    docstring = (MODULE / "subsetter/__init__.py").read_text().split('"""')[1]
-    return found + [textwrap.dedent(it) for it in re.findall(r"(?<=\n\n)(?:    .*\n)+", docstring)]
-
-
 @pytest.fixture(scope="module")
 def room(tmp_path_factory):
-    """A folder with the files of a clone that the module is built of, and an environment of Python."""
+    """A folder with the sdist, and an environment of Python."""
     room = tmp_path_factory.mktemp("an install")
-    leave = shutil.ignore_patterns("target", "out", "__pycache__", "*.so")
-    for name in ("python", "capi", "rust"):
-        shutil.copytree(ROOT / "bindings" / name, room / "clone/bindings" / name, ignore=leave)
-    for name in ("LICENSE", "NOTICE"):
-        shutil.copy(ROOT / name, room / "clone")
+    subsetter_build.build_sdist(room)
     assert run(sys.executable, "-m", "venv", room / "venv").returncode == 0
     return room
 
 
 def pip(room, *words, **env):
     return run(room / "venv/bin/python", "-m", "pip", *words, "--no-index", "--no-cache-dir", **env)
-
-
-def files_of(folder):
-    return {path: path.read_bytes() for path in folder.rglob("*") if path.is_file() and "__pycache__" not in path.parts}
 
 
 def check_wheel(path, platform, traces):
@@ -83,10 +65,10 @@ def test_tags(tmp_path):
         subsetter_build.build_wheel(tmp_path, {"target": "mips-unknown-linux-gnu"})
 
 
-def test_sdist(tmp_path):
+def test_sdist(room, tmp_path):
     """(That it lacks nothing the wheel of it shows.)"""
-    made = [(tmp_path / subsetter_build.build_sdist(tmp_path)).read_bytes() for _ in range(2)]
-    assert made[0] == made[1] and [it.name for it in tmp_path.iterdir()] == [f"{FRONT}.tar.gz"]
+    made = [folder / f"{FRONT}.tar.gz" for folder in (room, tmp_path)]
+    assert subsetter_build.build_sdist(tmp_path) == made[1].name and made[0].read_bytes() == made[1].read_bytes()
     with tarfile.open(tmp_path / f"{FRONT}.tar.gz") as file:
         members, names = file.getmembers(), file.getnames()
     own = r"crates/(capi|rust)/(src/.*|Cargo\.toml|Cargo\.lock|build\.rs|README\.md)|subsetter/(__init__\.py|py\.typed)|PKG-INFO|LICENSE|NOTICE|README\.md|pyproject\.toml|subsetter_build\.py"
@@ -94,32 +76,21 @@ def test_sdist(tmp_path):
     assert {(it.mtime, it.uid, it.uname, it.mode) for it in members} == {(315532800, 0, "", 0o644)}
 
 
-def test_install(room, tmp_path):
-    before = files_of(room / "clone")
-    ran = pip(room, "install", room / "clone/bindings/python")
+def test_wheel_of_the_sdist(room, tmp_path):
+    """Built by its own crates, installed, and run in an empty folder."""
+    ran = pip(room, "wheel", "-w", tmp_path / "wheel", room / f"{FRONT}.tar.gz")
     assert ran.returncode == 0, ran.stdout
-    # The module runs in an empty folder, without the clone.
+    [wheel] = (tmp_path / "wheel").iterdir()
+    check_wheel(wheel, re.sub(r"\W", "_", sysconfig.get_platform()), [tmp_path, "/tmp/", ROOT])
+    assert pip(room, "install", wheel).returncode == 0
     (tmp_path / "font.ttf").write_bytes(FONT.read_bytes())
     assert len(examples()) == 5
     for program in examples():
         end = "embedded.font == font, embedded.cids" if "embedded" in program else "font.codes[:4]"
         ran = run(room / "venv/bin/python", "-c", f"{program}\nimport sys; print(subsetter.__file__.startswith(sys.prefix), {end})", folder=tmp_path)
         assert ran.stdout == f"True {'True [1, 2]' if 'cids' in end else '[1, 2, 3, 3]'}\n"
-    assert (tmp_path / "hello.pdf").read_bytes().startswith(b"%PDF-1.7")
-    assert files_of(room / "clone") == before
-
-
-def test_wheel_of_the_sdist(room, tmp_path):
-    """Built by its own crates, as the clone is away."""
-    subsetter_build.build_sdist(tmp_path)
-    (room / "clone").rename(room / "away")
-    ran = pip(room, "wheel", "-w", tmp_path / "wheel", tmp_path / f"{FRONT}.tar.gz")
-    (room / "away").rename(room / "clone")
-    assert ran.returncode == 0, ran.stdout
-    [wheel] = (tmp_path / "wheel").iterdir()
-    check_wheel(wheel, re.sub(r"\W", "_", sysconfig.get_platform()), [tmp_path, "/tmp/", ROOT])
 
 
 def test_without_cargo(room, tmp_path):
-    ran = pip(room, "wheel", "-w", tmp_path, room / "clone/bindings/python", PATH=tmp_path)
+    ran = pip(room, "wheel", "-w", tmp_path, room / f"{FRONT}.tar.gz", PATH=tmp_path)
     assert ran.returncode != 0 and "no cargo on the PATH" in ran.stdout

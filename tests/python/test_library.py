@@ -1,10 +1,10 @@
 """Where the library is looked for and what is refused of one; the module in threads and forked processes."""
 
+import concurrent.futures
 import ctypes
 import os
 import re
 import shutil
-import threading
 
 import pytest
 import subsetter
@@ -72,57 +72,45 @@ def test_systems(places, system, name):
 
 
 CALLS = ["make_subset_by_words", "make_embedded_by_words", "make_subset_at_by_words", "make_embedded_at_by_words", "error_text", "free"]
-
-
-def other_library(path, calls, status):
-    path.with_suffix(".c").write_text("\n".join(f"unsigned subsetter_{name}(void) {{ return {status}; }}" for name in calls))
-    support.library(path.stem, path.with_suffix(".c"), path.parent)
+FOR_PDF = """
+import subsetter
+for call, *arguments in ((subsetter.subset, b"", []), (subsetter.glyphs_of, b"", "A"), (subsetter.pdf_font, b"", [(1, "A")]), (subsetter.glyphs_of, b"", 5)):
+    try:
+        call(*arguments)
+    except Exception as error:
+        print(type(error).__name__, end=" ")
+"""
 
 
 def test_libraries_of_other_versions(places):
     named, loaded = places[0][3], places[1]
-    other_library(named, CALLS, 99)
-    assert "answers status 99: it is of another version" in loaded(named)
-    other_library(named, CALLS[:-1], 99)
+
+    def other(calls, status, program=LOADED):
+        named.with_suffix(".c").write_text("\n".join(f"unsigned subsetter_{name}(void) {{ return {status}; }}" for name in calls))
+        support.library(named.stem, named.with_suffix(".c"), named.parent)
+        return loaded(named, program=program)
+    assert "answers status 99: it is of another version" in other(CALLS, 99)
     # (what the first call refuses the second refuses, too)
-    assert loaded(named, program=LOADED + LOADED[LOADED.index("try:"):]).count(f"{named} has no call subsetter_free: it is of another version\n") == 2
-    for_pdf = """
-        import subsetter
-        for call, *arguments in ((subsetter.subset, b"", []), (subsetter.glyphs_of, b"", "A"), (subsetter.pdf_font, b"", [(1, "A")]), (subsetter.glyphs_of, b"", 5)):
-            try:
-                call(*arguments)
-            except Exception as error:
-                print(type(error).__name__, end=" ")
-    """
-    other_library(named, CALLS, 2)
-    assert loaded(named, program=for_pdf) == "MalformedFont NotImplementedError NotImplementedError TypeError "
-    other_library(named, [*CALLS, "glyphs_of"], 2)
-    assert loaded(named, program=for_pdf) == "OSError OSError OSError TypeError "
+    assert other(CALLS[:-1], 99, LOADED + LOADED[LOADED.index("try:"):]).count(f"{named} has no call subsetter_free: it is of another version\n") == 2
+    assert other(CALLS, 2, FOR_PDF) == "MalformedFont NotImplementedError NotImplementedError TypeError "
+    assert other([*CALLS, "glyphs_of"], 2, FOR_PDF) == "OSError OSError OSError TypeError "
 
 
 # ---- threads
 
 def test_threads_answer_alike():
+    """(Python's lock is held by a PyDLL alone: other threads go on while a call runs.)"""
+    assert not isinstance(subsetter._library(), ctypes.PyDLL)
     few = [row for row in ROWS if isinstance(row.wanted, bytes) and len(row.glyphs) < 1000 and 0 not in row.choices.values()]
     font = subsetter.pdf_font(made("made.ttf"), [(1, "A"), (5, "fi")])
-    pdf, wrong = (font.objects(4), font.sheet()), []
+    pdf = font.objects(4), font.sheet()
 
-    def many():
-        for _ in range(20):
-            wrong.extend(row.name for row in few if subsetter.subset(row.font, row.glyphs, row.index, **row.choices) != row.wanted)
-            wrong.extend("PDF" for _ in range(10) if (font.objects(4), font.sheet()) != pdf)
+    def wrong(_):
+        found = [row.name for row in few if subsetter.subset(row.font, row.glyphs, row.index, **row.choices) != row.wanted]
+        return found + ["PDF" for _ in range(10) if (font.objects(4), font.sheet()) != pdf]
 
-    threads = [threading.Thread(target=many) for _ in range(3)]
-    for thread in threads:
-        thread.start()
-    for thread in threads:
-        thread.join()
-    assert len(few) > 100 and not wrong
-
-
-def test_other_threads_go_on_while_a_call_runs():
-    """(Python's lock is held by a PyDLL alone.)"""
-    assert not isinstance(subsetter._library(), ctypes.PyDLL)
+    with concurrent.futures.ThreadPoolExecutor(3) as threads:
+        assert len(few) > 100 and not any(threads.map(wrong, range(60)))
 
 
 def test_two_first_calls_at_once():
@@ -149,18 +137,7 @@ def test_two_first_calls_at_once():
     """) == "True True\n"
 
 
-# ---- loaded again, and forked processes
-
-def test_loaded_again():
-    assert child("""
-        import _ctypes
-        from programs import *
-        for _ in range(20):
-            _ctypes.dlclose(subsetter._loaded._handle)
-            subsetter._loaded = None
-            print("subsetter.so" in open("/proc/self/maps").read(), answers(subsetter) == wanted, end=" ")
-    """) == "False True " * 20
-
+# ---- forked processes
 
 def test_forked_processes():
     """What was loaded and made before is there in both, also where another thread was about to load the library."""
@@ -178,15 +155,9 @@ def test_forked_processes():
         def is_well():
             return parts(font) == before and answers(subsetter) == wanted
 
-        def gives_back():
-            global font
-            font = None
-            return answers(subsetter) == wanted
-
         font = subsetter.pdf_font(made("made.ttf"), [(1, "A")])
         before = parts(font)
-        print(forked(is_well), is_well(), forked(gives_back), is_well(), end=" ")
-
+        print(forked(is_well), is_well(), end=" ")
         subsetter._loaded, declare, begun, ends = None, subsetter._declare, threading.Event(), threading.Event()
 
         def slow(library):
@@ -203,16 +174,4 @@ def test_forked_processes():
         ends.set()
         other.join()
         print(answers(subsetter) == wanted)
-    """) == "0 True 0 True 0 True\n"
-
-
-def test_what_another_module_declares_of_pythons_calls():
-    """All modules share `ctypes.pythonapi`."""
-    assert child("""
-        import ctypes, subsetter
-        ctypes.pythonapi.PyObject_GetBuffer.argtypes = ctypes.pythonapi.PyBuffer_Release.argtypes = [ctypes.c_int]
-        try:
-            subsetter.subset(bytes(4), [])
-        except subsetter.UnknownKind:
-            print("read")
-    """) == "read\n"
+    """) == "0 True 0 True\n"

@@ -14,11 +14,10 @@ def test_lists_are_there_until_the_end_of_a_call():
             for coordinates in (None, {"wght": 1, "wdth": 2}):
                 found = subsetter.embed(font, [2, 1] * count, coordinates=coordinates)
                 print(found.cids == [1, 2] * count and found.widths == [500, 250, 600], end=" ")
-                subset = subsetter.subset(font, [2, 1] * count, hinting=False, coordinates=coordinates)
-                print(subset == subsetter.subset(font, [2, 1], hinting=False), end=" ")
-            print(subsetter.glyphs_of(text, "AH" * count) == [(1, "A"), (9, "H")] * count, end=" ")
-            entries = ((glyph, letter) for _ in range(count) for glyph, letter in ((1, "A"), (9, "H")))
-            print(subsetter.pdf_font(text, entries, coordinates={"wght": 1}).codes == [1, 2] * count, end=" ")
+                print(subsetter.subset(font, [2, 1] * count, coordinates=coordinates) == found.font, end=" ")
+            entries = subsetter.glyphs_of(text, "AH" * count)
+            print(entries == [(1, "A"), (9, "H")] * count, end=" ")
+            print(subsetter.pdf_font(text, iter(entries), coordinates={"wght": 1}).codes == [1, 2] * count, end=" ")
         font = subsetter.pdf_font(text, [(1, "A"), (9, "H")])
         print(font.sheet() == font.sheet("line") != font.sheet("grid"))
     """ % FONTS["three_advances"].hex(), PYTHONMALLOC="malloc", MALLOC_PERTURB_="165") == "True " * 24 + "True\n"
@@ -32,13 +31,12 @@ def test_no_font_is_copied():
         subsetter._library()
         size = int(open("/proc/self/statm").read().split()[0]) * 4096
         resource.setrlimit(resource.RLIMIT_AS, (size + 20_000_000,) * 2)
-        for call in (subsetter.subset, subsetter.embed):
-            for buffer in (font, memoryview(font), memoryview(font).toreadonly()):
-                try:
-                    call(buffer, [1])
-                except subsetter.Error as error:
-                    print(type(error).__name__, end=" ")
-    """) == 6 * "UnknownKind "
+        for buffer in (font, memoryview(font), memoryview(font).toreadonly()):
+            try:
+                subsetter.embed(buffer, [1])
+            except subsetter.Error as error:
+                print(type(error).__name__, end=" ")
+    """) == 3 * "UnknownKind "
 
 
 REFUSED = """

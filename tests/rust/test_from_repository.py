@@ -4,6 +4,7 @@ Cargo has an empty home and no network, and a build reaches neither rt nor Pytho
 worked rows and must give that row's bytes.
 """
 import os
+import re
 import subprocess
 import tarfile
 
@@ -28,14 +29,8 @@ def write(path, text):
 
 def row():
     """The font of the row `simple`, and its subset with glyph 2."""
-    fonts = {}
-    with open(os.path.join(ROOT, "crates/dev_rows/data/subset.txt"), encoding="utf-8") as lines:
-        for words in map(str.split, lines):
-            if words[:1] == ["font"]:
-                fonts[words[1]] = words[2]
-            elif words[:2] == ["subset", "simple"]:
-                return bytes.fromhex(fonts[words[2]]), bytes.fromhex(words[6])
-    return None
+    rows = (ROOT / "crates/dev_rows/data/subset.txt").read_text(encoding="utf-8")
+    return [bytes.fromhex(re.search(rf"^{it} (\S+)$", rows, re.M)[1]) for it in ("font three_glyphs", "subset simple three_glyphs 0 2 0")]
 
 
 class Users:

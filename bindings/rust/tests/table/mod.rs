@@ -9,21 +9,8 @@ use std::fs;
 use subsetter::{Embedded, Error, Limits, Options, Tag};
 use words::{bytes, numbers, short_numbers};
 
-/// The calls of rows, each with how many numbers of options its rows have.
-const CALLS: [(&str, usize); 9] = [
-    ("subset", 0),
-    ("limits", 2),
-    ("options", 3),
-    ("bounded_options", 4),
-    ("embed", 0),
-    ("embed_options", 3),
-    ("embed_bounded_options", 4),
-    ("subset_at", 4),
-    ("embed_at", 4),
-];
-
 pub struct Row {
-    pub call: &'static str,
+    pub call: String,
     pub name: String,
     pub font: Vec<u8>,
     pub index: u32,
@@ -79,24 +66,19 @@ impl Table {
             ["font", name, digits] => {
                 self.fonts.insert(name.to_string(), bytes(digits));
             }
-            _ => {
-                let call = CALLS.iter().find(|it| it.0 == words[0]);
-                let (call, choices) = call.unwrap_or_else(|| panic!("no row: {}", line));
-                self.rows.push(row(call, *choices, &words, &self.fonts));
-            }
+            _ => self.rows.push(row(&words, &self.fonts)),
         }
     }
 }
 
-fn row(call: &'static str, choices: usize, words: &[&str], fonts: &HashMap<String, Vec<u8>>) -> Row {
+fn row(words: &[&str], fonts: &HashMap<String, Vec<u8>>) -> Row {
+    let call = words[0].to_string();
     let first = if call.ends_with("_at") { 6 } else { 5 };
+    let (choices, behind) = words[first..].split_at(words.len() - first - if call.starts_with("embed") { 4 } else { 2 });
     let mut choice = [0; 4];
-    for (number, word) in choice.iter_mut().zip(&words[first..first + choices]) {
+    for (number, word) in choice.iter_mut().zip(choices) {
         *number = word.parse().unwrap();
     }
-    let behind = &words[first + choices..];
-    let is_embedded = call.starts_with("embed");
-    assert_eq!(behind.len(), if is_embedded { 4 } else { 2 }, "{}", words[1]);
     let list = |at: usize| behind.get(at).copied().unwrap_or("-");
     Row {
         call,
