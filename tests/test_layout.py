@@ -192,6 +192,8 @@ ALLOWED = {
     ("glyph_kinds", "entries_of"): (2, "passes on that of `Table::parse`"),
     ("pdf_cff", "unless_memory"): (2, "passes on that of its argument"),
     ("subsetter_boxes", "unless_memory"): (2, "passes on that of its argument"),
+    ("subset_pdf", "unless_memory"): (2, "passes on that of its argument"),
+    ("own_choice", "size_at"): (2, "passes on that of `draw`"),
     ("glyph_names", "read_charset"): (2, "passes on that of `Table::parse`"),
     ("subsetter_text_c", "add_pairs"): (1, "of `codes_of` without OverflowError"),
     ("subsetter_text_c", "glyphs_of"): (1, "`OwnGlyphs::of` has no other error"),
