@@ -1041,23 +1041,28 @@ static void change(uint8_t *font, const char *how)
 /* A row of reasons.txt, in a buffer that is exact, or is too small by a byte. */
 static void try_reasons(void)
 {
-    static const char *const calls[] = {"subset", "subset_at", "embed", "embed_at", "pdf_font", "glyphs_of", "advances"};
+    static const char *const calls[] = {"subset", "subset_at", "embed", "embed_at", "pdf_font", "glyphs_of", "advances", "text"};
     const char *name = word();
     uint32_t call = 0, status = SUBSETTER_INVALID_NUMBERS;
     size_t size, length;
     while (strcmp(calls[call], name) != 0)
         call++;
+    call = call > SUBSETTER_CALL_ADVANCES ? SUBSETTER_CALL_ADVANCES : call;
     uint8_t *font = file_of(word(), &size), why[128];
     const uint32_t face = (uint32_t)strtoul(word(), NULL, 10);
     change(font, word());
     const subsetter_coordinate at = {SUBSETTER_TAG('w', 'g', 'h', 't'), (int32_t)strtol(word(), NULL, 10) * 65536};
     const char choice = *word();
-    const subsetter_options options = {sizeof options, choice == 't' ? 5 : 0, 0, choice == 'n' ? SUBSETTER_DROP_NAMES : 0, 0}, unknown = {sizeof options, 0, 0, 8, 0};
-    const uint16_t glyph = (uint16_t)strtoul(word(), NULL, 10);
+    const subsetter_options options = {sizeof options, choice == 't' ? 5 : 0, 0, choice == 'n' ? SUBSETTER_DROP_NAMES : 0, choice == 'm' ? 9 : 0}, unknown = {sizeof options, 0, 0, 8, 0};
+    uint16_t glyphs[65536];
+    const char *given = word();
+    const size_t count = *given == 'a' ? 65536 : 1;
+    for (size_t i = 0; i < count; i++)
+        glyphs[i] = (uint16_t)(i + strtoul(given, NULL, 10));
     const char *wanted = (word(), strtok(NULL, ""));
     while (status > 0 && strncmp(wanted, subsetter_status_text(status), strlen(subsetter_status_text(status))) != 0)
         status--;
-#define WHY(CALL, OPTIONS, ROOM) subsetter_explain(CALL, said, font, size, face, &at, at.value != 0, &glyph, 1, OPTIONS, why, ROOM, &length)
+#define WHY(CALL, OPTIONS, ROOM) subsetter_explain(CALL, said, font, size, face, &at, at.value != 0, glyphs, count, OPTIONS, why, ROOM, &length)
     /* (a call that succeeds has no reason for any status) */
     for (uint32_t said = status == 0 ? 1 : status; said <= (status == 0 ? 7 : status); said++) {
         memset(why, FILLED, sizeof why);
