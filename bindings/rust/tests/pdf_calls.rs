@@ -359,7 +359,7 @@ fn the_font_shows_why() {
             "names=no" => Options::new().names(false),
             _ => Options::new(),
         };
-        let mapper = &GlyphRemapper::new_from_glyphs(glyphs);
+        let mapper = &GlyphRemapper::new_from_glyphs(&glyphs[..1]);
         let (mut text, calls) = match words[1] {
             "subset" => asked(subset_with_options(font, face, mapper, options), Call::Subset),
             "embed" => asked(embed_with_options(font, face, glyphs, options), Call::Embed),

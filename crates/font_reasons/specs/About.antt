@@ -3,12 +3,12 @@ use Rattle.std.specs.Prelude.{ℕ, Option, Some, None, codes}
 use Rattle.subsetter_base.specs.declared.tag.Tag.{Tag}
 use Rattle.font_reasons.specs.declared.reason.Reason.{Reason}
 use Rattle.font_reasons.specs.declared.reason.Reason.TheVariants.{Cut, BitmapsAlone, NoGlyph, NoTable, NoEntries}
-use Rattle.font_reasons.specs.declared.reason.Reason.TheVariants.{LocFormat, Descends, Outside, CutHeader}
-use Rattle.font_reasons.specs.declared.reason.Reason.TheVariants.{CutComponent, ByComponent, NoMetrics, FewMetrics, NoMetric, NoUnits}
+use Rattle.font_reasons.specs.declared.reason.Reason.TheVariants.{LocFormat, Descends, Outside, CutHeader, CutComponent}
+use Rattle.font_reasons.specs.declared.reason.Reason.TheVariants.{ByComponent, NoMetrics, FewMetrics, NoMetric, NoUnits}
 use Rattle.font_reasons.specs.declared.reason.Reason.TheVariants.{Short, LostName, NoUnicode, ShortMap, OnlyCff2}
-use Rattle.font_reasons.specs.declared.reason.Reason.TheVariants.{Forbidden, Cff2Version, OtherVersion, AxisSize, AxisCount, Unread}
-use Rattle.font_reasons.specs.declared.reason.Reason.TheVariants.{NoCharstring, WrongCharstring, Composed, WrongOutline}
-use Rattle.font_reasons.specs.declared.reason.Reason.TheVariants.{Deep, Unvaried, WrongMetric}
+use Rattle.font_reasons.specs.declared.reason.Reason.TheVariants.{Forbidden, Cff2Version, OtherVersion, AxisSize}
+use Rattle.font_reasons.specs.declared.reason.Reason.TheVariants.{AxisCount, Unread, NoCharstring, WrongCharstring}
+use Rattle.font_reasons.specs.declared.reason.Reason.TheVariants.{Composed, WrongOutline, Deep, Unvaried, WrongMetric}
 
 -- the table whose bytes show it, or that isn't there
 abbrev pub reason_table : Reason → Option Tag

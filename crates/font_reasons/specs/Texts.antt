@@ -7,13 +7,14 @@ use Rattle.subsetter_base.specs.declared.tag.Tag.{Tag}
 use Rattle.font_reasons.specs.declared.reason.Reason.{Reason}
 use Rattle.font_reasons.specs.declared.reason.Reason.TheVariants.{Woff, Woff2, Type1, Eot, Pdf, Begins, NotFont, Empty}
 use Rattle.font_reasons.specs.declared.reason.Reason.TheVariants.{NoFace, NoHeader, CutDirectory, Cut, NoOutlines}
-use Rattle.font_reasons.specs.declared.reason.Reason.TheVariants.{BitmapsAlone, NoGlyph, NoTable, NoEntries, LocFormat, Descends, Outside}
-use Rattle.font_reasons.specs.declared.reason.Reason.TheVariants.{CutHeader, CutComponent, ByComponent, NoMetrics}
-use Rattle.font_reasons.specs.declared.reason.Reason.TheVariants.{FewMetrics, NoMetric, NoUnits, Short, LostName}
-use Rattle.font_reasons.specs.declared.reason.Reason.TheVariants.{NoUnicode, ShortMap, OnlyCff2, Forbidden, Cff2Version, OtherVersion}
-use Rattle.font_reasons.specs.declared.reason.Reason.TheVariants.{AxisSize, AxisCount, Unread, NoCharstring}
-use Rattle.font_reasons.specs.declared.reason.Reason.TheVariants.{WrongCharstring, Composed, WrongOutline, Deep}
-use Rattle.font_reasons.specs.declared.reason.Reason.TheVariants.{Unvaried, WrongMetric, AllGlyphs, TightLimits}
+use Rattle.font_reasons.specs.declared.reason.Reason.TheVariants.{BitmapsAlone, NoGlyph, NoTable, NoEntries, LocFormat}
+use Rattle.font_reasons.specs.declared.reason.Reason.TheVariants.{Descends, Outside, CutHeader, CutComponent}
+use Rattle.font_reasons.specs.declared.reason.Reason.TheVariants.{ByComponent, NoMetrics, FewMetrics, NoMetric, NoUnits}
+use Rattle.font_reasons.specs.declared.reason.Reason.TheVariants.{Short, LostName, NoUnicode, ShortMap, OnlyCff2}
+use Rattle.font_reasons.specs.declared.reason.Reason.TheVariants.{Forbidden, Cff2Version, OtherVersion, AxisSize}
+use Rattle.font_reasons.specs.declared.reason.Reason.TheVariants.{AxisCount, Unread, NoCharstring, WrongCharstring}
+use Rattle.font_reasons.specs.declared.reason.Reason.TheVariants.{Composed, WrongOutline, Deep, Unvaried, WrongMetric}
+use Rattle.font_reasons.specs.declared.reason.Reason.TheVariants.{AllGlyphs, TightLimits}
 
 -- a number between two texts
 abbrev pub between : List ℕ → ℕ → List ℕ → List ℕ
