@@ -1,6 +1,6 @@
 -- The texts of reasons.
 use Rattle.std.specs.Prelude.{ℕ, ◌+◌, ◌-◌, ◌*◌, ◌/◌, ◌%◌, ◌==◌, ◌&&◌, nat_le, nat_lt, Bool, false, if◌then◌else◌}
-use Rattle.std.specs.Prelude.{List, ◌++◌, get_or, take, codes, decimal}
+use Rattle.std.specs.Prelude.{List, [], ◌++◌, get_or, take, codes, decimal}
 use Rattle.std.specs.Fmt.{radix_digits}
 use Rattle.subsetter_base.specs.Texts.{tag_text}
 use Rattle.subsetter_base.specs.declared.tag.Tag.{Tag}
@@ -88,19 +88,18 @@ is_text tag =
     is_printable (get_or tag.0 0 0)
     && (is_printable (get_or tag.0 1 0) && (is_printable (get_or tag.0 2 0) && is_printable (get_or tag.0 3 0)))
 
--- the first bytes of a file, in hexadecimal digits, and as a text where they are one
+-- the first bytes of a file in hexadecimal digits, and as a text where they are one
+abbrev pub front_digits : Tag → List ℕ
+front_digits tag =
+    hex_text (256 * get_or tag.0 0 0 + get_or tag.0 1 0) ++ hex_text (256 * get_or tag.0 2 0 + get_or tag.0 3 0)
+
+abbrev pub front_text : Tag → List ℕ
+front_text tag = if is_text tag then codes " (" ++ (tag_text tag.0 ++ codes ")") else []
+
 abbrev pub begin_text : Tag → List ℕ
 begin_text tag =
-    if is_text tag then
     codes "not a font: its first bytes are "
-    ++ (hex_text (256 * get_or tag.0 0 0 + get_or tag.0 1 0)
-    ++ (hex_text (256 * get_or tag.0 2 0 + get_or tag.0 3 0)
-    ++ (codes " (" ++ (tag_text tag.0 ++ codes "), none of TrueType, OpenType, a collection"))))
-    else
-    codes "not a font: its first bytes are "
-    ++ (hex_text (256 * get_or tag.0 0 0 + get_or tag.0 1 0)
-    ++ (hex_text (256 * get_or tag.0 2 0 + get_or tag.0 3 0)
-    ++ codes ", none of TrueType, OpenType, a collection"))
+    ++ (front_digits tag ++ (front_text tag ++ codes ", none of TrueType, OpenType, a collection"))
 
 abbrev pub reason_text : Reason → List ℕ
 reason_text Woff = codes "a WOFF file: unpack it first"

@@ -414,6 +414,44 @@ fn is_text(tag: Tag) -> bool
         && (is_printable(bytes[1]) && (is_printable(bytes[2]) && is_printable(bytes[3])))
 }
 
+/// Four bytes in hexadecimal digits.
+#[derive(Clone, Copy)]
+struct FrontDigits(Tag);
+
+impl fmt::Display for FrontDigits {
+    ghost use Rattle.std.specs.Prelude.{Some};
+    ghost use Rattle.font_reasons.specs.Texts.{front_digits};
+
+    ghost output = { λ it. Some (front_digits it.0) };
+
+    fn fmt<W: fmt::Write>(&self, f: &mut fmt::Formatter<W>) -> fmt::Result {
+        let FrontDigits(tag) = *self;
+        let bytes = tag.get();
+        let front = Hex(256 * u16::from(bytes[0]) + u16::from(bytes[1]));
+        let back = Hex(256 * u16::from(bytes[2]) + u16::from(bytes[3]));
+        write!(f, "{front}{back}")
+    }
+}
+
+/// Four bytes as a text, where they are one.
+#[derive(Clone, Copy)]
+struct FrontText(Tag);
+
+impl fmt::Display for FrontText {
+    ghost use Rattle.std.specs.Prelude.{Some};
+    ghost use Rattle.font_reasons.specs.Texts.{front_text};
+
+    ghost output = { λ it. Some (front_text it.0) };
+
+    fn fmt<W: fmt::Write>(&self, f: &mut fmt::Formatter<W>) -> fmt::Result {
+        let FrontText(tag) = *self;
+        if is_text(tag) {
+            return write!(f, " ({tag})");
+        }
+        f.write_str("")
+    }
+}
+
 /// That a file begins with four bytes, as no font does.
 #[derive(Clone, Copy)]
 struct BeginText(Tag);
@@ -426,18 +464,10 @@ impl fmt::Display for BeginText {
 
     fn fmt<W: fmt::Write>(&self, f: &mut fmt::Formatter<W>) -> fmt::Result {
         let BeginText(tag) = *self;
-        let bytes = tag.get();
-        let front = Hex(256 * u16::from(bytes[0]) + u16::from(bytes[1]));
-        let back = Hex(256 * u16::from(bytes[2]) + u16::from(bytes[3]));
-        if is_text(tag) {
-            return write!(
-                f,
-                "not a font: its first bytes are {front}{back} ({tag}), none of TrueType, OpenType, a collection"
-            );
-        }
+        let (digits, text) = (FrontDigits(tag), FrontText(tag));
         write!(
             f,
-            "not a font: its first bytes are {front}{back}, none of TrueType, OpenType, a collection"
+            "not a font: its first bytes are {digits}{text}, none of TrueType, OpenType, a collection"
         )
     }
 }

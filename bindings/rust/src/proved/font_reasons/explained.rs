@@ -273,7 +273,7 @@ fn not_kept_by(
     }
 }
 
-/// That limits may be too low for a call that has a most of bytes.
+/// That limits may be too low, where bytes have a bound.
 fn tight_limits(call: Call, tokens: u32, bytes: Option<u32>) -> Option<Reason> {
     if !takes_outlines(call) {
         return None;
@@ -305,7 +305,7 @@ fn seen_last(alloc: Global, asked: &Asked<'_>, font: &[u8]) -> Result<Option<Rea
 ///
 /// What is read at coordinates alone has a part in it where a static font is made there: not at the default of outlines in `glyf`.
 ///
-/// There is none where memory ran out, or a number in the new font is too large and the call has no most of bytes.
+/// There is none where memory ran out, or a number in the new font is too large and its bytes have no bound.
 ///
 /// # Errors
 ///

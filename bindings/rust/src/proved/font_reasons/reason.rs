@@ -345,6 +345,34 @@ fn is_text(tag: Tag) -> bool {
         && (is_printable(bytes[1]) && (is_printable(bytes[2]) && is_printable(bytes[3])))
 }
 
+/// Four bytes in hexadecimal digits.
+#[derive(Clone, Copy)]
+struct FrontDigits(Tag);
+
+impl fmt::Display for FrontDigits {
+    fn fmt(&self, f: &mut fmt::Formatter<'_>) -> fmt::Result {
+        let FrontDigits(tag) = *self;
+        let bytes = tag.get();
+        let front = Hex(256 * u16::from(bytes[0]) + u16::from(bytes[1]));
+        let back = Hex(256 * u16::from(bytes[2]) + u16::from(bytes[3]));
+        write!(f, "{front}{back}")
+    }
+}
+
+/// Four bytes as a text, where they are one.
+#[derive(Clone, Copy)]
+struct FrontText(Tag);
+
+impl fmt::Display for FrontText {
+    fn fmt(&self, f: &mut fmt::Formatter<'_>) -> fmt::Result {
+        let FrontText(tag) = *self;
+        if is_text(tag) {
+            return write!(f, " ({tag})");
+        }
+        f.write_str("")
+    }
+}
+
 /// That a file begins with four bytes, as no font does.
 #[derive(Clone, Copy)]
 struct BeginText(Tag);
@@ -352,18 +380,10 @@ struct BeginText(Tag);
 impl fmt::Display for BeginText {
     fn fmt(&self, f: &mut fmt::Formatter<'_>) -> fmt::Result {
         let BeginText(tag) = *self;
-        let bytes = tag.get();
-        let front = Hex(256 * u16::from(bytes[0]) + u16::from(bytes[1]));
-        let back = Hex(256 * u16::from(bytes[2]) + u16::from(bytes[3]));
-        if is_text(tag) {
-            return write!(
-                f,
-                "not a font: its first bytes are {front}{back} ({tag}), none of TrueType, OpenType, a collection"
-            );
-        }
+        let (digits, text) = (FrontDigits(tag), FrontText(tag));
         write!(
             f,
-            "not a font: its first bytes are {front}{back}, none of TrueType, OpenType, a collection"
+            "not a font: its first bytes are {digits}{text}, none of TrueType, OpenType, a collection"
         )
     }
 }
