@@ -194,7 +194,8 @@ enum {
     SUBSETTER_CALL_EMBED = 2,
     SUBSETTER_CALL_EMBED_AT = 3,
     SUBSETTER_CALL_PDF_FONT = 4,    /* also subsetter_make_text_font, with the glyphs of the runs */
-    SUBSETTER_CALL_GLYPHS_OF = 5,   /* also subsetter_glyph_kinds, and status 13 of subsetter_make_pdf_font_of_utf8 */
+    SUBSETTER_CALL_GLYPHS_OF = 5,   /* also subsetter_glyph_kinds, and status 13 of subsetter_make_pdf_font_of_utf8,
+                                       or for characters that are missing */
     SUBSETTER_CALL_ADVANCES = 6     /* also subsetter_new_text, without glyphs */
 };
 
@@ -202,7 +203,7 @@ enum {
  * to 6252"; "OS/2: fsType 0x0002 forbids embedding"). It is in UTF-8, without a zero at the end, of at most 127 bytes, for people, and
  * may change. `call` is one of SUBSETTER_CALL_.. (the calls in buffers and in memory of the library are one), and the font, the
  * coordinates, the glyphs and the options are those of that call; without coordinates there are none, and of `subsetter_pdf_options`
- * it takes tokens and depth. A charstring is run within the limits, once at most, and none after the first that can't be. It gets no
+ * it takes tokens, depth and bytes. A charstring is run within the limits, once at most, and none after the first that can't be. It gets no
  * text, and says nothing of it.
  *
  *     status = subsetter_make_subset(data, size, 0, glyphs, count, NULL, &made);

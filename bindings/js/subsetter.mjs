@@ -66,7 +66,7 @@ ERRORS[13] = NoCmap;
 ERRORS[14] = BitmapsAlone;
 ERRORS[15] = Overfull;
 ERRORS[16] = RangeError;
-const DONE = 0, OVERFLOW = 5, OUT_OF_MEMORY = 7, NOT_PERMITTED = 11, INVALID_NUMBERS = 16;
+const DONE = 0, OVERFLOW = 5, OUT_OF_MEMORY = 7, NOT_PERMITTED = 11, NO_CMAP = 13, INVALID_NUMBERS = 16;
 const PAGE = 65536, ALIGNMENT = 16, MEMORY_AT_MOST = 2 ** 31;
 const WORD_AT_MOST = 2 ** 32 - 1;
 const TOKENS = 1000000, DEPTH = 64;
@@ -524,17 +524,16 @@ class Library {
     #reason(status, name, font, index, glyphs = [], { tokens = TOKENS, depth = DEPTH, bytes = 0, drop = 0, coordinates = [] } = {}) {
         const isOfText = name === "subsetter_text_font", call = CALLS.indexOf(isOfText ? "subsetter_pdf_font" : name);
         const given = (coordinatesAt, glyphsAt) =>
-            [call, status, font.at, font.size, index, coordinatesAt, coordinates.length / 2, glyphsAt, glyphs.length, tokens, depth, drop, 0, 0];
+            [call, status, font.at, font.size, index, coordinatesAt, coordinates.length / 2, glyphsAt, glyphs.length, tokens, depth, bytes, drop, 0, 0];
         try {
             const { status: done, buffer, words } = this.#call("subsetter_explain", [listOf(4, coordinates), listOf(2, glyphs)], given);
             const [at, length] = words.slice(-2);
             if (done === DONE && length > 0) {
                 const found = new TextDecoder().decode(new Uint8Array(buffer.slice(at, at + length)));
-                const isWithout = found.startsWith("CFF2") && /_(subset|embed)$/.test(name);
+                const isWithout = found.startsWith("CFF2: its outlines") && /_(subset|embed)$/.test(name);
                 return `: ${found}${status === NOT_PERMITTED ? `: if you hold the rights, rights: "held"${isOfText ? " of new PdfText" : ""}` : isWithout ? ": coordinates: {} is the default" : ""}`;
             }
-            const limits = [tokens !== TOKENS ? `tokens is ${tokens}` : "", bytes ? `mostBytes is ${bytes}` : ""].filter(Boolean);
-            return status === OVERFLOW && limits.length > 0 ? `: ${limits.join(" and ")}` : "";
+            return status === OVERFLOW && tokens !== TOKENS ? `: tokens is ${tokens}` : "";
         } catch {
             return "";
         }
@@ -572,7 +571,8 @@ class Library {
         const { status, buffer, words } = this.#call("subsetter_read_text", [listOf(4, text)], given);
         explained(() => this.#check(status, "subsetter_glyphs_of", font, index), () => surrogateOf(text));
         const [entriesAt, entryCount, missingAt, missingCount] = words.slice(-4);
-        return { entries: numbersOf(4, buffer, entriesAt, 3 * entryCount), missing: numbersOf(4, buffer, missingAt, missingCount) };
+        const entries = numbersOf(4, buffer, entriesAt, 3 * entryCount), missing = numbersOf(4, buffer, missingAt, missingCount);
+        return { entries, missing, why: missingCount > 0 ? this.#reason(NO_CMAP, "subsetter_glyphs_of", font, index) : "" };
     }
 
     /** A font for a PDF of one that is held here. */
@@ -876,7 +876,7 @@ class PdfFont {
 }
 
 /** Each character of a text with its glyph. */
-function withGlyphs(text, { entries, missing }, choice) {
+function withGlyphs(text, { entries, missing, why }, choice) {
     const places = [0];
     for (const character of text) {
         places.push(places[places.length - 1] + character.length);
@@ -885,7 +885,7 @@ function withGlyphs(text, { entries, missing }, choice) {
     if (choice === 1 && lacking.length > 0) {
         const each = [...new Map(lacking.map((at) => [text.codePointAt(at), at]).reverse())].reverse();
         const named = each.slice(0, 20).map(([it, at]) => `U+${it.toString(16).toUpperCase().padStart(4, "0")} at ${at}`);
-        throw new MissingCharacters(`missing characters: ${named.join(", ")}${each.length > 20 ? `, and ${each.length - 20} more` : ""}`, lacking);
+        throw new MissingCharacters(`missing characters: ${named.join(", ")}${each.length > 20 ? `, and ${each.length - 20} more` : ""}${why}`, lacking);
     }
     const found = Array.from({ length: entries.length / 3 }, (_, i) => {
         const [glyph, start, end] = entries.slice(3 * i, 3 * i + 3);

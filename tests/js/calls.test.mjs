@@ -174,7 +174,8 @@ test("errors", () => {
 test("messages say why, and what is wanted", () => {
     const rows = [
         ["Unimplemented", "unsupported feature in font: CFF2: its outlines are taken at coordinates alone: coordinates: {} is the default", () => subsetter.embed(made("made_cff2.otf"), [1])],
-        ["OverflowError", "overflow occurred: mostBytes is 9", () => subsetter.subset(TTF, [1], { limits: { mostBytes: 9 } })],
+        ["OverflowError", "overflow occurred: more than the 9 bytes or 1000000 tokens of the limits, or a number that is too large", () => subsetter.subset(TTF, [1], { limits: { mostBytes: 9 } })],
+        ["MissingCharacters", "missing characters: U+0041 at 0: cmap: its table in format 4 has 172 bytes, needs 262152", () => subsetter.glyphsOf(changed("made.ttf", "cmap+20=0009000900000064000400480000fffe"), "A", { missing: "error" })],
         ["OverflowError", "overflow occurred: tokens is 1", () => subsetter.pdfFont(made("made_variable.ttf"), SHOWN, { coordinates: { wght: 650 }, limits: { tokens: 1 } })],
         ["NotPermitted", 'embedding not permitted: OS/2: fsType 0x0002 forbids embedding: if you hold the rights, rights: "held"', () => subsetter.pdfFont(changed("made.ttf", "OS/2+8=0002"), SHOWN)],
         ["NotPermitted", 'embedding not permitted: OS/2: fsType 0x0100 forbids subsets: if you hold the rights, rights: "held" of new PdfText', () => new subsetter.PdfText(changed("made.ttf", "OS/2+8=0100")).font()],

@@ -53,15 +53,18 @@ test("each row of characters", () => {
 });
 
 test("each row of reasons", () => {
-    const choices = { "tokens=5": { limits: { tokens: 5 } }, "names=no": { names: false } }, names = { pdf_font: "pdfFont", glyphs_of: "glyphsOf" };
+    const choices = { "tokens=5": { limits: { tokens: 5 } }, "names=no": { names: false }, "most_bytes=9": { limits: { mostBytes: 9 } } };
+    const names = { pdf_font: "pdfFont", glyphs_of: "glyphsOf" };
     for (const [, call, file, face, change, weight, option, glyph, , ...message] of rowsOf("reasons.txt")) {
         const font = changed(file, change), name = names[call] ?? call.replace("_at", ""), index = Number(face) || undefined, options = { ...choices[option] };
         if (call.endsWith("_at") || weight !== "-") options.coordinates = weight === "-" ? {} : { wght: Number(weight) };
-        const given = { pdf_font: [{ glyph: Number(glyph), text: "" }], glyphs_of: "A" }[call] ?? [Number(glyph)];
+        const glyphs = glyph === "all" ? Array.from({ length: 65536 }, (_, it) => it) : [Number(glyph)];
+        const given = { pdf_font: glyphs.map((it) => ({ glyph: it, text: "" })), glyphs_of: "A" }[call] ?? glyphs;
         // (after it is what the caller can do)
         const said = ({ message }) => message.replace(/: (if you hold|coordinates: ).*/, "");
-        assert.equal(outcome(() => subsetter[name](font, given, { index, ...options }) && "-", said), message.join(" "));
-        assert.equal(outcome(() => subsetter.open(font, { index })[name](given, options) && "-", said), message.join(" "));
+        const asked = () => name === "text" ? new subsetter.PdfText(font, { index, ...options }) : subsetter[name](font, given, { index, ...options });
+        assert.equal(outcome(() => asked() && "-", said), message.join(" "));
+        if (name !== "text") assert.equal(outcome(() => subsetter.open(font, { index })[name](given, options) && "-", said), message.join(" "));
     }
 });
 

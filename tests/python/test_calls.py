@@ -13,7 +13,7 @@ import types
 
 import pytest
 import subsetter
-from common import ERRORS, ROOT, made, raised, read_rows
+from common import ERRORS, ROOT, changed, made, raised, read_rows
 from hypothesis import example, given, strategies as st
 
 ROWS, FONTS, TEXTS = read_rows()
@@ -243,7 +243,9 @@ def test_a_number_that_python_doesnt_write(name):
 
 @pytest.mark.parametrize("kind, message, call", [
     (subsetter.Unimplemented, "unsupported feature in font: CFF2: its outlines are taken at coordinates alone: coordinates={} is the default", lambda: subsetter.subset(made("made_cff2.otf"), [])),
-    (subsetter.OverflowError, "overflow occurred: most_bytes is 9", lambda: subsetter.subset(TTF, [1], most_bytes=9)),
+    (subsetter.OverflowError, "overflow occurred: more than the 9 bytes or 1000000 tokens of the limits, or a number that is too large", lambda: subsetter.subset(TTF, [1], most_bytes=9)),
+    (subsetter.MissingCharacters, "missing characters: U+0041 at 0: cmap: its table in format 4 has 172 bytes, needs 262152",
+     lambda: subsetter.glyphs_of(changed("made.ttf", "cmap+20=0009000900000064000400480000fffe"), "A", missing="error")),
     (subsetter.OverflowError, "overflow occurred: tokens is 1", lambda: subsetter.advances(made("made_variable.ttf"), [1], coordinates={"wght": 650}, tokens=1)),
     (subsetter.NotPermitted, 'embedding not permitted: OS/2: fsType 0x0104 forbids subsets: if you hold the rights, rights="held"',
      lambda: subsetter.pdf_font(made("made.otf"), [])),

@@ -139,11 +139,13 @@ def test_characters(name, font, face, missing, entries):
 @pytest.mark.parametrize("row", rows_of("reasons"), ids=" ".join)
 def test_reasons(row):
     _, call, font, face, change, weight, option, glyph, _, *message = row
-    choices = {**({} if face == "0" else {"index": int(face)}), **{"tokens=5": {"tokens": 5}, "names=no": {"names": False}}.get(option, {})}
+    options = {"tokens=5": {"tokens": 5}, "names=no": {"names": False}, "most_bytes=9": {"most_bytes": 9}}
+    choices = {**({} if face == "0" else {"index": int(face)}), **options.get(option, {})}
     if "_at" in call or weight != "-":
         choices["coordinates"] = {} if weight == "-" else {"wght": int(weight)}
-    given = {"pdf_font": [(int(glyph), "")], "glyphs_of": "A"}.get(call, [int(glyph)])
-    error = raised(getattr(subsetter, call.replace("_at", "")), changed(font, change), given, **choices)
+    glyphs = range(65536) if glyph == "all" else [int(glyph)]
+    given = {"pdf_font": [[(it, "") for it in glyphs]], "glyphs_of": "A", "text": []}.get(call, [glyphs])
+    error = raised(getattr(subsetter, {"text": "PdfText"}.get(call, call.replace("_at", ""))), changed(font, change), *given, **choices)
     # (after it is what the caller can do)
     assert re.sub(": (if you hold|coordinates=).*", "", str(error or "-")) == " ".join(message)
 

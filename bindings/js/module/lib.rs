@@ -645,6 +645,7 @@ pub struct ReasonCall {
     glyphs: List<u16>,
     tokens: u32,
     depth: u32,
+    bytes: u32,
     drop: u32,
     text: List<u8>,
 }
@@ -655,7 +656,7 @@ pub struct ReasonCall {
 #[no_mangle]
 pub unsafe extern "C" fn subsetter_explain(it: &mut ReasonCall) -> u32 {
     let (font, coordinates, glyphs) = unsafe { (it.font.items(), it.coordinates.items(), it.glyphs.items()) };
-    let text = choices_of(it.tokens, it.depth, 0, it.drop).and_then(|choices| {
+    let text = choices_of(it.tokens, it.depth, it.bytes, it.drop).and_then(|choices| {
         let text = capi::explain(it.call, it.status, font, it.index, coordinates, glyphs, &choices);
         text.ok_or(UNKNOWN_OPTION)?.map_err(status_of)
     });

@@ -698,10 +698,10 @@ def _reason(library: ctypes.CDLL, status: int, asked: _Asked) -> str:
     found = out.raw[:length.value].decode("utf-8", "replace") if done == 0 else ""
     if found and _ERRORS[status] is NotPermitted:
         return f'{found}: if you hold the rights, rights="held"{asked.of}'
-    if found.startswith("CFF2") and asked.call in (_SUBSET, _EMBED):
+    if found.startswith("CFF2: its outlines") and asked.call in (_SUBSET, _EMBED):
         return f"{found}: coordinates={{}} is the default"
-    limits = {"tokens": asked.words[1], "most_bytes": asked.words[4]} if _ERRORS[status] is OverflowError else {}
-    return found or " and ".join(f"{name} is {limit}" for name, limit in limits.items() if limit)
+    tokens = asked.words[1] if _ERRORS[status] is OverflowError else 0
+    return found or (f"tokens is {tokens}" if tokens else "")
 
 
 def _check(
@@ -943,12 +943,14 @@ def glyphs_of(
         )
         asked = _Asked(_GLYPHS_OF, font, size, face, array("H"), array("I", [0] * 5))
         _check(library, status, asked, lambda: _surrogate(characters))
+        why = _reason(library, 13, asked) if is_strict and sizes.missing else ""
     found = TextGlyphs((it.glyph, text[it.start:it.end]) for it in entries[:sizes.entries])
     found.missing = places[:sizes.missing]
     if is_strict and found.missing:
         each = sorted({text[at]: at for at in reversed(found.missing)}.values())
         first = ", ".join(f"U+{ord(text[at]):04X} at {at}" for at in each[:20])
-        error = MissingCharacters(f"missing characters: {first}{f', and {len(each) - 20} more' if len(each) > 20 else ''}")
+        more = f", and {len(each) - 20} more" if len(each) > 20 else ""
+        error = MissingCharacters(f"missing characters: {first}{more}{why and f': {why}'}")
         error.missing = found.missing
         raise error
     return found

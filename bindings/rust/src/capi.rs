@@ -222,6 +222,7 @@ pub fn explain(
         coordinates: &settings,
         extras: choices.0.extras,
         limits: choices.0.limits,
+        most_bytes: choices.0.limits.bytes(),
     };
     let reason = reasons::explain(Global, data, &asked);
     Some(reason.map_err(refused).and_then(text))

@@ -25,7 +25,8 @@ pub enum Call {
     /// [`pdf_font`](crate::pdf::pdf_font), or [`Text::font`](crate::pdf::Text::font) with the glyphs of the runs.
     #[cfg(feature = "variable-fonts")]
     PdfFont(FontError),
-    /// [`glyphs_of`](crate::pdf::glyphs_of), or [`kinds_of`](crate::pdf::kinds_of) by `error.into()`.
+    /// [`glyphs_of`](crate::pdf::glyphs_of), with `NoCmap` also why it lacks characters; [`kinds_of`](crate::pdf::kinds_of) by
+    /// `error.into()`.
     #[cfg(feature = "variable-fonts")]
     GlyphsOf(FontError),
     /// [`advances`](crate::pdf::advances), or [`Text::new`](crate::pdf::Text::new) without glyphs.
@@ -34,7 +35,7 @@ pub enum Call {
 }
 
 /// What a font shows of why a call on it is refused. Its text is for people, and may change.
-#[derive(Debug, Copy, Clone, Eq, PartialEq)]
+#[derive(Copy, Clone)]
 pub struct Reason(proved::Reason);
 
 impl Reason {
@@ -46,6 +47,12 @@ impl Reason {
     /// The glyph that it is about, if it is about one.
     pub fn glyph(&self) -> Option<u16> {
         self.0.glyph()
+    }
+}
+
+impl fmt::Debug for Reason {
+    fn fmt(&self, f: &mut fmt::Formatter<'_>) -> fmt::Result {
+        write!(f, "Reason({self})")
     }
 }
 
@@ -96,8 +103,8 @@ fn is_forbidden(call: Call) -> bool {
     }
 }
 
-/// Why a call on a font was refused, as the font's tables show it: what it names is in the font, or isn't there. None where they
-/// don't show it, or memory ran out.
+/// Why a call on a font was refused, as the font's tables show it: what it names is in the font, or isn't there, or is what was
+/// asked for. None where that isn't seen, or memory ran out.
 ///
 /// `data`, `index`, `variation_coordinates`, `glyphs` and `options` are those of the call; calls without coordinates don't look at
 /// them, and of the options of `pdf` the limits alone count. A charstring is run within the limits, once at most, and
@@ -134,6 +141,7 @@ pub fn explain(
         coordinates: &coordinates(variation_coordinates).ok()?,
         extras: options.extras,
         limits: options.limits,
+        most_bytes: options.limits.bytes(),
     };
     let found = proved::explain(Global, data, &asked);
     found.ok().flatten().map(Reason)

@@ -5,7 +5,7 @@ mod table;
 
 use subsetter::pdf::{
     advances, advances_with_limits, codes_of, glyphs_of, kinds_of, pdf_font, Advances, Bounds, Codes, Direction,
-    FontError, FontOptions, Layout, PartsError, PdfFont, ProgramChoice, Rights, Shown, SubsetTag,
+    FontError, FontOptions, Layout, PartsError, PdfFont, ProgramChoice, Rights, Shown, SubsetTag, Text, TextOptions,
 };
 use subsetter::{embed_with_options, embed_with_variations_and_options as embed_at, explain, subset_with_options};
 use subsetter::{subset_with_variations_and_options as subset_at, Call, Error, GlyphRemapper, Limits, Options, Tag};
@@ -298,21 +298,24 @@ fn asked<T, E: From<Error> + ToString + Copy>(made: Result<T, E>, call: fn(E) ->
 fn the_font_shows_why() {
     for row in rows_of("reasons.txt") {
         let words: Vec<&str> = row.splitn(10, ' ').collect();
-        let (font, face, glyph) = (&changed(words[2], words[4]), words[3].parse().unwrap(), words[7].parse().unwrap());
+        let (font, face) = (&changed(words[2], words[4]), words[3].parse().unwrap());
+        let glyphs: &[u16] = &words[7].parse().map_or((0..=65535).collect(), |it| vec![it]);
         let at: &[(Tag, f32)] = &words[5].parse().map_or(vec![], |it| vec![(Tag::new(b"wght"), it)]);
         let options = &match words[6] {
             "tokens=5" => Options::new().limits(Limits::new(5, 64).unwrap()),
+            "most_bytes=9" => Options::new().limits(Limits::default().with_most_bytes(9)),
             "names=no" => Options::new().names(false),
             _ => Options::new(),
         };
-        let (mapper, glyphs) = (&GlyphRemapper::new_from_glyphs(&[glyph]), &[glyph]);
+        let mapper = &GlyphRemapper::new_from_glyphs(&glyphs[..1]);
         let (mut text, calls) = match words[1] {
             "subset" => asked(subset_with_options(font, face, mapper, options), Call::Subset),
             "embed" => asked(embed_with_options(font, face, glyphs, options), Call::Embed),
             "subset_at" => asked(subset_at(font, face, at, mapper, options), Call::SubsetWithVariations),
             "embed_at" => asked(embed_at(font, face, at, glyphs, options), Call::EmbedWithVariations),
-            "pdf_font" => asked(pdf_font(font, face, at, &[shown(glyph, "")], &FontOptions::new()), Call::PdfFont),
+            "pdf_font" => asked(pdf_font(font, face, at, &[shown(glyphs[0], "")], &FontOptions::new()), Call::PdfFont),
             "glyphs_of" => asked(glyphs_of(font, face, "A"), Call::GlyphsOf),
+            "text" => asked(Text::new(font, face, at, &TextOptions::new()), Call::Advances),
             _ => asked(advances(font, face, glyphs, at), Call::Advances),
         };
         for reason in calls.into_iter().filter_map(|it| explain(it, font, face, at, glyphs, options)) {
@@ -323,6 +326,8 @@ fn the_font_shows_why() {
         }
         assert_eq!(text, words[9]);
     }
+    let lacks_a = explain(Call::GlyphsOf(FontError::NoCmap), &changed("made.ttf", "cmap+20=0009000900000064000400480000fffe"), 0, &[], &[], &Options::new());
+    assert_eq!(lacks_a.unwrap().to_string(), "cmap: its table in format 4 has 172 bytes, needs 262152");
     let too_long = explain(Call::PdfFont(FontError::TextTooLong), &made("made.ttf"), 0, &[], &[12], &Options::new());
-    assert_eq!((too_long, FontError::TextTooLong.to_string()), (None, "text too long".to_string()));
+    assert_eq!((too_long.is_none(), FontError::TextTooLong.to_string()), (true, "text too long".to_string()));
 }

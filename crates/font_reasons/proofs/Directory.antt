@@ -1,24 +1,16 @@
 -- Records of a directory, one after another.
-use Rattle.std.proofs.Common.{◌≡◌, ℕ, true, false, cond, ◌+◌, ◌-◌, ◌/◌, ◌≤◌, List, ◌∷◌, length, drop, Option, Some, None, sym, ap, ◌∙◌}
+use Rattle.std.proofs.Common.{◌≡◌, ℕ, true, false, cond, ◌-◌, ◌/◌, List, ◌∷◌, length, drop, Option, Some, None, sym, ap, ◌∙◌}
 use Rattle.std.specs.Option.{option_and_then}
 use Rattle.subsetter_base.specs.Bytes.{range}
 use Rattle.subsetter_sfnt.specs.declared.face.TableRecord.{TableRecord}
 use Rattle.subsetter_sfnt.specs.Read.{record_of, directory_records}
-use Rattle.subsetter_sfnt.proofs.Laws.LayingLaws.Records.{reads, reads_none}
+use Rattle.subsetter_sfnt.proofs.Laws.LayingLaws.Records.{reads_none}
 use Rattle.font_reasons.specs.File.{is_cut, cut_reason, first_cut}
 use Rattle.font_reasons.specs.declared.reason.Reason.{Reason}
 
 -- the records from an offset on
 abbrev pub records_from : List ℕ → ℕ → List TableRecord
 records_from R p = directory_records ((length R - p) / 16) (drop p R)
-
--- what was read at an offset is the first of the records from there on
-pub record ReadsRecord (R : List ℕ) (p : ℕ) (r : TableRecord) : Type 0 where
-  pub within : p + 16 ≤ length R
-  pub first : records_from R p ≡ r ∷ records_from R (p + 16)
-
-pub reads_record : (R : List ℕ) (p : ℕ) (r : TableRecord) → option_and_then (λ bytes. Some (record_of bytes)) (range R p 16) ≡ Some r → ReadsRecord R p r
-reads_record R p r h = let read = reads R p r h in record { within = read.within; first = read.more }
 
 -- the first record whose table ends past the end of the file
 pub cut_none : (size : ℕ) (R : List ℕ) (p : ℕ) (total : Option Reason) → option_and_then (λ bytes. Some (record_of bytes)) (range R p 16) ≡ None → first_cut size (records_from R p) ≡ total → None ≡ total

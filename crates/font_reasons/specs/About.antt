@@ -3,12 +3,12 @@ use Rattle.std.specs.Prelude.{ℕ, Option, Some, None, codes}
 use Rattle.subsetter_base.specs.declared.tag.Tag.{Tag}
 use Rattle.font_reasons.specs.declared.reason.Reason.{Reason}
 use Rattle.font_reasons.specs.declared.reason.Reason.TheVariants.{Cut, BitmapsAlone, NoGlyph, NoTable, NoEntries}
-use Rattle.font_reasons.specs.declared.reason.Reason.TheVariants.{Descends, Outside, CutHeader, CutComponent}
+use Rattle.font_reasons.specs.declared.reason.Reason.TheVariants.{LocFormat, Descends, Outside, CutHeader, CutComponent}
 use Rattle.font_reasons.specs.declared.reason.Reason.TheVariants.{ByComponent, NoMetrics, FewMetrics, NoMetric, NoUnits}
-use Rattle.font_reasons.specs.declared.reason.Reason.TheVariants.{Short, LostName, NoUnicode, OnlyCff2, Forbidden}
-use Rattle.font_reasons.specs.declared.reason.Reason.TheVariants.{OtherVersion, AxisSize, AxisCount, Unread}
-use Rattle.font_reasons.specs.declared.reason.Reason.TheVariants.{NoCharstring, WrongCharstring, Composed, WrongOutline}
-use Rattle.font_reasons.specs.declared.reason.Reason.TheVariants.{Deep, Unvaried, WrongMetric}
+use Rattle.font_reasons.specs.declared.reason.Reason.TheVariants.{Short, LostName, NoUnicode, ShortMap, OnlyCff2}
+use Rattle.font_reasons.specs.declared.reason.Reason.TheVariants.{Forbidden, Cff2Version, OtherVersion, AxisSize}
+use Rattle.font_reasons.specs.declared.reason.Reason.TheVariants.{AxisCount, Unread, NoCharstring, WrongCharstring}
+use Rattle.font_reasons.specs.declared.reason.Reason.TheVariants.{Composed, WrongOutline, Deep, Unvaried, WrongMetric}
 
 -- the table whose bytes show it, or that isn't there
 abbrev pub reason_table : Reason → Option Tag
@@ -17,6 +17,7 @@ reason_table (NoTable tag) = Some tag
 reason_table (BitmapsAlone tag) = Some tag
 reason_table (NoGlyph glyph count) = Some (record { 0 = codes "maxp" })
 reason_table (NoEntries glyph) = Some (record { 0 = codes "loca" })
+reason_table (LocFormat format) = Some (record { 0 = codes "head" })
 reason_table (Descends glyph) = Some (record { 0 = codes "loca" })
 reason_table (Outside glyph) = Some (record { 0 = codes "glyf" })
 reason_table (CutHeader glyph) = Some (record { 0 = codes "glyf" })
@@ -29,8 +30,10 @@ reason_table NoUnits = Some (record { 0 = codes "head" })
 reason_table (Short tag size needed) = Some tag
 reason_table (LostName id) = Some (record { 0 = codes "name" })
 reason_table NoUnicode = Some (record { 0 = codes "cmap" })
+reason_table (ShortMap format size needed) = Some (record { 0 = codes "cmap" })
 reason_table OnlyCff2 = Some (record { 0 = codes "CFF2" })
 reason_table (Forbidden fs_type bit) = Some (record { 0 = codes "OS/2" })
+reason_table (Cff2Version version) = Some (record { 0 = codes "CFF2" })
 reason_table (OtherVersion tag) = Some tag
 reason_table (AxisSize size) = Some (record { 0 = codes "fvar" })
 reason_table (AxisCount tag count axes) = Some tag

@@ -1,5 +1,5 @@
 -- What the calls take and keep of a font.
-use Rattle.std.specs.Prelude.{ℕ, ℤ, Bool, true, false, List}
+use Rattle.std.specs.Prelude.{ℕ, ℤ, Bool, true, false, List, Option}
 use Rattle.subsetter_base.specs.declared.error.Error.{Error}
 use Rattle.subsetter_base.specs.declared.tag.Tag.{Tag}
 use Rattle.subsetter_sfnt.specs.Extras.{all_extras}
@@ -19,6 +19,7 @@ pub record Question : Type 0 where
   pub extras : Extras
   pub tokens : ℕ
   pub depth : ℕ
+  pub bytes : Option ℕ
 
 -- the face that a question asks about, with all its tables
 abbrev pub face_in : Question → List ℕ → Font

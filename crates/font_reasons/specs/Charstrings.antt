@@ -1,8 +1,9 @@
 -- What is wrong with a table `CFF ` (Technical Note 5176) or `CFF2` (OpenType, "CFF2"), or with the charstring of one
 -- of its glyphs.
-use Rattle.std.specs.Prelude.{ℕ, List, [], ◌∷◌, length, slice_get, Option, Some, None, Result, Ok, Err, ℤ, pos, codes}
-use Rattle.std.specs.Option.{ok_or}
-use Rattle.subsetter_base.specs.Bytes.{◌>>=◌}
+use Rattle.std.specs.Prelude.{ℕ, ◌==◌, if◌then◌else◌, List, [], ◌∷◌, length, slice_get, Option, Some, None, Result}
+use Rattle.std.specs.Prelude.{Ok, Err, ℤ, pos, codes}
+use Rattle.std.specs.Option.{ok_or, option_and_then}
+use Rattle.subsetter_base.specs.Bytes.{◌>>=◌, number}
 use Rattle.subsetter_base.specs.declared.error.Error.{Error as Refusal}
 use Rattle.subsetter_base.specs.declared.error.Error.TheVariants.{MalformedFont, Unimplemented, CFFError}
 use Rattle.subsetter_base.specs.declared.tag.Tag.{Tag}
@@ -16,9 +17,10 @@ use Rattle.subsetter_cff2.specs.Cff2.{Cff2, cff2_parts}
 use Rattle.subsetter_cff2.specs.Made2.{NewDict, new_dicts}
 use Rattle.subsetter_cff2.specs.PrivateDicts.Private2.{font_dict_number, char_string}
 use Rattle.subsetter_cff2.specs.Variation.{Variation, font_scalars, optional_variation}
+use Rattle.font_reasons.specs.File.{or_else}
 use Rattle.font_reasons.specs.declared.reason.Reason.{Reason}
 use Rattle.font_reasons.specs.declared.reason.Reason.TheVariants.{OtherVersion, Unread, NoCharstring, WrongCharstring}
-use Rattle.font_reasons.specs.declared.reason.Reason.TheVariants.{Composed}
+use Rattle.font_reasons.specs.declared.reason.Reason.TheVariants.{Composed, Cff2Version}
 
 abbrev pub cff_tag : Tag
 cff_tag = record { 0 = codes "CFF " }
@@ -98,9 +100,14 @@ run2 o tokens depth g = do
   charstring ← ok_or (char_string o.cff g) MalformedFont
   resolved (setting o dict) tokens depth dict.data_index (pos 0) charstring
 
-abbrev pub opened2_reason : ℕ → ℕ → List ℕ → Result Opened2 Refusal → Option Reason
-opened2_reason tokens depth glyphs (Err e) = Some (Unread cff2_tag)
-opened2_reason tokens depth glyphs (Ok o) = first_refusal cff2_tag (run2 o tokens depth) glyphs
+-- majorVersion, at byte 0, isn't 2
+abbrev pub other_cff2 : List ℕ → Option Reason
+other_cff2 bytes =
+    option_and_then (λ version. if version == 2 then None else Some (Cff2Version version)) (number bytes 0 1)
+
+abbrev pub opened2_reason : ℕ → ℕ → List ℕ → List ℕ → Result Opened2 Refusal → Option Reason
+opened2_reason tokens depth glyphs bytes (Err e) = or_else (other_cff2 bytes) (Some (Unread cff2_tag))
+opened2_reason tokens depth glyphs bytes (Ok o) = first_refusal cff2_tag (run2 o tokens depth) glyphs
 
 abbrev pub cff2_reason : List ℤ → ℕ → ℕ → List ℕ → List ℕ → Option Reason
-cff2_reason at tokens depth glyphs bytes = opened2_reason tokens depth glyphs (open2 bytes at)
+cff2_reason at tokens depth glyphs bytes = opened2_reason tokens depth glyphs bytes (open2 bytes at)

@@ -1,7 +1,7 @@
 -- Why a call is refused, by its error: the first of these that is there.
-use Rattle.std.specs.Prelude.{ℕ, ◌==◌, nat_lt, if◌then◌else◌, Bool, true, false, List, [], ◌∷◌, length, Option, Some}
+use Rattle.std.specs.Prelude.{ℕ, ◌==◌, ◌&&◌, nat_lt, if◌then◌else◌, Bool, true, false, List, [], ◌∷◌, length, Option, Some}
 use Rattle.std.specs.Prelude.{None, codes}
-use Rattle.std.specs.Option.{option_and_then}
+use Rattle.std.specs.Option.{option_and_then, option_map}
 use Rattle.subsetter_base.specs.Indexes.{with_glyphs}
 use Rattle.subsetter_base.specs.declared.error.Error.{Error as Refusal}
 use Rattle.subsetter_base.specs.declared.error.Error.TheVariants.{UnknownKind, MalformedFont, Unimplemented}
@@ -9,9 +9,9 @@ use Rattle.subsetter_base.specs.declared.error.Error.TheVariants.{SubsetError, O
 use Rattle.subsetter_sfnt.specs.Fields.Head.{units_per_em}
 use Rattle.subsetter_sfnt.specs.Read.{Font, stored}
 use Rattle.subsetter_sfnt.specs.declared.extras.Extras.{Extras}
-use Rattle.text_glyphs.specs.Choice.{Chosen, chosen}
 use Rattle.font_reasons.specs.Calls.{Question, face_in, keeps_glyph_names, keeps_names, takes_outlines}
-use Rattle.font_reasons.specs.Charstrings.{cff_reason}
+use Rattle.font_reasons.specs.Characters.{no_mapping}
+use Rattle.font_reasons.specs.Charstrings.{cff_reason, other_cff2}
 use Rattle.font_reasons.specs.File.{or_else}
 use Rattle.font_reasons.specs.Names.{lost_name}
 use Rattle.font_reasons.specs.Outlines.{tree_reason}
@@ -23,7 +23,7 @@ use Rattle.font_reasons.specs.declared.asked.Call.{Call}
 use Rattle.font_reasons.specs.declared.asked.Call.TheVariants.{Subset, SubsetAt, Embed, EmbedAt, PdfFont, GlyphsOf}
 use Rattle.font_reasons.specs.declared.asked.Call.TheVariants.{Advances}
 use Rattle.font_reasons.specs.declared.reason.Reason.{Reason}
-use Rattle.font_reasons.specs.declared.reason.Reason.TheVariants.{NoUnits, NoUnicode, OnlyCff2}
+use Rattle.font_reasons.specs.declared.reason.Reason.TheVariants.{NoUnits, OnlyCff2, AllGlyphs, TightLimits}
 
 -- unitsPerEm of `head` is 0 (OpenType, "head")
 abbrev pub if_no_units : ℕ → Option Reason
@@ -37,20 +37,6 @@ abbrev pub no_widths : Font → Option Reason
 no_widths font =
     or_else (no_table font (record { 0 = codes "hmtx" }))
     (or_else (no_table font (record { 0 = codes "head" })) (no_units font))
-
--- what glyphs of characters are found by: a table of `cmap` that is read
-abbrev pub no_unicode_by : Option Chosen → Option Reason
-no_unicode_by None = Some NoUnicode
-no_unicode_by (Some found) = None
-
-unfoldable pub no_unicode : Font → Option Reason
-no_unicode font = option_and_then (λ cmap. no_unicode_by (chosen cmap)) (stored font (codes "cmap"))
-
-abbrev pub no_cmap : Font → Option Reason
-no_cmap font = no_table font (record { 0 = codes "cmap" })
-
-abbrev pub no_mapping : Font → Option Reason
-no_mapping font = or_else (no_cmap font) (no_unicode font)
 
 -- the program of outlines in `glyf` has `maxp` (ISO 32000-1, 9.9)
 abbrev pub no_maxp : Font → Option Reason
@@ -68,7 +54,7 @@ lacks Advances font = no_widths font
 
 -- outlines in `CFF2`, and neither in `glyf` nor in `CFF `, are taken at coordinates alone
 abbrev pub only_cff2_by : Option (List ℕ) → Option (List ℕ) → Option (List ℕ) → Option Reason
-only_cff2_by None None (Some cff2) = Some OnlyCff2
+only_cff2_by None None (Some cff2) = or_else (other_cff2 cff2) (Some OnlyCff2)
 only_cff2_by glyf cff other = None
 
 abbrev pub only_cff2 : Font → Option Reason
@@ -139,9 +125,17 @@ abbrev pub numbered : List ℕ → Option (List ℕ)
 numbered glyphs =
     if nat_lt 65535 (length (with_glyphs (0 ∷ []) glyphs)) then None else Some (with_glyphs (0 ∷ []) glyphs)
 
+-- where these are more, calls on outlines have no number for glyph 0: numGlyphs of `maxp` is 65,535 at most
+abbrev pub is_overflow : Refusal → Bool
+is_overflow OverflowError = true
+is_overflow other = false
+
+abbrev pub unnumbered : Call → Refusal → Option Reason
+unnumbered call e = if takes_outlines call && is_overflow e then Some AllGlyphs else None
+
 -- outlines, and then what varies
 abbrev pub of_numbered : Question → Font → Option (List ℕ) → Option Reason
-of_numbered a font None = None
+of_numbered a font None = unnumbered a.call a.error
 of_numbered a font (Some all) =
     or_else (of_outlines a.call a.error font a.tokens a.depth all) (varied_reason a font all)
 
@@ -165,14 +159,20 @@ not_kept_by Embed x font glyphs = not_kept Embed x font glyphs
 not_kept_by EmbedAt x font glyphs = not_kept EmbedAt x font glyphs
 not_kept_by PdfFont x font glyphs = not_kept PdfFont x font glyphs
 not_kept_by GlyphsOf x font glyphs = None
-not_kept_by Advances x font glyphs = no_metric font glyphs
+not_kept_by Advances x font glyphs = or_else (no_metric font glyphs) (no_table font (record { 0 = codes "maxp" }))
 
-abbrev pub shown_last : Call → Refusal → Extras → Font → List ℕ → Option Reason
-shown_last call MalformedFont x font glyphs = not_kept_by call x font glyphs
-shown_last call other x font glyphs = None
+-- where the bytes of the new font have a bound, an overflow without another reason is that of it, of tokens or of a number
+abbrev pub tight_limits : Call → ℕ → Option ℕ → Option Reason
+tight_limits call tokens bytes =
+    if takes_outlines call then option_map (λ most. TightLimits most tokens) bytes else None
+
+abbrev pub shown_last : Refusal → Question → Font → Option Reason
+shown_last MalformedFont a font = not_kept_by a.call a.extras font a.glyphs
+shown_last OverflowError a font = tight_limits a.call a.tokens a.bytes
+shown_last other a font = None
 
 abbrev pub seen_last : Question → Font → Option Reason
-seen_last a font = or_else (of_numbered a font (numbered a.glyphs)) (shown_last a.call a.error a.extras font a.glyphs)
+seen_last a font = or_else (of_numbered a font (numbered a.glyphs)) (shown_last a.error a font)
 
 abbrev pub explained : Question → List ℕ → Option Reason
 explained a bytes = or_else (shown a.call a.error a.extras (face_in a bytes) a.glyphs) (seen_last a (face_in a bytes))

@@ -2,15 +2,15 @@
 -- file.
 use Rattle.std.specs.Prelude.{ℕ, ◌+◌, ◌==◌, nat_lt, if◌then◌else◌, Bool, List, [], ◌∷◌, length, Option, Some, None}
 use Rattle.std.specs.Option.{option_and_then}
-use Rattle.subsetter_base.specs.Bytes.{number}
+use Rattle.subsetter_base.specs.Bytes.{number, range}
 use Rattle.subsetter_base.specs.declared.tag.Tag.{Tag}
 use Rattle.subsetter_sfnt.specs.Read.{Font, kind_at, header_offset, find_record, records}
 use Rattle.subsetter_sfnt.specs.declared.face.FontKind.{FontKind}
 use Rattle.subsetter_sfnt.specs.declared.face.TableRecord.{TableRecord}
 use Rattle.font_reasons.specs.Directory.{bytes_or_none, records_in}
 use Rattle.font_reasons.specs.declared.reason.Reason.{Reason}
-use Rattle.font_reasons.specs.declared.reason.Reason.TheVariants.{Woff, Woff2, Type1, Eot, Pdf, NotFont, Empty, NoFace}
-use Rattle.font_reasons.specs.declared.reason.Reason.TheVariants.{NoHeader, CutDirectory, Cut, NoTable}
+use Rattle.font_reasons.specs.declared.reason.Reason.TheVariants.{Woff, Woff2, Type1, Eot, Pdf, Begins, NotFont, Empty}
+use Rattle.font_reasons.specs.declared.reason.Reason.TheVariants.{NoFace, NoHeader, CutDirectory, Cut, NoTable}
 
 -- the first that is there
 abbrev pub or_else : {X : Type 0} → Option X → Option X → Option X
@@ -26,19 +26,27 @@ packed bytes = option_and_then packed_by (number bytes 0 4)
 
 -- `%!` begins a Type 1 font, 0x80 and 1 its segments (Technical Note 5040), `%P` a PDF; MagicNumber 0x504C, low byte
 -- first, is at byte 34 of an EOT
-abbrev pub by_magic : Option ℕ → Reason
-by_magic (Some word) = if word == 0x4C50 then Eot else NotFont
-by_magic None = NotFont
+abbrev pub by_front : Option Tag → Reason
+by_front None = NotFont
+by_front (Some front) = Begins front
 
-abbrev pub other_format : Option ℕ → Option ℕ → Reason
-other_format (Some word) magic =
+abbrev pub by_magic : Option ℕ → Option Tag → Reason
+by_magic (Some word) front = if word == 0x4C50 then Eot else by_front front
+by_magic None front = by_front front
+
+abbrev pub other_format : Option ℕ → Option ℕ → Option Tag → Reason
+other_format (Some word) magic front =
     if word == 0x2521 then Type1
-    else (if word == 0x8001 then Type1 else (if word == 0x2550 then Pdf else by_magic magic))
-other_format None magic = by_magic magic
+    else (if word == 0x8001 then Type1 else (if word == 0x2550 then Pdf else by_magic magic front))
+other_format None magic front = by_magic magic front
+
+-- the first four bytes
+abbrev pub front_of : List ℕ → Option Tag
+front_of bytes = option_and_then (λ four. Some (record { 0 = four })) (range bytes 0 4)
 
 -- a file that begins as no font does
 abbrev pub not_font_by : List ℕ → Option FontKind → Option Reason
-not_font_by bytes None = Some (other_format (number bytes 0 2) (number bytes 34 2))
+not_font_by bytes None = Some (other_format (number bytes 0 2) (number bytes 34 2) (front_of bytes))
 not_font_by bytes (Some kind) = None
 
 abbrev pub not_font : List ℕ → Option Reason

@@ -1,5 +1,6 @@
 pub mod About
 pub mod Calls
+pub mod Characters
 pub mod Charstrings
 pub mod Directory
 pub mod Explained

@@ -8,8 +8,8 @@ use Rattle.subsetter_sfnt.specs.Read.{Font, stored}
 use Rattle.font_reasons.specs.File.{or_else}
 use Rattle.font_reasons.specs.Parts.{no_table}
 use Rattle.font_reasons.specs.declared.reason.Reason.{Reason}
-use Rattle.font_reasons.specs.declared.reason.Reason.TheVariants.{NoEntries, Descends, Outside, CutHeader, CutComponent}
-use Rattle.font_reasons.specs.declared.reason.Reason.TheVariants.{ByComponent, Deep}
+use Rattle.font_reasons.specs.declared.reason.Reason.TheVariants.{NoEntries, LocFormat, Descends, Outside}
+use Rattle.font_reasons.specs.declared.reason.Reason.TheVariants.{CutHeader, CutComponent, ByComponent, Deep}
 
 -- an entry of `loca`: an offset, or in the format 0 half of one (OpenType, "loca")
 abbrev pub entry : List ℕ → ℕ → ℕ → Option ℕ
@@ -195,10 +195,16 @@ outline_tables font =
 abbrev pub tree : Tables → ℕ → ℕ → List ℕ → List ℕ
 tree t steps depth glyphs = reached_below t.glyf t.loca t.format (depth + 1) 0 (record { steps = steps; seen = glyphs })
 
+-- indexToLocFormat is 0 or 1 (OpenType, "head"); another one is why an outline is wrong
+abbrev pub by_format : ℕ → Option Reason → Option Reason
+by_format format None = None
+by_format format (Some reason) = if nat_lt 1 format then Some (LocFormat format) else Some reason
+
 -- what is wrong with their outlines
 abbrev pub tree_reason : Font → ℕ → ℕ → List ℕ → Option Reason
 tree_reason font steps depth glyphs =
-    option_and_then (λ t. first_wrong t.glyf t.loca t.format (tree t steps depth glyphs)) (outline_tables font)
+    option_and_then (λ t. by_format t.format (first_wrong t.glyf t.loca t.format (tree t steps depth glyphs)))
+    (outline_tables font)
 
 -- a face with `glyf` has no `loca`, or no `head`
 abbrev pub without_loca : Font → Option (List ℕ) → Option Reason

@@ -1,18 +1,20 @@
 -- The texts of reasons.
-use Rattle.std.specs.Prelude.{ℕ, ◌-◌, ◌/◌, ◌%◌, ◌==◌, false, if◌then◌else◌, List, ◌++◌, get_or, take, codes, decimal}
+use Rattle.std.specs.Prelude.{ℕ, ◌+◌, ◌-◌, ◌*◌, ◌/◌, ◌%◌, ◌==◌, ◌&&◌, nat_le, nat_lt, Bool, false, if◌then◌else◌}
+use Rattle.std.specs.Prelude.{List, [], ◌++◌, get_or, take, codes, decimal}
 use Rattle.std.specs.Fmt.{radix_digits}
 use Rattle.subsetter_base.specs.Texts.{tag_text}
 use Rattle.subsetter_base.specs.declared.tag.Tag.{Tag}
 use Rattle.font_reasons.specs.declared.reason.Reason.{Reason}
-use Rattle.font_reasons.specs.declared.reason.Reason.TheVariants.{Woff, Woff2, Type1, Eot, Pdf, NotFont, Empty, NoFace}
-use Rattle.font_reasons.specs.declared.reason.Reason.TheVariants.{NoHeader, CutDirectory, Cut, NoOutlines, BitmapsAlone}
-use Rattle.font_reasons.specs.declared.reason.Reason.TheVariants.{NoGlyph, NoTable, NoEntries, Descends, Outside}
-use Rattle.font_reasons.specs.declared.reason.Reason.TheVariants.{CutHeader, CutComponent, ByComponent, NoMetrics}
-use Rattle.font_reasons.specs.declared.reason.Reason.TheVariants.{FewMetrics, NoMetric, NoUnits, Short, LostName}
-use Rattle.font_reasons.specs.declared.reason.Reason.TheVariants.{NoUnicode, OnlyCff2, Forbidden, OtherVersion}
-use Rattle.font_reasons.specs.declared.reason.Reason.TheVariants.{AxisSize, AxisCount, Unread, NoCharstring}
-use Rattle.font_reasons.specs.declared.reason.Reason.TheVariants.{WrongCharstring, Composed, WrongOutline, Deep}
-use Rattle.font_reasons.specs.declared.reason.Reason.TheVariants.{Unvaried, WrongMetric}
+use Rattle.font_reasons.specs.declared.reason.Reason.TheVariants.{Woff, Woff2, Type1, Eot, Pdf, Begins, NotFont, Empty}
+use Rattle.font_reasons.specs.declared.reason.Reason.TheVariants.{NoFace, NoHeader, CutDirectory, Cut, NoOutlines}
+use Rattle.font_reasons.specs.declared.reason.Reason.TheVariants.{BitmapsAlone, NoGlyph, NoTable, NoEntries, LocFormat}
+use Rattle.font_reasons.specs.declared.reason.Reason.TheVariants.{Descends, Outside, CutHeader, CutComponent}
+use Rattle.font_reasons.specs.declared.reason.Reason.TheVariants.{ByComponent, NoMetrics, FewMetrics, NoMetric, NoUnits}
+use Rattle.font_reasons.specs.declared.reason.Reason.TheVariants.{Short, LostName, NoUnicode, ShortMap, OnlyCff2}
+use Rattle.font_reasons.specs.declared.reason.Reason.TheVariants.{Forbidden, Cff2Version, OtherVersion, AxisSize}
+use Rattle.font_reasons.specs.declared.reason.Reason.TheVariants.{AxisCount, Unread, NoCharstring, WrongCharstring}
+use Rattle.font_reasons.specs.declared.reason.Reason.TheVariants.{Composed, WrongOutline, Deep, Unvaried, WrongMetric}
+use Rattle.font_reasons.specs.declared.reason.Reason.TheVariants.{AllGlyphs, TightLimits}
 
 -- a number between two texts
 abbrev pub between : List ℕ → ℕ → List ℕ → List ℕ
@@ -52,6 +54,11 @@ abbrev pub short_text : Tag → ℕ → ℕ → List ℕ
 short_text tag size needed =
     table_name tag ++ (codes ": " ++ (decimal size ++ (codes " bytes, needs " ++ decimal needed)))
 
+abbrev pub short_map_text : ℕ → ℕ → ℕ → List ℕ
+short_map_text format size needed =
+    codes "cmap: its table in format "
+    ++ (decimal format ++ (codes " has " ++ (decimal size ++ (codes " bytes, needs " ++ decimal needed))))
+
 abbrev pub axes_text : Tag → ℕ → ℕ → List ℕ
 axes_text tag count axes =
     table_name tag ++ (codes ": axisCount is " ++ (decimal count ++ (codes ", that of fvar " ++ decimal axes)))
@@ -71,12 +78,36 @@ forbidden_word bit =
 abbrev pub forbidden_text : ℕ → ℕ → List ℕ
 forbidden_text fs_type bit = codes "OS/2: fsType 0x" ++ (hex_text fs_type ++ forbidden_word bit)
 
+-- a character of ASCII that can be seen, or a space
+abbrev pub is_printable : ℕ → Bool
+is_printable b = nat_le 32 b && nat_lt b 127
+
+-- four of these
+abbrev pub is_text : Tag → Bool
+is_text tag =
+    is_printable (get_or tag.0 0 0)
+    && (is_printable (get_or tag.0 1 0) && (is_printable (get_or tag.0 2 0) && is_printable (get_or tag.0 3 0)))
+
+-- the first bytes of a file in hexadecimal digits, and as a text where they are one
+abbrev pub front_digits : Tag → List ℕ
+front_digits tag =
+    hex_text (256 * get_or tag.0 0 0 + get_or tag.0 1 0) ++ hex_text (256 * get_or tag.0 2 0 + get_or tag.0 3 0)
+
+abbrev pub front_text : Tag → List ℕ
+front_text tag = if is_text tag then codes " (" ++ (tag_text tag.0 ++ codes ")") else []
+
+abbrev pub begin_text : Tag → List ℕ
+begin_text tag =
+    codes "not a font: its first bytes are "
+    ++ (front_digits tag ++ (front_text tag ++ codes ", none of TrueType, OpenType, a collection"))
+
 abbrev pub reason_text : Reason → List ℕ
 reason_text Woff = codes "a WOFF file: unpack it first"
 reason_text Woff2 = codes "a WOFF2 file: unpack it first"
 reason_text Type1 = codes "a Type 1 font: convert it to OpenType first"
 reason_text Eot = codes "an EOT file: convert it to OpenType first"
 reason_text Pdf = codes "not a font: a PDF file"
+reason_text (Begins tag) = begin_text tag
 reason_text NotFont = codes "not a font: its first bytes are none of TrueType, OpenType, a collection"
 reason_text Empty = codes "the file is empty"
 reason_text (NoFace index count) = no_face_text index count
@@ -89,6 +120,8 @@ reason_text (BitmapsAlone tag) = table_name tag ++ codes ": the face has bitmaps
 reason_text (NoGlyph glyph count) = no_glyph_text glyph count
 reason_text (NoTable tag) = codes "the face has no table " ++ table_name tag
 reason_text (NoEntries glyph) = between (codes "glyph ") glyph (codes ": loca has no entries for it")
+reason_text (LocFormat format) =
+    between (codes "head: indexToLocFormat is ") format (codes ", neither 0 nor 1")
 reason_text (Descends glyph) = between (codes "glyph ") glyph (codes ": its loca entries descend")
 reason_text (Outside glyph) = between (codes "glyph ") glyph (codes ": its outline isn't inside glyf")
 reason_text (CutHeader glyph) = between (codes "glyph ") glyph (codes ": the header of its outline is cut")
@@ -101,8 +134,10 @@ reason_text NoUnits = codes "head: unitsPerEm is 0"
 reason_text (Short tag size needed) = short_text tag size needed
 reason_text (LostName id) = between (codes "name: the string of name ") id (codes " isn't inside the table")
 reason_text NoUnicode = codes "cmap: no table for Unicode, symbols or Mac Roman in format 0, 4, 6, 12 or 13"
+reason_text (ShortMap format size needed) = short_map_text format size needed
 reason_text OnlyCff2 = codes "CFF2: its outlines are taken at coordinates alone"
 reason_text (Forbidden fs_type bit) = forbidden_text fs_type bit
+reason_text (Cff2Version version) = between (codes "CFF2: its major version is ") version (codes ", not 2")
 reason_text (OtherVersion tag) = table_name tag ++ codes ": its major version isn't 1"
 reason_text (AxisSize size) = between (codes "fvar: axisSize is ") size (codes ", needs 20")
 reason_text (AxisCount tag count axes) = axes_text tag count axes
@@ -116,3 +151,8 @@ reason_text (WrongOutline glyph) = between (codes "glyph ") glyph (codes ": its 
 reason_text (Deep glyph) = between (codes "glyph ") glyph (codes ": a component more than 64 levels deep")
 reason_text (Unvaried tag glyph) = in_table glyph (codes ": its variation data in ") tag (codes " can't be read")
 reason_text (WrongMetric tag) = codes "MVAR: the value of " ++ (table_name tag ++ codes " can't be read")
+reason_text AllGlyphs = codes "glyphs 1 to 65535 are all requested: with glyph 0 that is one more than a font can have"
+reason_text (TightLimits bytes tokens) =
+    codes "more than the "
+    ++ (decimal bytes
+    ++ (codes " bytes or " ++ (decimal tokens ++ codes " tokens of the limits, or a number that is too large")))

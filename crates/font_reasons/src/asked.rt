@@ -9,7 +9,7 @@ use subsetter_sfnt::extras::Extras;
 use subsetter_type2::limits::Limits;
 
 /// Which call was refused.
-#[derive(Clone, Copy, PartialEq, Eq, Debug)]
+#[derive(Clone, Copy)]
 pub enum Call {
     /// A subset.
     Subset,
@@ -42,8 +42,10 @@ pub struct Asked<'a> {
     pub coordinates: &'a [(Tag, i32)],
     /// What is kept besides outlines and metrics, of subsets with and without widths. Hinting says nothing: what reads it has no reason.
     pub extras: Extras,
-    /// How far a charstring may run. The bytes that the new font may have say nothing: no table shows them.
+    /// How far a charstring may run; the bytes of these say nothing.
     pub limits: Limits,
+    /// The most bytes of the new font, where they may be why.
+    pub most_bytes: Option<u32>,
 }
 
 impl<'a> Model for Asked<'a> {
@@ -51,7 +53,7 @@ impl<'a> Model for Asked<'a> {
 
     ghost Value = { Question };
 
-    ghost view = { λ a. record { call = a.call; error = a.error; index = a.index; glyphs = a.glyphs.now; coordinates = a.coordinates.now; extras = a.extras; tokens = a.limits.tokens; depth = a.limits.depth } };
+    ghost view = { λ a. record { call = a.call; error = a.error; index = a.index; glyphs = a.glyphs.now; coordinates = a.coordinates.now; extras = a.extras; tokens = a.limits.tokens; depth = a.limits.depth; bytes = a.most_bytes } };
 }
 
 /// Whether a call is one on outlines.

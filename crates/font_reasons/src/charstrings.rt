@@ -18,12 +18,13 @@ ghost use Rattle.subsetter_blend.specs.Resolved.{resolved};
 ghost use Rattle.subsetter_cff2.specs.Cff2View.{cff2_of};
 ghost use Rattle.subsetter_cff2.specs.Cff2.{cff2_parts};
 ghost use Rattle.subsetter_cff2.specs.Made2View.{dict_view};
-ghost use Rattle.font_reasons.specs.Charstrings.{cff_tag, cff2_tag, cff_reason, first_refusal, glyph_reason, opened_reason, table_reason, open2, dict_of, setting, run2, opened2_reason, cff2_reason};
+ghost use Rattle.font_reasons.specs.Charstrings.{cff_tag, cff2_tag, cff_reason, first_refusal, glyph_reason, opened_reason, table_reason, open2, dict_of, setting, run2, other_cff2, opened2_reason, cff2_reason};
 ghost use Rattle.font_reasons.specs.View.{opened2_of};
 
 use crate::reason::Reason;
 use pdf_cff::unless_memory;
 use std::alloc::Global;
+use subsetter_base::read::Reader;
 use subsetter_base::{Error, GlyphRemapper, Tag};
 use subsetter_blend::resolving::resolve;
 use subsetter_blend::runs::machine::Subroutines;
@@ -296,6 +297,16 @@ fn first_refusal2(
     Ok(None)
 }
 
+/// Whether a `CFF2` table is of another major version than 2.
+pub fn other_cff2(bytes: &[u8]) -> Option<Reason>
+    ensures { result ≡ other_cff2 bytes.now }
+{
+    match Reader::new_at(bytes, 0).read::<u8>()? {
+        2 => None,
+        version => Some(Reason::Cff2Version(version)),
+    }
+}
+
 /// What is wrong with a `CFF2` table at a location, or with one of these glyphs of it.
 ///
 /// # Errors
@@ -315,7 +326,7 @@ pub fn cff2_reason(
         Ok(opened) => first_refusal2(alloc, &opened, limits, mapper),
         Err(error) => {
             unless_memory(error)?;
-            Ok(Some(Reason::Unread(Tag::CFF2)))
+            Ok(other_cff2(bytes).or(Some(Reason::Unread(Tag::CFF2))))
         }
     }
 }

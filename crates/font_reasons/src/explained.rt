@@ -1,13 +1,14 @@
 //! Why a call is refused, by its error.
 
-ghost use Rattle.std.specs.Prelude.{◌≡◌, codes, IfOk, IfErr};
+ghost use Rattle.std.specs.Prelude.{◌≡◌, IfOk, IfErr};
 ghost use Rattle.subsetter_base.specs.declared.error.Error.TheVariants.{OutOfMemory};
 ghost use Rattle.subsetter_sfnt.specs.Extras.{all_extras};
 ghost use Rattle.font_reasons.specs.Calls.{face_in};
-ghost use Rattle.font_reasons.specs.Explained.{explained, is_of_charstrings, lacks, lost_for, malformed, no_cmap, no_mapping, no_maxp, no_unicode, no_units, no_widths, not_kept, not_kept_by, not_read, numbered, of_charstrings, of_components, of_either, of_numbered, of_outlines, only_cff2, seen_last, short_names, shown, shown_last, wrong_advances, wrong_for, wrong_names};
+ghost use Rattle.font_reasons.specs.Explained.{explained, is_of_charstrings, is_overflow, lacks, lost_for, malformed, no_maxp, no_units, no_widths, not_kept, not_kept_by, not_read, numbered, of_charstrings, of_components, of_either, of_numbered, of_outlines, only_cff2, seen_last, short_names, shown, shown_last, tight_limits, unnumbered, wrong_advances, wrong_for, wrong_names};
 
 use crate::asked::{Asked, Call, keeps_glyph_names, keeps_names, takes_outlines};
-use crate::charstrings::cff_reason;
+use crate::characters::no_mapping;
+use crate::charstrings::{cff_reason, other_cff2};
 use crate::names::lost_name;
 use crate::outlines::tree_reason;
 use crate::parts::{no_metric, no_table, wrong_metrics};
@@ -22,7 +23,6 @@ use subsetter_sfnt::directory::table;
 use subsetter_sfnt::extras::Extras;
 use subsetter_sfnt::fields::head::units_per_em;
 use subsetter_type2::limits::Limits;
-use text_glyphs::find_table;
 
 /// Whether unitsPerEm of a face is 0.
 fn no_units(font: &[u8], index: u32) -> Option<Reason>
@@ -40,39 +40,6 @@ fn no_widths(font: &[u8], index: u32) -> Option<Reason>
     ensures { result ≡ no_widths (record { bytes = font.now; index = index; extras = all_extras }) }
 {
     no_table(font, index, Tag::HMTX).or(no_table(font, index, Tag::HEAD).or(no_units(font, index)))
-}
-
-/// The tag of `cmap`.
-fn cmap_tag() -> Tag
-    ensures { result ≡ record { 0 = codes "cmap" } }
-{
-    Tag::new(b"cmap")
-}
-
-/// Whether a face has no `cmap`.
-fn no_cmap(font: &[u8], index: u32) -> Option<Reason>
-    ensures { result ≡ no_cmap (record { bytes = font.now; index = index; extras = all_extras }) }
-{
-    no_table(font, index, cmap_tag())
-}
-
-/// Whether the `cmap` of a face has no table that is read.
-#[tactic(auto, unfolding(crate::specs::Explained::no_unicode))]
-fn no_unicode(font: &[u8], index: u32) -> Option<Reason>
-    ensures { result ≡ no_unicode (record { bytes = font.now; index = index; extras = all_extras }) }
-{
-    let cmap = table(font, index, cmap_tag())?;
-    match find_table(cmap) {
-        Some(_) => None,
-        None => Some(Reason::NoUnicode),
-    }
-}
-
-/// Whether a face lacks what glyphs of characters are found by.
-fn no_mapping(font: &[u8], index: u32) -> Option<Reason>
-    ensures { result ≡ no_mapping (record { bytes = font.now; index = index; extras = all_extras }) }
-{
-    no_cmap(font, index).or(no_unicode(font, index))
 }
 
 /// Whether a face with outlines in `glyf` has no `maxp`.
@@ -108,7 +75,7 @@ fn only_cff2(font: &[u8], index: u32) -> Option<Reason>
         table(font, index, Tag::CFF2),
     );
     match outlines {
-        (None, None, Some(_)) => Some(Reason::OnlyCff2),
+        (None, None, Some(cff2)) => other_cff2(cff2).or(Some(Reason::OnlyCff2)),
         _ => None,
     }
 }
@@ -280,6 +247,26 @@ fn numbered(alloc: Global, glyphs: &[u16]) -> Result<Option<GlyphRemapper>, Erro
     }
 }
 
+/// Whether an error is that of a number that is too large.
+fn is_overflow(error: Error) -> bool
+    ensures { result ≡ is_overflow error }
+{
+    match error {
+        Error::OverflowError => true,
+        _ => false,
+    }
+}
+
+/// Why a call on more glyphs is refused.
+fn unnumbered(call: Call, error: Error) -> Option<Reason>
+    ensures { result ≡ unnumbered call error }
+{
+    if takes_outlines(call) && is_overflow(error) {
+        return Some(Reason::AllGlyphs);
+    }
+    None
+}
+
 /// What outlines show, and then what varies.
 fn of_numbered(
     alloc: Global,
@@ -291,7 +278,7 @@ fn of_numbered(
     ensures err { IfErr result (λ e. e ≡ OutOfMemory) }
 {
     let Some(mapper) = mapper else {
-        return Ok(None);
+        return Ok(unnumbered(asked.call, asked.error));
     };
     match of_outlines(alloc, asked, font, mapper)? {
         Some(reason) => Ok(Some(reason)),
@@ -338,21 +325,33 @@ fn not_kept_by(
 {
     match call {
         Call::GlyphsOf => None,
-        Call::Advances => no_metric(font, index, glyphs),
+        Call::Advances => no_metric(font, index, glyphs).or(no_table(font, index, Tag::MAXP)),
         Call::Subset | Call::SubsetAt | Call::Embed | Call::EmbedAt | Call::PdfFont => {
             not_kept(call, extras, font, index, glyphs)
         }
     }
 }
 
+/// That limits may be too low, where bytes have a bound.
+fn tight_limits(call: Call, tokens: u32, bytes: Option<u32>) -> Option<Reason>
+    ensures { result ≡ tight_limits call tokens bytes }
+{
+    if !takes_outlines(call) {
+        return None;
+    }
+    let most = bytes?;
+    Some(Reason::TightLimits(most, tokens))
+}
+
 /// What is looked at last, by the error.
 fn shown_last(asked: &Asked<'_>, font: &[u8]) -> Option<Reason>
-    ensures { result ≡ shown_last asked.now.call asked.now.error asked.now.extras (face_in asked.now font.now) asked.now.glyphs }
+    ensures { result ≡ shown_last asked.now.error asked.now (face_in asked.now font.now) }
 {
     match asked.error {
         Error::MalformedFont => {
             not_kept_by(asked.call, asked.extras, font, asked.index, asked.glyphs)
         }
+        Error::OverflowError => tight_limits(asked.call, asked.limits.tokens(), asked.most_bytes),
         _ => None,
     }
 }
@@ -372,8 +371,7 @@ fn seen_last(alloc: Global, asked: &Asked<'_>, font: &[u8]) -> Result<Option<Rea
 ///
 /// What is read at coordinates alone has a part in it where a static font is made there: not at the default of outlines in `glyf`.
 ///
-/// There is none where memory ran out, or what was asked for is why: more bytes than the call may make, or glyphs that leave no
-/// number for glyph 0.
+/// There is none where memory ran out, or a number in the new font is too large and its bytes have no bound.
 ///
 /// # Errors
 ///

@@ -4,7 +4,7 @@ ghost use Rattle.std.specs.Prelude.{◌≡◌, ◌+◌, length};
 ghost use Rattle.subsetter_sfnt.specs.Extras.{all_extras};
 ghost use Rattle.subsetter_sfnt.specs.Read.{records};
 ghost use Rattle.font_reasons.specs.Directory.{bytes_or_none, records_in};
-ghost use Rattle.font_reasons.specs.File.{packed, by_magic, other_format, not_font, face_count, no_face, no_directory, no_font, end_of, is_cut, cut_reason, first_cut, cut_table, missing_table};
+ghost use Rattle.font_reasons.specs.File.{packed, by_front, by_magic, other_format, front_of, not_font, face_count, no_face, no_directory, no_font, end_of, is_cut, cut_reason, first_cut, cut_table, missing_table};
 
 use crate::reason::Reason;
 use subsetter_base::Tag;
@@ -71,26 +71,43 @@ fn no_face(font: &[u8], index: u32) -> Option<Reason>
     Some(Reason::NoFace(index, count))
 }
 
+/// That a file begins as no font does, by its first four bytes.
+fn by_front(front: Option<Tag>) -> Reason
+    ensures { result ≡ by_front front }
+{
+    match front {
+        Some(front) => Reason::Begins(front),
+        None => Reason::NotFont,
+    }
+}
+
 /// What a file is that begins as no font does, by the number where EOT has its own.
-fn by_magic(magic: Option<u16>) -> Reason
-    ensures { result ≡ by_magic magic }
+fn by_magic(magic: Option<u16>, front: Option<Tag>) -> Reason
+    ensures { result ≡ by_magic magic front }
 {
     match magic {
         Some(EOT) => Reason::Eot,
-        _ => Reason::NotFont,
+        _ => by_front(front),
     }
 }
 
 /// What a file is that begins as no font does, by its first number or by the number where EOT has its own.
-fn other_format(front: Option<u16>, magic: Option<u16>) -> Reason
-    ensures { result ≡ other_format front magic }
+fn other_format(number: Option<u16>, magic: Option<u16>, front: Option<Tag>) -> Reason
+    ensures { result ≡ other_format number magic front }
 {
-    match front {
+    match number {
         Some(TYPE_1) => Reason::Type1,
         Some(TYPE_1_SEGMENT) => Reason::Type1,
         Some(PDF) => Reason::Pdf,
-        _ => by_magic(magic),
+        _ => by_magic(magic, front),
     }
+}
+
+/// The first four bytes of a file.
+fn front_of(font: &[u8]) -> Option<Tag>
+    ensures { result ≡ front_of font.now }
+{
+    Reader::new_at(font, 0).read::<Tag>()
 }
 
 /// Whether a file begins as no font does.
@@ -102,7 +119,11 @@ fn not_font(font: &[u8]) -> Option<Reason>
     }
     match kind_at(font, 0) {
         Some(_) => None,
-        None => Some(other_format(number_at(font, 0), number_at(font, EOT_MAGIC))),
+        None => Some(other_format(
+            number_at(font, 0),
+            number_at(font, EOT_MAGIC),
+            front_of(font),
+        )),
     }
 }
 

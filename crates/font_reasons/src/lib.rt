@@ -9,6 +9,7 @@
 #![tactic(auto)]
 
 mod asked;
+mod characters;
 mod charstrings;
 mod explained;
 mod file;
@@ -23,8 +24,9 @@ mod variations;
 mod varying;
 
 pub use asked::{Asked, Call};
+pub use characters::no_mapping;
 pub use explained::explain;
 pub use file::{cut_table, directory_of, face_count, missing_table, no_font};
-pub use parts::{count_glyphs, no_table};
+pub use parts::no_table;
 pub use permission::find_prohibition;
 pub use reason::Reason;

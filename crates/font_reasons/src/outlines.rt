@@ -6,7 +6,7 @@ ghost use Rattle.subsetter_base.specs.Bytes.{from_offset, number};
 ghost use Rattle.subsetter_base.specs.declared.error.Error.TheVariants.{OutOfMemory};
 ghost use Rattle.subsetter_sfnt.specs.Extras.{all_extras};
 ghost use Rattle.subsetter_sfnt.specs.Read.{stored};
-ghost use Rattle.font_reasons.specs.Outlines.{entry, wrong_range, wrong_between, wrong_outline, outline, arguments_size, transform_size, component_at, has_more, no_components, walked, components_by, components_in, by_component, by_components, cut_component, wrong_components, wrong_description, wrong_glyph, first_wrong, glyphs_in, components_of, reached, reached_all, reached_by, reached_from, reached_below, outline_tables, tree, tree_reason, without_loca, no_loca, levels_below, first_deep, deep_reason};
+ghost use Rattle.font_reasons.specs.Outlines.{entry, wrong_range, wrong_between, wrong_outline, outline, arguments_size, transform_size, component_at, has_more, no_components, walked, components_by, components_in, by_component, by_components, cut_component, wrong_components, wrong_description, wrong_glyph, first_wrong, glyphs_in, components_of, reached, reached_all, reached_by, reached_from, reached_below, outline_tables, tree, by_format, tree_reason, without_loca, no_loca, levels_below, first_deep, deep_reason};
 ghost use Rattle.font_reasons.specs.View.{component_view, reach_view, tables_view, walked_view};
 
 use crate::parts::no_table;
@@ -503,6 +503,17 @@ pub fn tree(
     reached_below(alloc, tables, u16::from(depth) + 1, Reach { steps, seen })
 }
 
+/// What is wrong with an outline by a format of `loca`: the format, if there is none such.
+fn by_format(format: u16, found: Option<Reason>) -> Option<Reason>
+    ensures { result ≡ by_format format found }
+{
+    let reason = found?;
+    if format > 1 {
+        return Some(Reason::LocFormat(format));
+    }
+    Some(reason)
+}
+
 /// What is wrong with the outlines of these glyphs, or of their components down to a depth, where the face has the tables of
 /// outlines in `glyf`.
 ///
@@ -524,7 +535,8 @@ pub fn tree_reason(
         Some(tables) => {
             let seen = tree(alloc, tables, steps, depth, mapper)?;
             let Tables { glyf, loca, format } = tables;
-            Ok(first_wrong(alloc, glyf, loca, format, &seen)?)
+            let found = first_wrong(alloc, glyf, loca, format, &seen)?;
+            Ok(by_format(format, found))
         }
         None => Ok(None),
     }

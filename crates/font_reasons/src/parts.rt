@@ -14,7 +14,7 @@ use subsetter_sfnt::fields::hmtx::{glyph_metric, last_advance};
 use subsetter_sfnt::fields::maxp::num_glyphs;
 
 /// numGlyphs of a face's `maxp`.
-pub fn count_glyphs(font: &[u8], index: u32) -> Option<u16>
+fn count_glyphs(font: &[u8], index: u32) -> Option<u16>
     ensures { result ≡ face_glyphs (record { bytes = font.now; index = index; extras = all_extras }) }
 {
     let maxp = table(font, index, Tag::MAXP)?;

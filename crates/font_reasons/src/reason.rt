@@ -2,13 +2,13 @@
 
 ghost use Rattle.std.specs.Prelude.{◌≡◌};
 ghost use Rattle.font_reasons.specs.About.{reason_table, reason_glyph};
-ghost use Rattle.font_reasons.specs.Texts.{table_name};
+ghost use Rattle.font_reasons.specs.Texts.{is_printable, is_text, table_name};
 
 use std::fmt;
 use subsetter_base::Tag;
 
 /// What is wrong with a font, or with what is requested of it.
-#[derive(Clone, Copy, PartialEq, Eq, Debug, Drop)]
+#[derive(Clone, Copy, Drop)]
 pub enum Reason {
     /// The file is a WOFF.
     Woff,
@@ -20,7 +20,9 @@ pub enum Reason {
     Eot,
     /// The file is a PDF.
     Pdf,
-    /// The file begins as no font does.
+    /// The file begins with these four bytes, as no font does.
+    Begins(Tag),
+    /// The file begins as no font does, and has fewer than four bytes.
     NotFont,
     /// The file has no bytes.
     Empty,
@@ -42,6 +44,8 @@ pub enum Reason {
     NoTable(Tag),
     /// `loca` has no entries for this glyph.
     NoEntries(u16),
+    /// indexToLocFormat of `head` is this, neither 0 nor 1, and by it an outline can't be read.
+    LocFormat(u16),
     /// The entries of `loca` descend for this glyph.
     Descends(u16),
     /// The outline of this glyph isn't inside `glyf`.
@@ -66,10 +70,14 @@ pub enum Reason {
     LostName(u16),
     /// `cmap` has no table of an encoding and a format that are read.
     NoUnicode,
+    /// The table of `cmap` that is used, of this format, has this many bytes, and needs this many.
+    ShortMap(u16, u64, u64),
     /// The outlines are those of `CFF2`, which calls at coordinates take.
     OnlyCff2,
     /// fsType of `OS/2` is this, and this bit of it forbids embedding, subsets (bit 8) or outlines (bit 9).
     Forbidden(u16, u8),
+    /// majorVersion of `CFF2` is this, and not 2.
+    Cff2Version(u8),
     /// majorVersion of this table isn't 1.
     OtherVersion(Tag),
     /// axisSize of `fvar` is this, and 20 is the least.
@@ -92,6 +100,10 @@ pub enum Reason {
     Unvaried(Tag, u16),
     /// What the metric of this tag varies by in `MVAR` can't be read.
     WrongMetric(Tag),
+    /// All glyphs from 1 to 65535 are requested, which leave no number for glyph 0.
+    AllGlyphs,
+    /// The new font may have this many bytes, and take this many tokens: either is too little, or a number is too large.
+    TightLimits(u32, u32),
 }
 
 impl Reason {
@@ -105,6 +117,7 @@ impl Reason {
             Reason::BitmapsAlone(tag) => Some(tag),
             Reason::NoGlyph(_, _) => Some(Tag::MAXP),
             Reason::NoEntries(_) => Some(Tag::LOCA),
+            Reason::LocFormat(_) => Some(Tag::HEAD),
             Reason::Descends(_) => Some(Tag::LOCA),
             Reason::Outside(_) => Some(Tag::GLYF),
             Reason::CutHeader(_) => Some(Tag::GLYF),
@@ -117,8 +130,10 @@ impl Reason {
             Reason::Short(tag, _, _) => Some(tag),
             Reason::LostName(_) => Some(Tag::NAME),
             Reason::NoUnicode => Some(Tag::new(b"cmap")),
+            Reason::ShortMap(_, _, _) => Some(Tag::new(b"cmap")),
             Reason::OnlyCff2 => Some(Tag::CFF2),
             Reason::Forbidden(_, _) => Some(Tag::new(b"OS/2")),
+            Reason::Cff2Version(_) => Some(Tag::CFF2),
             Reason::OtherVersion(tag) => Some(tag),
             Reason::AxisSize(_) => Some(Tag::new(b"fvar")),
             Reason::AxisCount(tag, _, _) => Some(tag),
@@ -301,6 +316,25 @@ impl fmt::Display for ShortText {
     }
 }
 
+/// That a table of `cmap` is too short, by its format.
+#[derive(Clone, Copy)]
+struct ShortMapText(u16, u64, u64);
+
+impl fmt::Display for ShortMapText {
+    ghost use Rattle.std.specs.Prelude.{Some};
+    ghost use Rattle.font_reasons.specs.Texts.{short_map_text};
+
+    ghost output = { λ it. Some (short_map_text it.0 it.1 it.2) };
+
+    fn fmt<W: fmt::Write>(&self, f: &mut fmt::Formatter<W>) -> fmt::Result {
+        let ShortMapText(format, size, needed) = *self;
+        write!(
+            f,
+            "cmap: its table in format {format} has {size} bytes, needs {needed}"
+        )
+    }
+}
+
 /// That a table and `fvar` have different axis counts.
 #[derive(Clone, Copy)]
 struct AxesText(Tag, u16, u16);
@@ -364,6 +398,80 @@ impl fmt::Display for ForbiddenText {
     }
 }
 
+/// Whether a byte is a character of ASCII that can be seen, or a space.
+fn is_printable(byte: u8) -> bool
+    ensures { result ≡ is_printable byte }
+{
+    32 <= byte && byte < 127
+}
+
+/// Whether four bytes are such characters.
+fn is_text(tag: Tag) -> bool
+    ensures { result ≡ is_text tag }
+{
+    let bytes = tag.get();
+    is_printable(bytes[0])
+        && (is_printable(bytes[1]) && (is_printable(bytes[2]) && is_printable(bytes[3])))
+}
+
+/// Four bytes in hexadecimal digits.
+#[derive(Clone, Copy)]
+struct FrontDigits(Tag);
+
+impl fmt::Display for FrontDigits {
+    ghost use Rattle.std.specs.Prelude.{Some};
+    ghost use Rattle.font_reasons.specs.Texts.{front_digits};
+
+    ghost output = { λ it. Some (front_digits it.0) };
+
+    fn fmt<W: fmt::Write>(&self, f: &mut fmt::Formatter<W>) -> fmt::Result {
+        let FrontDigits(tag) = *self;
+        let bytes = tag.get();
+        let front = Hex(256 * u16::from(bytes[0]) + u16::from(bytes[1]));
+        let back = Hex(256 * u16::from(bytes[2]) + u16::from(bytes[3]));
+        write!(f, "{front}{back}")
+    }
+}
+
+/// Four bytes as a text, where they are one.
+#[derive(Clone, Copy)]
+struct FrontText(Tag);
+
+impl fmt::Display for FrontText {
+    ghost use Rattle.std.specs.Prelude.{Some};
+    ghost use Rattle.font_reasons.specs.Texts.{front_text};
+
+    ghost output = { λ it. Some (front_text it.0) };
+
+    fn fmt<W: fmt::Write>(&self, f: &mut fmt::Formatter<W>) -> fmt::Result {
+        let FrontText(tag) = *self;
+        if is_text(tag) {
+            return write!(f, " ({tag})");
+        }
+        f.write_str("")
+    }
+}
+
+/// That a file begins with four bytes, as no font does.
+#[derive(Clone, Copy)]
+struct BeginText(Tag);
+
+impl fmt::Display for BeginText {
+    ghost use Rattle.std.specs.Prelude.{Some};
+    ghost use Rattle.font_reasons.specs.Texts.{begin_text};
+
+    ghost output = { λ it. Some (begin_text it.0) };
+
+    fn fmt<W: fmt::Write>(&self, f: &mut fmt::Formatter<W>) -> fmt::Result {
+        let BeginText(tag) = *self;
+        let (digits, text) = (FrontDigits(tag), FrontText(tag));
+        write!(
+            f,
+            "not a font: its first bytes are {digits}{text}, none of TrueType, OpenType, a collection"
+        )
+    }
+}
+
 impl fmt::Display for Reason {
     ghost use Rattle.std.specs.Prelude.{Some};
     ghost use Rattle.font_reasons.specs.Texts.{reason_text};
@@ -377,6 +485,7 @@ impl fmt::Display for Reason {
             Reason::Type1 => f.write_str("a Type 1 font: convert it to OpenType first"),
             Reason::Eot => f.write_str("an EOT file: convert it to OpenType first"),
             Reason::Pdf => f.write_str("not a font: a PDF file"),
+            Reason::Begins(tag) => write!(f, "{}", BeginText(tag)),
             Reason::NotFont => {
                 f.write_str(
                     "not a font: its first bytes are none of TrueType, OpenType, a collection",
@@ -406,6 +515,14 @@ impl fmt::Display for Reason {
             Reason::NoTable(tag) => write!(f, "the face has no table {}", TableName(tag)),
             Reason::NoEntries(glyph) => {
                 let text = Between("glyph ", u32::from(glyph), ": loca has no entries for it");
+                write!(f, "{text}")
+            }
+            Reason::LocFormat(format) => {
+                let text = Between(
+                    "head: indexToLocFormat is ",
+                    u32::from(format),
+                    ", neither 0 nor 1",
+                );
                 write!(f, "{text}")
             }
             Reason::Descends(glyph) => {
@@ -463,8 +580,15 @@ impl fmt::Display for Reason {
                     "cmap: no table for Unicode, symbols or Mac Roman in format 0, 4, 6, 12 or 13",
                 )
             }
+            Reason::ShortMap(format, size, needed) => {
+                write!(f, "{}", ShortMapText(format, size, needed))
+            }
             Reason::OnlyCff2 => f.write_str("CFF2: its outlines are taken at coordinates alone"),
             Reason::Forbidden(fs_type, bit) => write!(f, "{}", ForbiddenText(fs_type, bit)),
+            Reason::Cff2Version(version) => {
+                let text = Between("CFF2: its major version is ", u32::from(version), ", not 2");
+                write!(f, "{text}")
+            }
             Reason::OtherVersion(tag) => {
                 write!(f, "{}: its major version isn't 1", TableName(tag))
             }
@@ -517,6 +641,17 @@ impl fmt::Display for Reason {
             }
             Reason::WrongMetric(tag) => {
                 write!(f, "MVAR: the value of {} can't be read", TableName(tag))
+            }
+            Reason::AllGlyphs => {
+                f.write_str(
+                    "glyphs 1 to 65535 are all requested: with glyph 0 that is one more than a font can have",
+                )
+            }
+            Reason::TightLimits(bytes, tokens) => {
+                write!(
+                    f,
+                    "more than the {bytes} bytes or {tokens} tokens of the limits, or a number that is too large"
+                )
             }
         }
     }

@@ -2,3 +2,4 @@
 pub mod Hint
 pub mod LimitHint
 pub mod SecondLook
+pub mod Texts

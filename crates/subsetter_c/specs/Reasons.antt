@@ -17,7 +17,7 @@ use Rattle.font_reasons.specs.declared.asked.Call.TheVariants.{Subset, SubsetAt,
 use Rattle.font_reasons.specs.declared.asked.Call.TheVariants.{Advances}
 use Rattle.font_reasons.specs.declared.reason.Reason.{Reason}
 use Rattle.subsetter_c.specs.Answers.Status.{bitmaps_alone, no_cmap, not_permitted}
-use Rattle.subsetter_c.specs.Options.{requested_depth, requested_extras, requested_tokens}
+use Rattle.subsetter_c.specs.Options.{requested_bytes, requested_depth, requested_extras, requested_tokens}
 
 -- the calls are numbered from 0 on
 abbrev pub call_named : ℕ → Call
@@ -43,6 +43,7 @@ question call index settings glyphs words e = record {
   extras = requested_extras words;
   tokens = requested_tokens words;
   depth = requested_depth words;
+  bytes = requested_bytes words;
 }
 
 unfoldable pub reason_of : Question → List ℕ → Option Reason

@@ -83,6 +83,7 @@ fn reason_with(
         coordinates: settings,
         extras: options.extras,
         limits: options.limits,
+        most_bytes: options.limits.bytes(),
     };
     reason_of(alloc, font, &asked)
 }

@@ -9,15 +9,15 @@ use Rattle.subsetter_base.specs.declared.error.Error.TheVariants.{OutOfMemory}
 use Rattle.subsetter_sfnt.specs.Read.{Font, header_offset}
 use Rattle.subsetter_sfnt.specs.Extras.{all_extras}
 use Rattle.subsetter_type2.specs.declared.limits.Limits.{Limits}
-use Rattle.font_reasons.specs.Parts.{face_glyphs}
+use Rattle.subset_task.specs.Making.Requested.{face_glyphs}
 use Rattle.font_reasons.specs.declared.asked.Call.TheVariants.{Subset}
 use Rattle.subset_font.specs.Refusals.SecondLook.{known_after}
 use Rattle.subset_font.specs.Faces.Accepted.{IsPlain, IsCause, IsAnswer}
 use Rattle.subset_font.specs.Faces.Info.{IsInfo, info_text, ShowsInfo, IsInfoFault}
-use Rattle.subset_task.specs.Refusals.Texts.{hint_text}
+use Rattle.subset_font.specs.Refusals.Texts.{hint_text}
 use Rattle.subset_task.specs.declared.refusals.failure.Failure.{Failure}
 use Rattle.subset_task.specs.declared.refusals.failure.Failure.TheVariants.{Error, Read, Output}
-use Rattle.subset_task.specs.declared.refusals.hint.text.Hint.{Hint}
+use Rattle.subset_font.specs.declared.refusals.hint.text.Hint.{Hint}
 use Rattle.subset_task.specs.declared.task.RequestedGlyphs.TheVariants.{Every}
 use Rattle.subset_task.specs.declared.task.Task.{Task}
 

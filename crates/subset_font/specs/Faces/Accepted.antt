@@ -9,10 +9,11 @@ use Rattle.subsetter_sfnt.specs.Read.{Font}
 use Rattle.subset_args.specs.Listing.Lists.{counting}
 use Rattle.subsetter_type2.specs.declared.limits.Limits.{Limits}
 use Rattle.subset_font.specs.Making.Made.{IsMade, IsUnmade}
-use Rattle.font_reasons.specs.Parts.{face_glyphs}
+use Rattle.subset_task.specs.Making.Requested.{face_glyphs}
 use Rattle.font_reasons.specs.declared.asked.Call.TheVariants.{Subset}
 use Rattle.subset_font.specs.Refusals.SecondLook.{known_after}
-use Rattle.subset_task.specs.Refusals.Texts.{failure_text, hint_text}
+use Rattle.subset_task.specs.Refusals.Texts.{failure_text}
+use Rattle.subset_font.specs.Refusals.Texts.{hint_text}
 use Rattle.subset_task.specs.declared.task.RequestedGlyphs.{RequestedGlyphs}
 use Rattle.subset_task.specs.declared.task.RequestedGlyphs.TheVariants.{Every}
 use Rattle.subset_task.specs.declared.task.Task.{Task}

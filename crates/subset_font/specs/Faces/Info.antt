@@ -17,7 +17,7 @@ use Rattle.font_reasons.specs.File.{face_count}
 use Rattle.subset_task.specs.Faces.Outlines.{outlines_of}
 use Rattle.font_reasons.specs.Directory.{bytes_or_none, records_in}
 use Rattle.subset_task.specs.Faces.Tables.{tables_of}
-use Rattle.font_reasons.specs.Parts.{face_glyphs}
+use Rattle.subset_task.specs.Making.Requested.{face_glyphs}
 use Rattle.subset_task.specs.declared.refusals.failure.Failure.{Failure}
 use Rattle.subset_task.specs.declared.refusals.failure.Failure.TheVariants.{Error}
 

@@ -8,7 +8,7 @@ use Rattle.subsetter_sfnt.specs.Extras.{all_extras}
 use Rattle.subsetter_sfnt.specs.Read.{Font as Face, find_record, records, stored}
 use Rattle.subsetter_sfnt.specs.declared.face.TableRecord.{TableRecord}
 use Rattle.font_reasons.specs.Directory.{bytes_or_none, records_in}
-use Rattle.font_reasons.specs.Explained.{no_cmap}
+use Rattle.font_reasons.specs.Characters.{no_mapping}
 use Rattle.font_reasons.specs.File.{or_else, no_font, missing_table}
 use Rattle.subset_lines.specs.declared.faces.outlines.Outlines.{Outlines}
 use Rattle.subset_lines.specs.declared.faces.outlines.Outlines.TheVariants.{TrueType, Cff, Cff2 as HasCff2, Missing}
@@ -22,9 +22,9 @@ use Rattle.subset_task.specs.declared.refusals.failure.Failure.TheVariants.{Erro
 use Rattle.subset_task.specs.declared.refusals.failure.Failure.TheVariants.{BlankGlyphs, TextTooLong, NoInstance, NotPermitted}
 use Rattle.subset_task.specs.declared.refusals.failure.Failure.TheVariants.{Usage, List as WrongList, Read, ReadList}
 use Rattle.subset_task.specs.declared.refusals.failure.Failure.TheVariants.{Write, WritePdf, Output, LongAnswer}
-use Rattle.subset_task.specs.declared.refusals.hint.text.Hint.{Hint}
-use Rattle.subset_task.specs.declared.refusals.hint.text.Hint.TheVariants.{Font, Cff2, NoUnicode, WrongAxes, NoAxes}
-use Rattle.subset_task.specs.declared.refusals.hint.text.Hint.TheVariants.{Forbidden}
+use Rattle.subset_font.specs.declared.refusals.hint.text.Hint.{Hint}
+use Rattle.subset_font.specs.declared.refusals.hint.text.Hint.TheVariants.{Font, Cff2, WrongAxes, NoAxes}
+use Rattle.subset_font.specs.declared.refusals.hint.text.Hint.TheVariants.{Forbidden}
 
 -- outlines of CFF2
 abbrev pub cff2_by : Outlines → Option Hint
@@ -48,12 +48,10 @@ abbrev pub hint_of_error : Refusal → Task → List ℕ → Option Hint
 hint_of_error Unimplemented task bytes = no_coordinates task bytes
 hint_of_error other task bytes = None
 
--- why a face has no mapping of Unicode characters: there is no face, no cmap, or none of its tables that are read
-unfoldable pub no_mapping : Face → Option Hint
-no_mapping font = or_else (option_map Font (no_cmap font)) (Some NoUnicode)
-
+-- why a face has no mapping of Unicode characters, or lacks some: no face, no cmap, none of its tables that are read, or
+-- it is cut
 abbrev pub hint_of_mapping : Face → Option Hint
-hint_of_mapping font = or_else (option_map Font (no_font font)) (no_mapping font)
+hint_of_mapping font = option_map Font (or_else (no_font font) (no_mapping font))
 
 -- what is said after a failure to print axes
 abbrev pub axes_hint_of_error : Refusal → List ℕ → ℕ → Option Hint
@@ -103,7 +101,7 @@ abbrev pub hint_of : Failure → Task → List ℕ → Option Hint
 hint_of (Error e) task bytes = hint_of_error e task bytes
 hint_of NoMapping task bytes = hint_of_mapping (face_of task bytes)
 hint_of NoInstance task bytes = None
-hint_of MissingCharacters task bytes = None
+hint_of MissingCharacters task bytes = hint_of_mapping (face_of task bytes)
 hint_of BlankGlyphs task bytes = None
 hint_of TextTooLong task bytes = None
 hint_of (NotPermitted permission) task bytes = Some (Forbidden (forbidden_bit permission))

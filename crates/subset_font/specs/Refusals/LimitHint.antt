@@ -6,8 +6,8 @@ use Rattle.subsetter_type2.specs.declared.limits.Limits.{Limits}
 use Rattle.subset_font.specs.Faces.Accepted.{is_of_memory}
 use Rattle.subset_font.specs.Making.Outcome.{IsOutcome, IsNoOutcome}
 use Rattle.subset_task.specs.declared.refusals.failure.Failure.{Failure}
-use Rattle.subset_task.specs.declared.refusals.hint.text.Hint.{Hint}
-use Rattle.subset_task.specs.declared.refusals.hint.text.Hint.TheVariants.{MoreBytes, LittleLimits, GivenLimits}
+use Rattle.subset_font.specs.declared.refusals.hint.text.Hint.{Hint}
+use Rattle.subset_font.specs.declared.refusals.hint.text.Hint.TheVariants.{MoreBytes, LittleLimits, GivenLimits}
 use Rattle.subset_font.specs.declared.making.outcome.Outcome.{Outcome}
 use Rattle.subset_task.specs.declared.task.Plan.{Plan}
 

@@ -16,8 +16,8 @@ use Rattle.subset_font.specs.Making.Made.{face_of}
 use Rattle.subset_font.specs.Refusals.Hint.{hint_of}
 use Rattle.subset_task.specs.declared.refusals.failure.Failure.{Failure}
 use Rattle.subset_task.specs.declared.refusals.failure.Failure.TheVariants.{Error}
-use Rattle.subset_task.specs.declared.refusals.hint.text.Hint.{Hint}
-use Rattle.subset_task.specs.declared.refusals.hint.text.Hint.TheVariants.{Font}
+use Rattle.subset_font.specs.declared.refusals.hint.text.Hint.{Hint}
+use Rattle.subset_font.specs.declared.refusals.hint.text.Hint.TheVariants.{Font}
 use Rattle.subset_task.specs.declared.task.Task.{Task}
 
 -- which call a task comes to: with a PDF, at coordinates, with widths
@@ -25,7 +25,7 @@ abbrev pub call_of : Bool → Bool → Bool → Call
 call_of pdf at widths =
     if pdf then PdfFont else if at then (if widths then EmbedAt else SubsetAt) else if widths then Embed else Subset
 
--- what it asks for, of these glyphs at these coordinates
+-- what it asks for, of these glyphs at these coordinates; that the new font is too long is seen apart
 abbrev pub question : Call → Refusal → Task → List (Tag × ℤ) → List ℕ → Question
 question call e task settings glyphs = record {
   call = call;
@@ -36,6 +36,7 @@ question call e task settings glyphs = record {
   extras = task.options.extras;
   tokens = task.options.limits.tokens;
   depth = task.options.limits.depth;
+  bytes = None;
 }
 
 -- where no glyphs are there, a face may lack the table that counts them

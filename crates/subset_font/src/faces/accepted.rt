@@ -4,16 +4,16 @@ ghost use Rattle.std.specs.Prelude.{◌≡◌, ◌≤◌, [], ◌∷◌, IfOk, I
 ghost use Rattle.std.specs.Option.{option_map};
 ghost use Rattle.subsetter_sfnt.specs.Extras.{all_extras};
 ghost use Rattle.subset_font.specs.Faces.Accepted.{IsPlain, is_of_memory, IsCause, IsAccepted, IsRefusedWhole, IsAnswer};
-ghost use Rattle.subset_task.specs.Refusals.Texts.{hint_text};
+ghost use Rattle.subset_font.specs.Refusals.Texts.{hint_text};
 ghost use Rattle.subset_task.specs.declared.task.RequestedGlyphs.{RequestedGlyphs};
 
 use crate::making::subset::make_of;
+use crate::refusals::hint::text::Hint;
 use crate::refusals::second_look::all_known;
-use font_reasons::{Call, count_glyphs};
+use font_reasons::Call;
 use std::alloc::{AllocError, Global};
-use subset_task::making::requested::first_glyphs;
+use subset_task::making::requested::{count_glyphs, first_glyphs};
 use subset_task::refusals::failure::Failure;
-use subset_task::refusals::hint::text::Hint;
 use subset_task::task::{Form, RequestedGlyphs, Requests, Task};
 use subsetter::{Error, Extras, Limits, Options, Tag};
 use subsetter_sfnt::directory::table;

@@ -13,14 +13,14 @@ ghost use Rattle.subset_task.specs.Faces.Tables.{tables_of};
 ghost use Rattle.subset_task.specs.declared.refusals.failure.Failure.TheVariants.{Error as Refused, Read as CannotRead, Output, Usage};
 
 use crate::faces::accepted::{InfoParts, try_all};
-use font_reasons::{count_glyphs, directory_of, face_count};
+use font_reasons::{directory_of, face_count};
 use glyph_kinds::{kind_counts, kinds_of};
 use std::alloc::{AllocError, Global};
 use std::io::{Read, Write};
 use subset_lines::{Info, write_info, write_info_json};
 use subset_task::faces::outlines::outlines_of;
 use subset_task::faces::tables::tables_of;
-use subset_task::making::requested::first_glyphs;
+use subset_task::making::requested::{count_glyphs, first_glyphs};
 use subset_task::reading::read_whole;
 use subset_task::refusals::failure::Failure;
 use subsetter::{Error, Tag};

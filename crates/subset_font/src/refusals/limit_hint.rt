@@ -7,8 +7,8 @@ ghost use Rattle.subset_font.specs.Refusals.LimitHint.{within, twice, AreLonger,
 
 use crate::faces::accepted::is_of_memory;
 use crate::making::outcome::make_planned;
+use crate::refusals::hint::text::Hint;
 use std::alloc::{AllocError, Global};
-use subset_task::refusals::hint::text::Hint;
 use subset_task::task::{Plan, Task};
 use subsetter::{Limits, Options};
 

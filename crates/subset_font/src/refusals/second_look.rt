@@ -6,10 +6,10 @@ ghost use Rattle.subset_font.specs.Making.Made.{face_of};
 ghost use Rattle.subset_font.specs.Refusals.SecondLook.{call_of, known_after, seen_after, seen_again, uncounted};
 
 use crate::refusals::hint::found::{find_hint, shown};
+use crate::refusals::hint::text::Hint;
 use font_reasons::{Asked, Call, Reason, explain, no_table};
 use std::alloc::{AllocError, Global};
 use subset_task::refusals::failure::Failure;
-use subset_task::refusals::hint::text::Hint;
 use subset_task::task::Task;
 use subsetter::{Error, Tag};
 
@@ -69,6 +69,7 @@ fn look_again(
         coordinates: settings,
         extras: task.options.extras,
         limits: task.options.limits,
+        most_bytes: None,
     };
     match explain(alloc, font, &asked) {
         Ok(found) => Ok(shown(found.or(uncounted(error, font, task, glyphs)))),

@@ -6,6 +6,7 @@ ghost use Rattle.subset_font.specs.Report.{has_notes};
 
 use crate::making::outcome::{other_face, takes_default, task_at};
 use crate::refusals::hint::found::{find_axes_hint, find_hint, no_axes};
+use crate::refusals::hint::text::Hint;
 use crate::refusals::limit_hint::find_limit_hint;
 use crate::refusals::second_look::{call_of, look_after};
 use glyph_kinds::unseen_glyphs;
@@ -21,7 +22,6 @@ use subset_task::faces::named::{face_settings, instance_names};
 use subset_task::making::requested::{Picked, pick};
 use subset_task::notes::{known_axes, notes_for};
 use subset_task::refusals::failure::{Failure, Report, file_of, status_of_run};
-use subset_task::refusals::hint::text::Hint;
 use subset_task::task::{Form, Plan, Requests, Task};
 use subsetter::{Error, Tag};
 

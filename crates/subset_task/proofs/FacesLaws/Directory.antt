@@ -1,13 +1,16 @@
 -- A row for each record of a directory.
-use Rattle.std.proofs.Common.{◌≡◌, ℕ, List, [], ◌∷◌, ◌++◌, map, append_assoc, append-nil, Some, None, sym, ap, ◌∙◌}
+use Rattle.std.proofs.Common.{◌≡◌, ℕ, ◌-◌, ◌/◌, List, [], ◌∷◌, ◌++◌, length, map, drop, append_assoc, append-nil, Some, None, sym, ap, ◌∙◌}
 use Rattle.std.specs.Option.{option_and_then}
 use Rattle.subsetter_base.specs.Bytes.{range}
 use Rattle.subsetter_sfnt.specs.declared.face.TableRecord.{TableRecord}
-use Rattle.subsetter_sfnt.specs.Read.{record_of}
+use Rattle.subsetter_sfnt.specs.Read.{record_of, directory_records}
 use Rattle.subsetter_sfnt.proofs.Laws.LayingLaws.Records.{reads_none}
-use Rattle.font_reasons.proofs.Directory.{records_from}
 use Rattle.subset_task.specs.Faces.Tables.{new_row, new_rows}
 use Rattle.subset_lines.specs.declared.faces.sizes.TableSize.{TableSize}
+
+-- the records from an offset on
+abbrev pub records_from : List ℕ → ℕ → List TableRecord
+records_from R p = directory_records ((length R - p) / 16) (drop p R)
 
 pub rows_end : {X : Type 0} (f : TableRecord → X) (R : List ℕ) (p : ℕ) (rows total : List X) → option_and_then (λ bytes. Some (record_of bytes)) (range R p 16) ≡ None → rows ++ map f (records_from R p) ≡ total → rows ≡ total
 rows_end f R p rows total h t = sym (append-nil rows) ∙ (ap (λ (rs : List TableRecord). rows ++ map f rs) (sym (reads_none R p h)) ∙ t)

@@ -1,6 +1,6 @@
 -- What is shown of the outlines and the axes of a face.
 use Rattle.std.specs.Prelude.{◌≡◌, ◌⊎◌, ℕ, Bool, true, false, if◌then◌else◌, List, [], ◌∷◌, Option, Some, None, codes}
-use Rattle.std.specs.Option.{option_map, option_and_then}
+use Rattle.std.specs.Option.{option_map, option_and_then, unwrap_or}
 use Rattle.std.specs.Str.{bytes_eq}
 use Rattle.std.specs.Io.KnownBytes.{Appends}
 use Rattle.subsetter_base.specs.declared.error.Error.TheVariants.{UnknownKind, MalformedFont}
@@ -12,7 +12,6 @@ use Rattle.subset_lines.specs.Faces.Axes.{instances, text_of}
 use Rattle.subset_lines.specs.Objects.AxesJson.{axes_json}
 use Rattle.subset_lines.specs.declared.faces.outlines.Outlines.{Outlines}
 use Rattle.subset_task.specs.Faces.Outlines.{outlines_of}
-use Rattle.font_reasons.specs.Directory.{bytes_or_none}
 use Rattle.subset_task.specs.declared.refusals.failure.Failure.{Failure}
 use Rattle.subset_task.specs.declared.refusals.failure.Failure.TheVariants.{Error}
 
@@ -32,7 +31,7 @@ axes_text json outlines names (Some fvar) = text_of_axes json outlines names fva
 
 abbrev pub face_text : Bool → Font → Option (List ℕ)
 face_text json font =
-    axes_text json (outlines_of font) (bytes_or_none (stored font (codes "name"))) (stored font (codes "fvar"))
+    axes_text json (outlines_of font) (unwrap_or (stored font (codes "name")) []) (stored font (codes "fvar"))
 
 -- a face's axes were shown
 pub record IsAxesReport (json : Bool) (font : Font) (old new : Option (List ℕ)) : Type 0 where

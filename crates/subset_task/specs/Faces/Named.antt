@@ -3,7 +3,7 @@ use Rattle.std.specs.Prelude.{ℕ, ◌-◌, ◌==◌, ℤ, pos, Bool, true, fals
 use Rattle.std.specs.Prelude.{take, length, decimal, Option, Some, None, is_some, codes}
 use Rattle.std.specs.Char.{to_ascii_lowercase}
 use Rattle.std.specs.Int.{w32, cast_signed}
-use Rattle.std.specs.Option.{option_map, option_and_then}
+use Rattle.std.specs.Option.{option_map, option_and_then, unwrap_or}
 use Rattle.std.specs.Str.{bytes_eq}
 use Rattle.subsetter_base.specs.Bytes.{number}
 use Rattle.subsetter_base.specs.declared.tag.Tag.{Tag}
@@ -12,7 +12,6 @@ use Rattle.subsetter_variation.specs.Locations.Axes.{axes}
 use Rattle.subsetter_variation.specs.declared.locations.axes.Axis.{Axis}
 use Rattle.subset_lines.specs.Faces.Axes.{instances}
 use Rattle.subset_lines.specs.Faces.Names.{name_of, text_of_units}
-use Rattle.font_reasons.specs.Directory.{bytes_or_none}
 
 -- the same name but for the case of ASCII letters
 abbrev pub is_same_name : List ℕ → List ℕ → Bool
@@ -60,7 +59,7 @@ instance_settings names name fvar =
 
 abbrev pub face_settings : Font → List ℕ → Option (List (Tag × ℤ))
 face_settings font name =
-    option_and_then (instance_settings (bytes_or_none (stored font (codes "name"))) name) (stored font (codes "fvar"))
+    option_and_then (instance_settings (unwrap_or (stored font (codes "name")) []) name) (stored font (codes "fvar"))
 
 -- ---- the line that lists the names
 
@@ -104,4 +103,4 @@ names_line names (Some records) = few_names names records
 
 abbrev pub face_names : Font → List ℕ
 face_names font =
-    names_line (bytes_or_none (stored font (codes "name"))) (option_and_then records_of (stored font (codes "fvar")))
+    names_line (unwrap_or (stored font (codes "name")) []) (option_and_then records_of (stored font (codes "fvar")))

@@ -1,10 +1,14 @@
 -- The tables of faces, with their sizes in bytes.
-use Rattle.std.specs.Prelude.{ℕ, if◌then◌else◌, List, [], ◌∷◌, ◌++◌, map, Option, Some, None, is_some}
+use Rattle.std.specs.Prelude.{ℕ, ◌/◌, if◌then◌else◌, List, [], ◌∷◌, ◌++◌, length, map, Option, Some, None, is_some}
 use Rattle.std.specs.Option.{option_map}
 use Rattle.subsetter_base.specs.declared.tag.Tag.{Tag}
 use Rattle.subsetter_sfnt.specs.declared.face.TableRecord.{TableRecord}
-use Rattle.subsetter_sfnt.specs.Read.{find_record}
+use Rattle.subsetter_sfnt.specs.Read.{directory_records, find_record}
 use Rattle.subset_lines.specs.declared.faces.sizes.TableSize.{TableSize}
+
+-- the records of a directory
+abbrev pub records_in : List ℕ → List TableRecord
+records_in bytes = directory_records (length bytes / 16) bytes
 
 -- the size of the first table of a tag
 abbrev pub size_among : Tag → List TableRecord → Option ℕ

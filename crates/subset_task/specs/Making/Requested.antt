@@ -1,12 +1,12 @@
 -- Which glyphs a task asks for of a font.
 use Rattle.std.specs.Prelude.{◌≡◌, ℕ, ◌&&◌, nat_lt, Bool, if◌then◌else◌, List, [], ◌∷◌, length, Option, Some, None}
-use Rattle.std.specs.Prelude.{Result, Ok, Err}
-use Rattle.std.specs.Option.{option_map}
+use Rattle.std.specs.Prelude.{Result, Ok, Err, codes}
+use Rattle.std.specs.Option.{option_and_then, option_map}
 use Rattle.std.specs.Str.{chars}
 use Rattle.subsetter_base.specs.declared.error.Error.TheVariants.{UnknownKind, MalformedFont}
-use Rattle.subsetter_sfnt.specs.Read.{Font, kind_at}
+use Rattle.subsetter_sfnt.specs.Fields.Maxp.{num_glyphs}
+use Rattle.subsetter_sfnt.specs.Read.{Font, kind_at, stored}
 use Rattle.subsetter_sfnt.specs.declared.face.FontKind.{FontKind}
-use Rattle.font_reasons.specs.Parts.{face_glyphs}
 use Rattle.text_glyphs.specs.Faces.{face_source}
 use Rattle.subset_args.specs.Listing.Lists.{counting}
 use Rattle.subset_task.specs.Making.Picked.{Picked, nothing, both, bare, of_text, of_characters}
@@ -27,6 +27,10 @@ unless_no_font bytes failure = unless_no_kind (kind_at bytes 0) failure
 abbrev pub or_failure : Failure → Option Picked → Result Picked Failure
 or_failure failure None = Err failure
 or_failure failure (Some picked) = Ok picked
+
+-- numGlyphs of `maxp` (OpenType, "maxp")
+abbrev pub face_glyphs : Font → Option ℕ
+face_glyphs font = option_and_then num_glyphs (stored font (codes "maxp"))
 
 -- the glyphs of one request, or why there are none: the face doesn't say how many it has, or has no table of characters
 abbrev pub picked_of : Font → RequestedGlyphs → Result Picked Failure

@@ -1,11 +1,10 @@
 //! The outlines and the axes of the font that is read.
 
-ghost use Rattle.std.specs.Prelude.{◌≡◌, ◌⊎◌, ◌≢◌, IfOk, IfErr, IfSome, OnOk, codes, map, [], Some, None, false};
+ghost use Rattle.std.specs.Prelude.{◌≡◌, ◌⊎◌, ◌≢◌, IfOk, IfErr, IfSome, OnOk, codes, map, [], Some, None, false, unwrap_or};
 ghost use Rattle.subsetter_base.specs.declared.error.Error.TheVariants.{OutOfMemory, MalformedFont};
 ghost use Rattle.subsetter_sfnt.specs.Extras.{all_extras};
 ghost use Rattle.subsetter_sfnt.specs.Read.{stored};
 ghost use Rattle.subset_task.specs.Faces.Axes.{axes_shown, text_of_axes, IsAxesReport, IsAxesFault, axes_or_none};
-ghost use Rattle.font_reasons.specs.Directory.{bytes_or_none};
 ghost use Rattle.subset_task.specs.declared.refusals.failure.Failure.TheVariants.{Error as Refused, Read as CannotRead, Output, Usage};
 ghost use Rattle.std.specs.Io.KnownBytes.{Appends};
 
@@ -84,7 +83,7 @@ fn report_none<L: Write>(
 
 /// The names of a face, no bytes where it has none.
 pub fn names_of(font: &[u8], index: u32) -> &[u8]
-    ensures { result.now ≡ bytes_or_none (stored (record { bytes = font.now; index = index; extras = all_extras }) (codes "name")) }
+    ensures { result.now ≡ unwrap_or (stored (record { bytes = font.now; index = index; extras = all_extras }) (codes "name")) [] }
 {
     match table(font, index, Tag::NAME) {
         Some(names) => names,

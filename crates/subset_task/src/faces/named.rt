@@ -8,7 +8,6 @@ ghost use Rattle.subsetter_sfnt.specs.Extras.{all_extras};
 ghost use Rattle.subsetter_sfnt.specs.Read.{header_offset, stored};
 ghost use Rattle.subset_task.specs.Faces.Named.{is_same_name, after_same, is_name_of, has_name, find_named, coordinate_in, settings_of, instance_settings, face_settings, name_after, before_next, names_after, line_of_names, records_of, with_more, few_names, names_line, face_names};
 ghost use Rattle.subset_lines.specs.Faces.Names.{name_of, text_of_units};
-ghost use Rattle.font_reasons.specs.Directory.{bytes_or_none};
 ghost use Rattle.subset_task.specs.declared.refusals.failure.Failure.TheVariants.{Error as Refused, NoInstance};
 
 use crate::faces::axes::names_of;

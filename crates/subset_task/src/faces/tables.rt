@@ -1,8 +1,7 @@
 //! The tables of faces, with their sizes in bytes.
 
 ghost use Rattle.std.specs.Prelude.{◌≡◌, ◌++◌, map, OnOk, IfOk};
-ghost use Rattle.font_reasons.specs.Directory.{records_in};
-ghost use Rattle.subset_task.specs.Faces.Tables.{size_among, old_row, new_row, new_rows, table_sizes, tag_and_size, tables_of};
+ghost use Rattle.subset_task.specs.Faces.Tables.{records_in, size_among, old_row, new_row, new_rows, table_sizes, tag_and_size, tables_of};
 
 use std::alloc::{AllocError, Global};
 use subset_lines::TableSize;

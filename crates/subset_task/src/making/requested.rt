@@ -9,16 +9,16 @@ ghost use Rattle.text_glyphs.specs.View.{source_view};
 ghost use Rattle.subset_args.specs.Listing.Lists.{counting};
 ghost use Rattle.subsetter_sfnt.specs.Extras.{all_extras};
 ghost use Rattle.subset_task.specs.Making.Picked.{picked_view, nothing, both, part, texts_of, lacking, bare, of_text, of_characters};
-ghost use Rattle.subset_task.specs.Making.Requested.{unless_no_font, picked_of, picked_each, unless_missing, picked_for};
+ghost use Rattle.subset_task.specs.Making.Requested.{unless_no_font, face_glyphs, picked_of, picked_each, unless_missing, picked_for};
 ghost use Rattle.subset_task.specs.declared.refusals.failure.Failure.TheVariants.{Error as Refused};
 ghost use Rattle.subsetter_base.specs.declared.error.Error.TheVariants.{OutOfMemory};
 
 use crate::refusals::failure::Failure;
 use crate::task::{RequestedGlyphs, Requests};
-use font_reasons::count_glyphs;
 use std::alloc::{AllocError, Global};
 use subsetter::{Error, Tag};
 use subsetter_sfnt::directory::{kind_at, table};
+use subsetter_sfnt::fields::maxp::num_glyphs;
 use text_glyphs::{Entry, TextSource, find_source, glyphs_of, is_entry, read_text};
 
 /// The glyphs to keep, one after another, and the characters that request them.
@@ -299,6 +299,14 @@ fn pick_these(alloc: Global, given: &[u16]) -> Result<Picked, Failure>
 {
     let glyphs = Vec::from_slice(alloc, given).map_err(no_memory)?;
     bare(alloc, glyphs).map_err(no_memory)
+}
+
+/// numGlyphs of a face's `maxp`.
+pub fn count_glyphs(font: &[u8], index: u32) -> Option<u16>
+    ensures { result ≡ face_glyphs (record { bytes = font.now; index = index; extras = all_extras }) }
+{
+    let maxp = table(font, index, Tag::MAXP)?;
+    num_glyphs(maxp)
 }
 
 /// Every glyph of the face.

@@ -6,7 +6,7 @@ use crate::proved::subsetter_sfnt::extras::Extras;
 use crate::proved::subsetter_type2::limits::Limits;
 
 /// Which call was refused.
-#[derive(Clone, Copy, PartialEq, Eq, Debug)]
+#[derive(Clone, Copy)]
 pub enum Call {
     /// A subset.
     Subset,
@@ -38,8 +38,10 @@ pub struct Asked<'a> {
     pub coordinates: &'a [(Tag, i32)],
     /// What is kept besides outlines and metrics, of subsets with and without widths. Hinting says nothing: what reads it has no reason.
     pub extras: Extras,
-    /// How far a charstring may run. The bytes that the new font may have say nothing: no table shows them.
+    /// How far a charstring may run; the bytes of these say nothing.
     pub limits: Limits,
+    /// The most bytes of the new font, where they may be why.
+    pub most_bytes: Option<u32>,
 }
 
 /// Whether a call is one on outlines.

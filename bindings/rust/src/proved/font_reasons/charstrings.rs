@@ -5,6 +5,7 @@ use crate::rattle::prelude::Vec;
 
 use crate::proved::font_reasons::reason::Reason;
 use crate::proved::pdf_cff::unless_memory;
+use crate::proved::subsetter_base::read::Reader;
 use crate::proved::subsetter_base::{Error, GlyphRemapper, Tag};
 use crate::proved::subsetter_blend::resolving::resolve;
 use crate::proved::subsetter_blend::runs::machine::Subroutines;
@@ -231,6 +232,14 @@ fn first_refusal2(
     Ok(None)
 }
 
+/// Whether a `CFF2` table is of another major version than 2.
+pub fn other_cff2(bytes: &[u8]) -> Option<Reason> {
+    match Reader::new_at(bytes, 0).read::<u8>()? {
+        2 => None,
+        version => Some(Reason::Cff2Version(version)),
+    }
+}
+
 /// What is wrong with a `CFF2` table at a location, or with one of these glyphs of it.
 ///
 /// # Errors
@@ -247,7 +256,7 @@ pub fn cff2_reason(
         Ok(opened) => first_refusal2(alloc, &opened, limits, mapper),
         Err(error) => {
             unless_memory(error)?;
-            Ok(Some(Reason::Unread(Tag::CFF2)))
+            Ok(other_cff2(bytes).or(Some(Reason::Unread(Tag::CFF2))))
         }
     }
 }

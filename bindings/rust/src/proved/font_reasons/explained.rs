@@ -4,7 +4,8 @@
 use crate::proved::font_reasons::asked::{
     keeps_glyph_names, keeps_names, takes_outlines, Asked, Call,
 };
-use crate::proved::font_reasons::charstrings::cff_reason;
+use crate::proved::font_reasons::characters::no_mapping;
+use crate::proved::font_reasons::charstrings::{cff_reason, other_cff2};
 use crate::proved::font_reasons::names::lost_name;
 use crate::proved::font_reasons::outlines::tree_reason;
 use crate::proved::font_reasons::parts::{no_metric, no_table, wrong_metrics};
@@ -20,7 +21,6 @@ use crate::proved::subsetter_sfnt::directory::table;
 use crate::proved::subsetter_sfnt::extras::Extras;
 use crate::proved::subsetter_sfnt::fields::head::units_per_em;
 use crate::proved::subsetter_type2::limits::Limits;
-use crate::proved::text_glyphs::find_table;
 use crate::rattle::alloc::Global;
 
 /// Whether unitsPerEm of a face is 0.
@@ -35,30 +35,6 @@ fn no_units(font: &[u8], index: u32) -> Option<Reason> {
 /// Whether a face lacks what widths are made of.
 fn no_widths(font: &[u8], index: u32) -> Option<Reason> {
     no_table(font, index, Tag::HMTX).or(no_table(font, index, Tag::HEAD).or(no_units(font, index)))
-}
-
-/// The tag of `cmap`.
-fn cmap_tag() -> Tag {
-    Tag::new(b"cmap")
-}
-
-/// Whether a face has no `cmap`.
-fn no_cmap(font: &[u8], index: u32) -> Option<Reason> {
-    no_table(font, index, cmap_tag())
-}
-
-/// Whether the `cmap` of a face has no table that is read.
-fn no_unicode(font: &[u8], index: u32) -> Option<Reason> {
-    let cmap = table(font, index, cmap_tag())?;
-    match find_table(cmap) {
-        Some(_) => None,
-        None => Some(Reason::NoUnicode),
-    }
-}
-
-/// Whether a face lacks what glyphs of characters are found by.
-fn no_mapping(font: &[u8], index: u32) -> Option<Reason> {
-    no_cmap(font, index).or(no_unicode(font, index))
 }
 
 /// Whether a face with outlines in `glyf` has no `maxp`.
@@ -87,7 +63,7 @@ fn only_cff2(font: &[u8], index: u32) -> Option<Reason> {
         table(font, index, Tag::CFF2),
     );
     match outlines {
-        (None, None, Some(_)) => Some(Reason::OnlyCff2),
+        (None, None, Some(cff2)) => other_cff2(cff2).or(Some(Reason::OnlyCff2)),
         _ => None,
     }
 }
@@ -226,6 +202,22 @@ fn numbered(alloc: Global, glyphs: &[u16]) -> Result<Option<GlyphRemapper>, Erro
     }
 }
 
+/// Whether an error is that of a number that is too large.
+fn is_overflow(error: Error) -> bool {
+    match error {
+        Error::OverflowError => true,
+        _ => false,
+    }
+}
+
+/// Why a call on more glyphs is refused.
+fn unnumbered(call: Call, error: Error) -> Option<Reason> {
+    if takes_outlines(call) && is_overflow(error) {
+        return Some(Reason::AllGlyphs);
+    }
+    None
+}
+
 /// What outlines show, and then what varies.
 fn of_numbered(
     alloc: Global,
@@ -236,7 +228,7 @@ fn of_numbered(
     let mapper = match mapper {
         Some(mapper) => mapper,
         _ => {
-            return Ok(None);
+            return Ok(unnumbered(asked.call, asked.error));
         }
     };
     match of_outlines(alloc, asked, font, mapper)? {
@@ -274,11 +266,20 @@ fn not_kept_by(
 ) -> Option<Reason> {
     match call {
         Call::GlyphsOf => None,
-        Call::Advances => no_metric(font, index, glyphs),
+        Call::Advances => no_metric(font, index, glyphs).or(no_table(font, index, Tag::MAXP)),
         Call::Subset | Call::SubsetAt | Call::Embed | Call::EmbedAt | Call::PdfFont => {
             not_kept(call, extras, font, index, glyphs)
         }
     }
+}
+
+/// That limits may be too low, where bytes have a bound.
+fn tight_limits(call: Call, tokens: u32, bytes: Option<u32>) -> Option<Reason> {
+    if !takes_outlines(call) {
+        return None;
+    }
+    let most = bytes?;
+    Some(Reason::TightLimits(most, tokens))
 }
 
 /// What is looked at last, by the error.
@@ -287,6 +288,7 @@ fn shown_last(asked: &Asked<'_>, font: &[u8]) -> Option<Reason> {
         Error::MalformedFont => {
             not_kept_by(asked.call, asked.extras, font, asked.index, asked.glyphs)
         }
+        Error::OverflowError => tight_limits(asked.call, asked.limits.tokens(), asked.most_bytes),
         _ => None,
     }
 }
@@ -303,8 +305,7 @@ fn seen_last(alloc: Global, asked: &Asked<'_>, font: &[u8]) -> Result<Option<Rea
 ///
 /// What is read at coordinates alone has a part in it where a static font is made there: not at the default of outlines in `glyf`.
 ///
-/// There is none where memory ran out, or what was asked for is why: more bytes than the call may make, or glyphs that leave no
-/// number for glyph 0.
+/// There is none where memory ran out, or a number in the new font is too large and its bytes have no bound.
 ///
 /// # Errors
 ///

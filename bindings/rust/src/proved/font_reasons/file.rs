@@ -58,22 +58,35 @@ fn no_face(font: &[u8], index: u32) -> Option<Reason> {
     Some(Reason::NoFace(index, count))
 }
 
+/// That a file begins as no font does, by its first four bytes.
+fn by_front(front: Option<Tag>) -> Reason {
+    match front {
+        Some(front) => Reason::Begins(front),
+        None => Reason::NotFont,
+    }
+}
+
 /// What a file is that begins as no font does, by the number where EOT has its own.
-fn by_magic(magic: Option<u16>) -> Reason {
+fn by_magic(magic: Option<u16>, front: Option<Tag>) -> Reason {
     match magic {
         Some(EOT) => Reason::Eot,
-        _ => Reason::NotFont,
+        _ => by_front(front),
     }
 }
 
 /// What a file is that begins as no font does, by its first number or by the number where EOT has its own.
-fn other_format(front: Option<u16>, magic: Option<u16>) -> Reason {
-    match front {
+fn other_format(number: Option<u16>, magic: Option<u16>, front: Option<Tag>) -> Reason {
+    match number {
         Some(TYPE_1) => Reason::Type1,
         Some(TYPE_1_SEGMENT) => Reason::Type1,
         Some(PDF) => Reason::Pdf,
-        _ => by_magic(magic),
+        _ => by_magic(magic, front),
     }
+}
+
+/// The first four bytes of a file.
+fn front_of(font: &[u8]) -> Option<Tag> {
+    Reader::new_at(font, 0).read::<Tag>()
 }
 
 /// Whether a file begins as no font does.
@@ -83,7 +96,11 @@ fn not_font(font: &[u8]) -> Option<Reason> {
     }
     match kind_at(font, 0) {
         Some(_) => None,
-        None => Some(other_format(number_at(font, 0), number_at(font, EOT_MAGIC))),
+        None => Some(other_format(
+            number_at(font, 0),
+            number_at(font, EOT_MAGIC),
+            front_of(font),
+        )),
     }
 }
 

@@ -9,6 +9,7 @@
 //! ```
 
 mod asked;
+mod characters;
 mod charstrings;
 mod explained;
 mod file;
@@ -23,10 +24,12 @@ mod variations;
 mod varying;
 
 pub use asked::{Asked, Call};
+#[cfg(feature = "program")]
+pub use characters::no_mapping;
 pub use explained::explain;
 #[cfg(feature = "program")]
 pub use file::{directory_of, face_count, missing_table, no_font};
 #[cfg(feature = "program")]
-pub use parts::{count_glyphs, no_table};
+pub use parts::no_table;
 pub use permission::find_prohibition;
 pub use reason::Reason;

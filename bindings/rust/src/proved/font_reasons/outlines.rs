@@ -434,6 +434,15 @@ pub fn tree(
     reached_below(alloc, tables, u16::from(depth) + 1, Reach { steps, seen })
 }
 
+/// What is wrong with an outline by a format of `loca`: the format, if there is none such.
+fn by_format(format: u16, found: Option<Reason>) -> Option<Reason> {
+    let reason = found?;
+    if format > 1 {
+        return Some(Reason::LocFormat(format));
+    }
+    Some(reason)
+}
+
 /// What is wrong with the outlines of these glyphs, or of their components down to a depth, where the face has the tables of
 /// outlines in `glyf`.
 ///
@@ -452,7 +461,8 @@ pub fn tree_reason(
         Some(tables) => {
             let seen = tree(alloc, tables, steps, depth, mapper)?;
             let Tables { glyf, loca, format } = tables;
-            Ok(first_wrong(alloc, glyf, loca, format, &seen)?)
+            let found = first_wrong(alloc, glyf, loca, format, &seen)?;
+            Ok(by_format(format, found))
         }
         None => Ok(None),
     }

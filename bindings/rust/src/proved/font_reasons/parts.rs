@@ -11,7 +11,7 @@ use crate::proved::subsetter_sfnt::fields::hmtx::{glyph_metric, last_advance};
 use crate::proved::subsetter_sfnt::fields::maxp::num_glyphs;
 
 /// numGlyphs of a face's `maxp`.
-pub fn count_glyphs(font: &[u8], index: u32) -> Option<u16> {
+fn count_glyphs(font: &[u8], index: u32) -> Option<u16> {
     let maxp = table(font, index, Tag::MAXP)?;
     num_glyphs(maxp)
 }

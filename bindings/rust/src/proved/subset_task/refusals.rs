@@ -2,5 +2,4 @@
 //! Why a run of the program ends without a subset.
 
 pub mod failure;
-pub mod hint;
 pub mod reason;

@@ -31,7 +31,7 @@ mod tables;
 
 #[cfg(feature = "variable-fonts")]
 pub use characters::glyphs_of;
-pub use choice::find_table;
+pub use choice::{find_table, CharacterTable};
 #[cfg(feature = "variable-fonts")]
 pub use halves::{last_up_to, number_in, Records};
 #[cfg(feature = "program")]

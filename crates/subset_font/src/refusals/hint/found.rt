@@ -1,18 +1,17 @@
 //! What is known of a refusal by its error.
 
-ghost use Rattle.std.specs.Prelude.{◌≡◌, codes};
+ghost use Rattle.std.specs.Prelude.{◌≡◌};
 ghost use Rattle.std.specs.Option.{option_map};
 ghost use Rattle.subsetter_sfnt.specs.Extras.{all_extras};
-ghost use Rattle.font_reasons.specs.Explained.{no_cmap};
-ghost use Rattle.subset_task.specs.declared.refusals.hint.text.Hint.TheVariants.{Font};
-ghost use Rattle.subset_font.specs.Refusals.Hint.{is_cff2, no_coordinates, hint_of_error, no_mapping, hint_of_mapping, no_axes, axes_hint_of_error, axes_hint, forbidden_bit, hint_of};
+ghost use Rattle.subset_font.specs.declared.refusals.hint.text.Hint.TheVariants.{Font};
+ghost use Rattle.subset_font.specs.Refusals.Hint.{is_cff2, no_coordinates, hint_of_error, hint_of_mapping, no_axes, axes_hint_of_error, axes_hint, forbidden_bit, hint_of};
 
-use font_reasons::{Reason, directory_of, missing_table, no_font, no_table};
+use crate::refusals::hint::text::Hint;
+use font_reasons::{Reason, directory_of, missing_table, no_font, no_mapping};
 use subset_lines::Outlines;
 use subset_pdf::{Permission, Usage};
 use subset_task::faces::outlines::outlines_of;
 use subset_task::refusals::failure::Failure;
-use subset_task::refusals::hint::text::Hint;
 use subset_task::task::Task;
 use subsetter::{Error, Tag};
 use subsetter_sfnt::directory::{find_record, table};
@@ -57,33 +56,11 @@ fn hint_of_error(error: Error, font: &[u8], task: &Task<'_>) -> Option<Hint>
     }
 }
 
-/// The tag of `cmap`.
-fn cmap_tag() -> Tag
-    ensures { result ≡ record { 0 = codes "cmap" } }
-{
-    Tag::new(b"cmap")
-}
-
-/// Whether a face has no `cmap`.
-fn no_cmap(font: &[u8], index: u32) -> Option<Reason>
-    ensures { result ≡ no_cmap (record { bytes = font.now; index = index; extras = all_extras }) }
-{
-    no_table(font, index, cmap_tag())
-}
-
-/// What is known of a face without a mapping of Unicode characters.
-#[tactic(auto, unfolding(crate::specs::Refusals::Hint::no_mapping))]
-fn no_mapping(font: &[u8], index: u32) -> Option<Hint>
-    ensures { result ≡ no_mapping (record { bytes = font.now; index = index; extras = all_extras }) }
-{
-    shown(no_cmap(font, index)).or(Some(Hint::NoUnicode))
-}
-
 /// What more is known of a font without a mapping of Unicode characters.
 fn hint_of_mapping(font: &[u8], index: u32) -> Option<Hint>
     ensures { result ≡ hint_of_mapping (record { bytes = font.now; index = index; extras = all_extras }) }
 {
-    shown(no_font(font, index)).or(no_mapping(font, index))
+    shown(no_font(font, index).or(no_mapping(font, index)))
 }
 
 /// What more is known of a font whose axes can't be printed, by an error.
@@ -136,7 +113,7 @@ pub fn find_hint(failure: &Failure, font: &[u8], task: &Task<'_>) -> Option<Hint
 {
     match failure {
         Failure::Error(error) => hint_of_error(*error, font, task),
-        Failure::NoMapping => hint_of_mapping(font, task.index),
+        Failure::NoMapping | Failure::MissingCharacters => hint_of_mapping(font, task.index),
         Failure::NotPermitted(permission) => Some(Hint::Forbidden(forbidden_bit(*permission))),
         _ => None,
     }

@@ -3,12 +3,12 @@
 
 use crate::rattle::prelude::String;
 
-use crate::proved::font_reasons::{count_glyphs, Call};
+use crate::proved::font_reasons::Call;
 use crate::proved::subset_font::making::subset::make_of;
+use crate::proved::subset_font::refusals::hint::text::Hint;
 use crate::proved::subset_font::refusals::second_look::all_known;
-use crate::proved::subset_task::making::requested::first_glyphs;
+use crate::proved::subset_task::making::requested::{count_glyphs, first_glyphs};
 use crate::proved::subset_task::refusals::failure::Failure;
-use crate::proved::subset_task::refusals::hint::text::Hint;
 use crate::proved::subset_task::task::{Form, RequestedGlyphs, Requests, Task};
 use crate::proved::subsetter::{Error, Extras, Limits, Options, Tag};
 use crate::proved::subsetter_sfnt::directory::table;

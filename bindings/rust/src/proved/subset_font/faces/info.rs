@@ -3,13 +3,13 @@
 
 use crate::rattle::prelude::{IteratorExt, String, Vec};
 
-use crate::proved::font_reasons::{count_glyphs, directory_of, face_count};
+use crate::proved::font_reasons::{directory_of, face_count};
 use crate::proved::glyph_kinds::{kind_counts, kinds_of};
 use crate::proved::subset_font::faces::accepted::{try_all, InfoParts};
 use crate::proved::subset_lines::{write_info, write_info_json, Info};
 use crate::proved::subset_task::faces::outlines::outlines_of;
 use crate::proved::subset_task::faces::tables::tables_of;
-use crate::proved::subset_task::making::requested::first_glyphs;
+use crate::proved::subset_task::making::requested::{count_glyphs, first_glyphs};
 use crate::proved::subset_task::reading::read_whole;
 use crate::proved::subset_task::refusals::failure::Failure;
 use crate::proved::subsetter::{Error, Tag};

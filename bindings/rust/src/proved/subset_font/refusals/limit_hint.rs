@@ -4,7 +4,7 @@
 
 use crate::proved::subset_font::faces::accepted::is_of_memory;
 use crate::proved::subset_font::making::outcome::make_planned;
-use crate::proved::subset_task::refusals::hint::text::Hint;
+use crate::proved::subset_font::refusals::hint::text::Hint;
 use crate::proved::subset_task::task::{Plan, Task};
 use crate::proved::subsetter::{Limits, Options};
 use crate::rattle::alloc::{AllocError, Global};

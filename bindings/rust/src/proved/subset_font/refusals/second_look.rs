@@ -3,8 +3,8 @@
 
 use crate::proved::font_reasons::{explain, no_table, Asked, Call, Reason};
 use crate::proved::subset_font::refusals::hint::found::{find_hint, shown};
+use crate::proved::subset_font::refusals::hint::text::Hint;
 use crate::proved::subset_task::refusals::failure::Failure;
-use crate::proved::subset_task::refusals::hint::text::Hint;
 use crate::proved::subset_task::task::Task;
 use crate::proved::subsetter::{Error, Tag};
 use crate::rattle::alloc::{AllocError, Global};
@@ -56,6 +56,7 @@ fn look_again(
         coordinates: settings,
         extras: task.options.extras,
         limits: task.options.limits,
+        most_bytes: None,
     };
     match explain(alloc, font, &asked) {
         Ok(found) => Ok(shown(found.or(uncounted(error, font, task, glyphs)))),

@@ -10,6 +10,7 @@ use crate::proved::subset_args::{
 };
 use crate::proved::subset_font::making::outcome::{other_face, takes_default, task_at};
 use crate::proved::subset_font::refusals::hint::found::{find_axes_hint, find_hint, no_axes};
+use crate::proved::subset_font::refusals::hint::text::Hint;
 use crate::proved::subset_font::refusals::limit_hint::find_limit_hint;
 use crate::proved::subset_font::refusals::second_look::{call_of, look_after};
 use crate::proved::subset_lines::note_lines;
@@ -18,7 +19,6 @@ use crate::proved::subset_task::faces::named::{face_settings, instance_names};
 use crate::proved::subset_task::making::requested::{pick, Picked};
 use crate::proved::subset_task::notes::{known_axes, notes_for};
 use crate::proved::subset_task::refusals::failure::{file_of, status_of_run, Failure, Report};
-use crate::proved::subset_task::refusals::hint::text::Hint;
 use crate::proved::subset_task::task::{Form, Plan, Requests, Task};
 use crate::proved::subsetter::{Error, Tag};
 use crate::rattle::alloc::{AllocError, Global};

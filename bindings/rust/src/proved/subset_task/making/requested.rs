@@ -3,11 +3,11 @@
 
 use crate::rattle::prelude::{IteratorExt, Vec};
 
-use crate::proved::font_reasons::count_glyphs;
 use crate::proved::subset_task::refusals::failure::Failure;
 use crate::proved::subset_task::task::{RequestedGlyphs, Requests};
 use crate::proved::subsetter::{Error, Tag};
 use crate::proved::subsetter_sfnt::directory::{kind_at, table};
+use crate::proved::subsetter_sfnt::fields::maxp::num_glyphs;
 use crate::proved::text_glyphs::{find_source, glyphs_of, is_entry, read_text, Entry, TextSource};
 use crate::rattle::alloc::{AllocError, Global};
 
@@ -243,6 +243,12 @@ fn no_memory(_error: AllocError) -> Failure {
 fn pick_these(alloc: Global, given: &[u16]) -> Result<Picked, Failure> {
     let glyphs = Vec::from_slice(alloc, given).map_err(no_memory)?;
     bare(alloc, glyphs).map_err(no_memory)
+}
+
+/// numGlyphs of a face's `maxp`.
+pub fn count_glyphs(font: &[u8], index: u32) -> Option<u16> {
+    let maxp = table(font, index, Tag::MAXP)?;
+    num_glyphs(maxp)
 }
 
 /// Every glyph of the face.

@@ -1,7 +1,6 @@
 use Rattle.std.proofs.Common.{◌≡◌, ◌-◌, ◌≤◌, ◌++◌, length}
-use Rattle.font_reasons.specs.Directory.{records_in}
-use Rattle.subset_task.specs.Faces.Tables.{new_rows}
-use Rattle.font_reasons.proofs.Directory.{records_from}
+use Rattle.subset_task.specs.Faces.Tables.{new_rows, records_in}
+use Rattle.subset_task.proofs.FacesLaws.Directory.{records_from}
 use Rattle.subset_task.proofs.faces.tables.push_new_rows.Given as goal
 
 abbrev pub invariant-loop-one : goal.invariant-loop-one

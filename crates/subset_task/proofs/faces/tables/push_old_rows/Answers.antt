@@ -2,18 +2,17 @@ use Rattle.std.proofs.Common.{ℕ, List, Some, [], ◌∷◌, ◌++◌, sym, ap,
 use Rattle.std.specs.Option.{option_and_then}
 use Rattle.subsetter_base.specs.Bytes.{range}
 use Rattle.subsetter_sfnt.specs.Read.{record_of}
-use Rattle.font_reasons.specs.Directory.{records_in}
-use Rattle.subset_task.specs.Faces.Tables.{old_row}
-use Rattle.font_reasons.proofs.Directory.{reads_record}
+use Rattle.subset_task.specs.Faces.Tables.{old_row, records_in}
+use Rattle.subsetter_sfnt.proofs.Laws.LayingLaws.Records.{reads}
 use Rattle.subset_task.proofs.FacesLaws.Directory.{rows_later}
 use Rattle.subset_task.proofs.faces.tables.push_old_rows.Goals as goal
 
 pub loop-one-preserved : goal.loop-one-preserved
 loop-one-preserved c =
     let p = c.loop-one.r.offset in
-    let read = reads_record c.args.old.now p c.in-Some.one (ap (λ (b : List ℕ). option_and_then (λ bytes. Some (record_of bytes)) (range b p 16)) (sym c.loop-one.invariant.same) ∙ sym c.in-Some.ensures.value) in
+    let read = reads c.args.old.now p c.in-Some.one (ap (λ (b : List ℕ). option_and_then (λ bytes. Some (record_of bytes)) (range b p 16)) (sym c.loop-one.invariant.same) ∙ sym c.in-Some.ensures.value) in
     rw c.in-Some.ensures.moves (record {
       same = c.loop-one.invariant.same;
       within = read.within;
-      rest = rows_later (old_row (records_in c.args.new.now)) _ _ c.in-Some.one _ _ _ read.first (c.in_ok-push.ensures.items ∙ ap (λ v. c.loop-one.rows.items ++ v ∷ []) c.old_row.ensures) c.loop-one.invariant.rest;
+      rest = rows_later (old_row (records_in c.args.new.now)) _ _ c.in-Some.one _ _ _ read.more (c.in_ok-push.ensures.items ∙ ap (λ v. c.loop-one.rows.items ++ v ∷ []) c.old_row.ensures) c.loop-one.invariant.rest;
     })

@@ -1,7 +1,6 @@
 use Rattle.std.proofs.Common.{◌≡◌, ◌-◌, ◌≤◌, ◌++◌, map, length}
-use Rattle.font_reasons.specs.Directory.{records_in}
-use Rattle.subset_task.specs.Faces.Tables.{tag_and_size}
-use Rattle.font_reasons.proofs.Directory.{records_from}
+use Rattle.subset_task.specs.Faces.Tables.{tag_and_size, records_in}
+use Rattle.subset_task.proofs.FacesLaws.Directory.{records_from}
 use Rattle.subset_task.proofs.faces.tables.tables_of.Given as goal
 
 abbrev pub invariant-loop-one : goal.invariant-loop-one

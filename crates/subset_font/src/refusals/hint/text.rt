@@ -10,8 +10,6 @@ pub enum Hint {
     Font(Reason),
     /// The outlines are those of `CFF2`, and no coordinates are given.
     Cff2,
-    /// `cmap` has no table of characters that is read.
-    NoUnicode,
     /// `fvar` can't be read.
     WrongAxes,
     /// The face has no `fvar`.
@@ -32,7 +30,7 @@ struct ForbiddenText(u8);
 
 impl fmt::Display for ForbiddenText {
     ghost use Rattle.std.specs.Prelude.{Some};
-    ghost use Rattle.subset_task.specs.Refusals.Texts.{forbidden_text};
+    ghost use Rattle.subset_font.specs.Refusals.Texts.{forbidden_text};
 
     ghost output = { λ it. Some (forbidden_text it.0) };
 
@@ -63,7 +61,7 @@ struct LimitsText(u32, u8);
 
 impl fmt::Display for LimitsText {
     ghost use Rattle.std.specs.Prelude.{Some};
-    ghost use Rattle.subset_task.specs.Refusals.Texts.{limits_text};
+    ghost use Rattle.subset_font.specs.Refusals.Texts.{limits_text};
 
     ghost output = { λ it. Some (limits_text it.0 it.1) };
 
@@ -78,7 +76,7 @@ impl fmt::Display for LimitsText {
 
 impl fmt::Display for Hint {
     ghost use Rattle.std.specs.Prelude.{Some};
-    ghost use Rattle.subset_task.specs.Refusals.Texts.{hint_text};
+    ghost use Rattle.subset_font.specs.Refusals.Texts.{hint_text};
 
     ghost output = { λ hint. Some (hint_text hint) };
 
@@ -86,7 +84,6 @@ impl fmt::Display for Hint {
         match *self {
             Hint::Font(reason) => write!(f, "{reason}"),
             Hint::Cff2 => { f.write_str("CFF2: choose coordinates by --at; \"\" is the default") }
-            Hint::NoUnicode => f.write_str("cmap: no table of characters in a format that is read"),
             Hint::WrongAxes => f.write_str("fvar: the table can't be read"),
             Hint::NoAxes => f.write_str("no axes in the font"),
             Hint::MoreBytes(most) => {
