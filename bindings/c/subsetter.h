@@ -200,7 +200,7 @@ enum {
 };
 
 /* Why a call was refused with a status, as the font shows it: the table or the glyph, in words ("glyph 60000: the font's glyphs are 0
- * to 6252"; "OS/2: fsType 0x0002 forbids embedding"). It is in UTF-8, without a zero at the end, of at most 127 bytes, for people, and
+ * to 6252"; "OS/2: fsType 0x0002 forbids embedding (bit 1)"). It is in UTF-8, without a zero at the end, of at most 127 bytes, for people, and
  * may change. `call` is one of SUBSETTER_CALL_.. (the calls in buffers and in memory of the library are one), and the font, the
  * coordinates, the glyphs and the options are those of that call; without coordinates there are none, and of `subsetter_pdf_options`
  * it takes tokens, depth and bytes. A charstring is run within the limits, once at most, and none after the first that can't be. It gets no

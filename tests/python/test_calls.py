@@ -247,7 +247,7 @@ def test_a_number_that_python_doesnt_write(name):
     (subsetter.MissingCharacters, "missing characters: U+0041 at 0: cmap: its table in format 4 has 172 bytes, needs 262152",
      lambda: subsetter.glyphs_of(changed("made.ttf", "cmap+20=0009000900000064000400480000fffe"), "A", missing="error")),
     (subsetter.OverflowError, "overflow occurred: tokens is 1", lambda: subsetter.advances(made("made_variable.ttf"), [1], coordinates={"wght": 650}, tokens=1)),
-    (subsetter.NotPermitted, 'embedding not permitted: OS/2: fsType 0x0104 forbids subsets: if you hold the rights, rights="held"',
+    (subsetter.NotPermitted, 'embedding not permitted: OS/2: fsType 0x0104 forbids subsets (bit 8): if you hold the rights, rights="held"',
      lambda: subsetter.pdf_font(made("made.otf"), [])),
     (subsetter.OverflowError, "overflow occurred: 65535 pairs of a glyph and a text, and at most 65534 besides glyph 0",
      lambda: subsetter.pdf_font(TTF, [(0, ""), *((1, chr(it)) for it in range(65_536, 131_071))], codes="each_text")),

@@ -278,7 +278,7 @@ fn changed(name: &str, change: &str) -> Vec<u8> {
     let record = font.windows(4).position(|it| it == parts[0].as_bytes()).unwrap_or(0);
     let place = u32::from_be_bytes(font[record + 8..record + 12].try_into().unwrap()) as usize;
     let (at, new) = match parts[1..] {
-        [at, new] => (place + at.parse::<usize>().unwrap(), bytes(new)),
+        [at, new] => ((place as isize + at.parse::<isize>().unwrap()) as usize, bytes(new)),
         _ => (record, parts[1..].concat().into_bytes()),
     };
     font[at..at + new.len()].copy_from_slice(&new);
@@ -299,7 +299,7 @@ fn the_font_shows_why() {
     for row in rows_of("reasons.txt") {
         let words: Vec<&str> = row.splitn(10, ' ').collect();
         let (font, face) = (&changed(words[2], words[4]), words[3].parse().unwrap());
-        let glyphs: &[u16] = &words[7].parse().map_or((0..=65535).collect(), |it| vec![it]);
+        let mut glyphs: &[u16] = &words[7].parse().map_or((0..=65535).collect(), |it| vec![it]);
         let at: &[(Tag, f32)] = &words[5].parse().map_or(vec![], |it| vec![(Tag::new(b"wght"), it)]);
         let options = &match words[6] {
             "tokens=5" => Options::new().limits(Limits::new(5, 64).unwrap()),
@@ -315,7 +315,10 @@ fn the_font_shows_why() {
             "embed_at" => asked(embed_at(font, face, at, glyphs, options), Call::EmbedWithVariations),
             "pdf_font" => asked(pdf_font(font, face, at, &[shown(glyphs[0], "")], &FontOptions::new()), Call::PdfFont),
             "glyphs_of" => asked(glyphs_of(font, face, "A"), Call::GlyphsOf),
-            "text" => asked(Text::new(font, face, at, &TextOptions::new()), Call::Advances),
+            "text" => {
+                glyphs = &[];
+                asked(Text::new(font, face, at, &TextOptions::new()), Call::Advances)
+            }
             _ => asked(advances(font, face, glyphs, at), Call::Advances),
         };
         for reason in calls.into_iter().filter_map(|it| explain(it, font, face, at, glyphs, options)) {

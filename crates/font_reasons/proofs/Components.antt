@@ -1,5 +1,5 @@
 -- Components of a composite, one after another.
-use Rattle.std.proofs.Common.{◌≡◌, ℕ, zero, suc, ◌<◌, Bool, true, false, cond, List, [], ◌∷◌, ◌++◌, Option, Some, None, sym, ap, ◌∙◌, ◌≤◌, length, drop, arith}
+use Rattle.std.proofs.Common.{◌≡◌, ℕ, zero, suc, ◌<◌, Bool, true, cond, List, [], ◌∷◌, ◌++◌, Some, None, sym, ap, ◌∙◌, ◌≤◌, length, drop, arith}
 use Rattle.std.proofs.lemmas.List.{append-nil, append_assoc}
 use Rattle.font_reasons.specs.Outlines.{Component, Reach, Walked, component_at, has_more, levels_below, no_components, reached_below, reached_from, walked, walked_from}
 

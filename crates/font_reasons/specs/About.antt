@@ -9,6 +9,7 @@ use Rattle.font_reasons.specs.declared.reason.Reason.TheVariants.{Short, LostNam
 use Rattle.font_reasons.specs.declared.reason.Reason.TheVariants.{Forbidden, Cff2Version, OtherVersion, AxisSize}
 use Rattle.font_reasons.specs.declared.reason.Reason.TheVariants.{AxisCount, Unread, NoCharstring, WrongCharstring}
 use Rattle.font_reasons.specs.declared.reason.Reason.TheVariants.{Composed, WrongOutline, Deep, Unvaried, WrongMetric}
+use Rattle.font_reasons.specs.declared.reason.Reason.TheVariants.{LargeAdvance, LargeCff, LostString, NoIndex}
 
 -- the table whose bytes show it, or that isn't there
 abbrev pub reason_table : Reason → Option Tag
@@ -32,7 +33,11 @@ reason_table (LostName id) = Some (record { 0 = codes "name" })
 reason_table NoUnicode = Some (record { 0 = codes "cmap" })
 reason_table (ShortMap format size needed) = Some (record { 0 = codes "cmap" })
 reason_table OnlyCff2 = Some (record { 0 = codes "CFF2" })
-reason_table (Forbidden fs_type bit) = Some (record { 0 = codes "OS/2" })
+reason_table (Forbidden fs_type p) = Some (record { 0 = codes "OS/2" })
+reason_table (LargeAdvance glyph limit) = Some (record { 0 = codes "hmtx" })
+reason_table (NoIndex glyph) = Some (record { 0 = codes "post" })
+reason_table LostString = Some (record { 0 = codes "CFF " })
+reason_table LargeCff = Some (record { 0 = codes "CFF " })
 reason_table (Cff2Version version) = Some (record { 0 = codes "CFF2" })
 reason_table (OtherVersion tag) = Some tag
 reason_table (AxisSize size) = Some (record { 0 = codes "fvar" })
@@ -57,6 +62,8 @@ reason_glyph (CutHeader glyph) = Some glyph
 reason_glyph (CutComponent glyph) = Some glyph
 reason_glyph (ByComponent glyph component) = Some glyph
 reason_glyph (NoMetric glyph) = Some glyph
+reason_glyph (NoIndex glyph) = Some glyph
+reason_glyph (LargeAdvance glyph limit) = Some glyph
 reason_glyph (NoCharstring tag glyph) = Some glyph
 reason_glyph (WrongCharstring tag glyph) = Some glyph
 reason_glyph (Composed glyph) = Some glyph

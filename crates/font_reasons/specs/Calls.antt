@@ -6,7 +6,7 @@ use Rattle.subsetter_sfnt.specs.Extras.{all_extras}
 use Rattle.subsetter_sfnt.specs.Read.{Font}
 use Rattle.subsetter_sfnt.specs.declared.extras.Extras.{Extras}
 use Rattle.font_reasons.specs.declared.asked.Call.{Call}
-use Rattle.font_reasons.specs.declared.asked.Call.TheVariants.{Subset, SubsetAt, Embed, EmbedAt, PdfFont, GlyphsOf}
+use Rattle.font_reasons.specs.declared.asked.Call.TheVariants.{Subset, SubsetAt, Embed, EmbedAt, GlyphsOf}
 use Rattle.font_reasons.specs.declared.asked.Call.TheVariants.{Advances}
 
 -- what was asked for of a font, and the error
@@ -19,6 +19,7 @@ pub record Question : Type 0 where
   pub extras : Extras
   pub tokens : ℕ
   pub depth : ℕ
+  pub bound : Option ℕ
   pub bytes : Option ℕ
 
 -- the face that a question asks about, with all its tables

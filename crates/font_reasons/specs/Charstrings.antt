@@ -6,13 +6,14 @@ use Rattle.std.specs.Option.{ok_or, option_and_then}
 use Rattle.subsetter_base.specs.Bytes.{◌>>=◌, number}
 use Rattle.subsetter_base.specs.declared.error.Error.{Error as Refusal}
 use Rattle.subsetter_base.specs.declared.error.Error.TheVariants.{MalformedFont, Unimplemented, CFFError}
+use Rattle.subsetter_base.specs.declared.error.Error.TheVariants.{SubsetError, OverflowError}
 use Rattle.subsetter_base.specs.declared.tag.Tag.{Tag}
 use Rattle.subsetter_blend.specs.Resolved.{resolved}
 use Rattle.subsetter_blend.specs.Runs.Machine.{Setting}
 use Rattle.subsetter_sfnt.specs.Read.{Font, stored}
 use Rattle.subsetter_cff.specs.Read.Cff.{Cff}
 use Rattle.subsetter_cff.specs.Read.Opened.{opened}
-use Rattle.subsetter_cff.specs.Write.Plain.{kept_glyph}
+use Rattle.subsetter_cff.specs.Write.Plain.{cff_subset, kept_glyph}
 use Rattle.subsetter_cff2.specs.Cff2.{Cff2, cff2_parts}
 use Rattle.subsetter_cff2.specs.Made2.{NewDict, new_dicts}
 use Rattle.subsetter_cff2.specs.PrivateDicts.Private2.{font_dict_number, char_string}
@@ -20,7 +21,7 @@ use Rattle.subsetter_cff2.specs.Variation.{Variation, font_scalars, optional_var
 use Rattle.font_reasons.specs.File.{or_else}
 use Rattle.font_reasons.specs.declared.reason.Reason.{Reason}
 use Rattle.font_reasons.specs.declared.reason.Reason.TheVariants.{OtherVersion, Unread, NoCharstring, WrongCharstring}
-use Rattle.font_reasons.specs.declared.reason.Reason.TheVariants.{Composed, Cff2Version}
+use Rattle.font_reasons.specs.declared.reason.Reason.TheVariants.{Composed, Cff2Version, LargeCff, LostString}
 
 abbrev pub cff_tag : Tag
 cff_tag = record { 0 = codes "CFF " }
@@ -65,6 +66,26 @@ cff_reason_by tokens depth glyphs None (Some cff) = opened_reason tokens depth g
 abbrev pub cff_reason : Font → ℕ → ℕ → List ℕ → Option Reason
 cff_reason font tokens depth glyphs =
     cff_reason_by tokens depth glyphs (stored font (codes "glyf")) (stored font (codes "CFF "))
+
+-- ---- a new `CFF ` table
+
+-- what the error of the new table says, where it is the error that came
+abbrev pub made_by : Refusal → Refusal → Option Reason
+made_by SubsetError SubsetError = Some LostString
+made_by OverflowError OverflowError = Some LargeCff
+made_by e found = None
+
+abbrev pub made_reason : Refusal → Result (List ℕ) Refusal → Option Reason
+made_reason e (Ok made) = None
+made_reason e (Err found) = made_by e found
+
+abbrev pub new_cff_by : Refusal → ℕ → ℕ → List ℕ → Option (List ℕ) → Option (List ℕ) → Option Reason
+new_cff_by e tokens depth glyphs None (Some cff) = made_reason e (cff_subset cff tokens depth glyphs)
+new_cff_by e tokens depth glyphs glyf cff = None
+
+abbrev pub new_cff_reason : Refusal → Font → ℕ → ℕ → List ℕ → Option Reason
+new_cff_reason e font tokens depth glyphs =
+    new_cff_by e tokens depth glyphs (stored font (codes "glyf")) (stored font (codes "CFF "))
 
 -- ---- `CFF2` at a location
 

@@ -1,6 +1,7 @@
 -- Why a call is refused, by its error: the first of these that is there.
 use Rattle.std.specs.Prelude.{ℕ, ◌==◌, ◌&&◌, nat_lt, if◌then◌else◌, Bool, true, false, List, [], ◌∷◌, length, Option, Some}
-use Rattle.std.specs.Prelude.{None, codes}
+use Rattle.std.specs.Prelude.{None, codes, map}
+use Rattle.std.specs.List.{range_with_len}
 use Rattle.std.specs.Option.{option_and_then, option_map}
 use Rattle.subsetter_base.specs.Indexes.{with_glyphs}
 use Rattle.subsetter_base.specs.declared.error.Error.{Error as Refusal}
@@ -11,13 +12,13 @@ use Rattle.subsetter_sfnt.specs.Read.{Font, stored}
 use Rattle.subsetter_sfnt.specs.declared.extras.Extras.{Extras}
 use Rattle.font_reasons.specs.Calls.{Question, face_in, keeps_glyph_names, keeps_names, takes_outlines}
 use Rattle.font_reasons.specs.Characters.{no_mapping}
-use Rattle.font_reasons.specs.Charstrings.{cff_reason, other_cff2}
+use Rattle.font_reasons.specs.Charstrings.{cff_reason, new_cff_reason, other_cff2}
 use Rattle.font_reasons.specs.File.{or_else}
 use Rattle.font_reasons.specs.Names.{lost_name}
 use Rattle.font_reasons.specs.Outlines.{tree_reason}
-use Rattle.font_reasons.specs.Parts.{no_metric, no_table, wrong_metrics}
-use Rattle.font_reasons.specs.Short.{short_header, short_name, short_post}
-use Rattle.font_reasons.specs.Source.{no_font_or_glyph, reason_of_unknown, wrong_source, wrong_table}
+use Rattle.font_reasons.specs.Parts.{face_glyphs, no_metric, no_pairs, no_table, wrong_metrics}
+use Rattle.font_reasons.specs.Short.{no_index, short_header, short_name, short_post}
+use Rattle.font_reasons.specs.Source.{no_font_or_glyph, reason_of_unknown, wrong_source}
 use Rattle.font_reasons.specs.Varying.{varied_reason}
 use Rattle.font_reasons.specs.declared.asked.Call.{Call}
 use Rattle.font_reasons.specs.declared.asked.Call.TheVariants.{Subset, SubsetAt, Embed, EmbedAt, PdfFont, GlyphsOf}
@@ -67,7 +68,7 @@ not_read other font = None
 
 -- the tables that are read for advances
 unfoldable pub wrong_advances : Font → Option Reason
-wrong_advances font = or_else (short_header font) (wrong_table font)
+wrong_advances font = or_else (short_header font) (wrong_metrics font)
 
 -- what is wrong with the tables that a call reads; glyphs of characters are found by `cmap` alone
 unfoldable pub wrong_for : Call → Font → Option Reason
@@ -92,7 +93,7 @@ shown call UnknownKind x font glyphs = reason_of_unknown font
 shown call MalformedFont x font glyphs = malformed call font glyphs
 shown call Unimplemented x font glyphs = not_read call font
 shown call SubsetError x font glyphs = lost_for call x font
-shown call OverflowError x font glyphs = wrong_metrics font
+shown call OverflowError x font glyphs = no_pairs font
 shown call CFFError x font glyphs = None
 shown call OutOfMemory x font glyphs = None
 
@@ -113,12 +114,25 @@ abbrev pub of_components : Refusal → Font → ℕ → ℕ → List ℕ → Opt
 of_components MalformedFont font tokens depth all = tree_reason font tokens depth all
 of_components other font tokens depth all = None
 
+-- the errors that a new `CFF ` table can be why of: within a bound on bytes an overflow is one of it
+abbrev pub is_of_table : Refusal → Option ℕ → Bool
+is_of_table SubsetError bound = true
+is_of_table OverflowError None = true
+is_of_table e bound = false
+
+abbrev pub of_table : Refusal → Option ℕ → Font → ℕ → ℕ → List ℕ → Option Reason
+of_table e bound font tokens depth all = if is_of_table e bound then new_cff_reason e font tokens depth all else None
+
 abbrev pub of_either : Refusal → Font → ℕ → ℕ → List ℕ → Option Reason
 of_either e font tokens depth all =
     or_else (of_charstrings e font tokens depth all) (of_components e font tokens depth all)
 
-abbrev pub of_outlines : Call → Refusal → Font → ℕ → ℕ → List ℕ → Option Reason
-of_outlines call e font tokens depth all = if takes_outlines call then of_either e font tokens depth all else None
+abbrev pub of_any : Refusal → Option ℕ → Font → ℕ → ℕ → List ℕ → Option Reason
+of_any e bound font tokens depth all =
+    or_else (of_either e font tokens depth all) (of_table e bound font tokens depth all)
+
+abbrev pub of_outlines : Question → Font → List ℕ → Option Reason
+of_outlines a font all = if takes_outlines a.call then of_any a.error a.bound font a.tokens a.depth all else None
 
 -- glyph 0 and the given glyphs, each once, if these are no more than 65,535
 abbrev pub numbered : List ℕ → Option (List ℕ)
@@ -136,8 +150,7 @@ unnumbered call e = if takes_outlines call && is_overflow e then Some AllGlyphs 
 -- outlines, and then what varies
 abbrev pub of_numbered : Question → Font → Option (List ℕ) → Option Reason
 of_numbered a font None = unnumbered a.call a.error
-of_numbered a font (Some all) =
-    or_else (of_outlines a.call a.error font a.tokens a.depth all) (varied_reason a font all)
+of_numbered a font (Some all) = or_else (of_outlines a font all) (varied_reason a font all)
 
 -- ---- what is looked at last
 
@@ -145,12 +158,16 @@ of_numbered a font (Some all) =
 abbrev pub short_names : Call → Extras → Font → Option Reason
 short_names call x font = if keeps_names call x then short_name font else None
 
+abbrev pub no_indexes : Call → Extras → Font → List ℕ → Option Reason
+no_indexes call x font glyphs = if keeps_glyph_names call x then no_index font glyphs else None
+
 abbrev pub wrong_names : Call → Extras → Font → Option Reason
 wrong_names call x font = or_else (short_post (keeps_glyph_names call x) font) (short_names call x font)
 
 -- after the metrics of each glyph
 unfoldable pub not_kept : Call → Extras → Font → List ℕ → Option Reason
-not_kept call x font glyphs = or_else (no_metric font glyphs) (wrong_names call x font)
+not_kept call x font glyphs =
+    or_else (no_metric font glyphs) (or_else (wrong_names call x font) (no_indexes call x font glyphs))
 
 unfoldable pub not_kept_by : Call → Extras → Font → List ℕ → Option Reason
 not_kept_by Subset x font glyphs = not_kept Subset x font glyphs
@@ -174,5 +191,20 @@ shown_last other a font = None
 abbrev pub seen_last : Question → Font → Option Reason
 seen_last a font = or_else (of_numbered a font (numbered a.glyphs)) (shown_last a.error a font)
 
+abbrev pub explained_of : Question → List ℕ → Option Reason
+explained_of a bytes = or_else (shown a.call a.error a.extras (face_in a bytes) a.glyphs) (seen_last a (face_in a bytes))
+
+-- advances of no glyphs are those of all, as text takes them
+abbrev pub all_of : Option ℕ → List ℕ
+all_of None = []
+all_of (Some count) = map (λ g. g) (range_with_len 0 count)
+
+abbrev pub of_all : Question → Font → Question
+of_all a font = record a { glyphs = all_of (face_glyphs font) }
+
+abbrev pub explained_by : Call → List ℕ → Question → List ℕ → Option Reason
+explained_by Advances [] a bytes = explained_of (of_all a (face_in a bytes)) bytes
+explained_by call glyphs a bytes = explained_of a bytes
+
 abbrev pub explained : Question → List ℕ → Option Reason
-explained a bytes = or_else (shown a.call a.error a.extras (face_in a bytes) a.glyphs) (seen_last a (face_in a bytes))
+explained a bytes = explained_by a.call a.glyphs a bytes

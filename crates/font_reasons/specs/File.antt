@@ -1,6 +1,6 @@
 -- What is wrong with a file as a whole: its first bytes, its table directory, and tables that end past the end of the
 -- file.
-use Rattle.std.specs.Prelude.{ℕ, ◌+◌, ◌==◌, nat_lt, if◌then◌else◌, Bool, List, [], ◌∷◌, length, Option, Some, None}
+use Rattle.std.specs.Prelude.{ℕ, ◌+◌, ◌==◌, nat_lt, if◌then◌else◌, List, length, Option, Some, None}
 use Rattle.std.specs.Option.{option_and_then}
 use Rattle.subsetter_base.specs.Bytes.{number, range}
 use Rattle.subsetter_base.specs.declared.tag.Tag.{Tag}
@@ -81,19 +81,13 @@ no_font font =
 abbrev pub end_of : TableRecord → ℕ
 end_of r = r.offset + r.length
 
-abbrev pub is_cut : ℕ → TableRecord → Bool
-is_cut size r = nat_lt size (end_of r)
+abbrev pub cut_by : ℕ → TableRecord → Option Reason
+cut_by size r = if nat_lt size (end_of r) then Some (Cut r.tag (end_of r) size) else None
 
-abbrev pub cut_reason : ℕ → TableRecord → Reason
-cut_reason size r = Cut r.tag (end_of r) size
-
--- the first table of a directory that does so
-abbrev pub first_cut : ℕ → List TableRecord → Option Reason
-first_cut size [] = None
-first_cut size (r ∷ rs) = if is_cut size r then Some (cut_reason size r) else first_cut size rs
-
-abbrev pub cut_table : Font → Option Reason
-cut_table font = first_cut (length font.bytes) (records_in (bytes_or_none (records font)))
+-- the table of a tag does so
+abbrev pub cut_table : Font → Tag → Option Reason
+cut_table font tag =
+    option_and_then (cut_by (length font.bytes)) (find_record tag.0 (records_in (bytes_or_none (records font))))
 
 -- why a table isn't found: the directory has its record, and it is cut, or has none
 abbrev pub missing_by : ℕ → Tag → Option TableRecord → Reason

@@ -9,7 +9,7 @@ use Rattle.subsetter_sfnt.specs.Fields.Maxp.{num_glyphs}
 use Rattle.subsetter_sfnt.specs.declared.fields.hmtx.LongHorMetric.{LongHorMetric}
 use Rattle.subsetter_sfnt.specs.Read.{Font, stored}
 use Rattle.subsetter_sfnt.specs.Alone.{bitmaps_alone, has_outlines}
-use Rattle.font_reasons.specs.File.{or_else, missing_table}
+use Rattle.font_reasons.specs.File.{or_else, cut_table, missing_table}
 use Rattle.font_reasons.specs.declared.reason.Reason.{Reason}
 use Rattle.font_reasons.specs.declared.reason.Reason.TheVariants.{NoGlyph, NoOutlines, BitmapsAlone, NoMetrics}
 use Rattle.font_reasons.specs.declared.reason.Reason.TheVariants.{FewMetrics, NoMetric}
@@ -35,14 +35,14 @@ without font tag (Some bytes) = None
 abbrev pub no_table : Font → Tag → Option Reason
 no_table font tag = without font tag (stored font tag.0)
 
--- numberOfHMetrics is at byte 34 of `hhea`, and `hmtx` has four bytes for each (OpenType, "hhea" and "hmtx"): none, or
--- more than are there
+-- numberOfHMetrics is at byte 34 of `hhea`, and `hmtx` has four bytes for each (OpenType, "hhea" and "hmtx"): more than
+-- are there
 abbrev pub few_metrics_by : ℕ → Option ℕ → Option Reason
 few_metrics_by count None = Some (FewMetrics count)
 few_metrics_by count (Some advance) = None
 
 abbrev pub wrong_count : List ℕ → ℕ → Option Reason
-wrong_count hmtx count = if count == 0 then Some NoMetrics else few_metrics_by count (number hmtx (4 * (count - 1)) 2)
+wrong_count hmtx count = if count == 0 then None else few_metrics_by count (number hmtx (4 * (count - 1)) 2)
 
 abbrev pub wrong_metrics_of : List ℕ → List ℕ → Option Reason
 wrong_metrics_of hhea hmtx = option_and_then (wrong_count hmtx) (number hhea 34 2)
@@ -54,6 +54,16 @@ wrong_metrics_by font hmtx None = Some (missing_table font (record { 0 = codes "
 abbrev pub wrong_metrics : Font → Option Reason
 wrong_metrics font =
     option_and_then (λ hmtx. wrong_metrics_by font hmtx (stored font (codes "hhea"))) (stored font (codes "hmtx"))
+
+-- none, which is an overflow where the font isn't moved along axes
+abbrev pub if_none : ℕ → Option Reason
+if_none count = if count == 0 then Some NoMetrics else None
+
+abbrev pub pair_count : Font → Option ℕ
+pair_count font = option_and_then number_of_h_metrics (stored font (codes "hhea"))
+
+abbrev pub no_pairs : Font → Option Reason
+no_pairs font = option_and_then (λ hmtx. option_and_then if_none (pair_count font)) (stored font (codes "hmtx"))
 
 -- the first glyph whose metric `hmtx` doesn't have
 abbrev pub no_metric_by : ℕ → Option LongHorMetric → Option Reason
@@ -68,18 +78,32 @@ first_without_metric hmtx count [] = None
 first_without_metric hmtx count (g ∷ glyphs) =
     or_else (no_metric_of hmtx count g) (first_without_metric hmtx count glyphs)
 
-abbrev pub pair_count : Font → Option ℕ
-pair_count font = option_and_then number_of_h_metrics (stored font (codes "hhea"))
+abbrev pub without_metric : List ℕ → List ℕ → ℕ → Option Reason
+without_metric hmtx glyphs count = or_else (if_none count) (first_without_metric hmtx count glyphs)
 
 abbrev pub no_metric : Font → List ℕ → Option Reason
 no_metric font glyphs =
-    option_and_then (λ hmtx. option_and_then (λ count. first_without_metric hmtx count glyphs) (pair_count font))
-    (stored font (codes "hmtx"))
+    option_and_then (λ hmtx. option_and_then (without_metric hmtx glyphs) (pair_count font)) (stored font (codes "hmtx"))
 
--- none of the tables that have outlines, but bitmaps or not
-abbrev pub bare_reason : Option Tag → Reason
-bare_reason None = NoOutlines
-bare_reason (Some tag) = BitmapsAlone tag
+-- none of the tables that have outlines: one of them is cut, or the face has bitmaps, or these are cut, or it has none
+unfoldable pub cut_outlines : Font → Option Reason
+cut_outlines font =
+    or_else (cut_table font (record { 0 = codes "glyf" }))
+    (or_else (cut_table font (record { 0 = codes "CFF " })) (cut_table font (record { 0 = codes "CFF2" })))
+
+abbrev pub cut_pair : Font → Tag → Tag → Option Reason
+cut_pair font bitmaps places = or_else (cut_table font bitmaps) (cut_table font places)
+
+unfoldable pub cut_bitmaps : Font → Option Reason
+cut_bitmaps font =
+    or_else (cut_pair font (record { 0 = codes "CBDT" }) (record { 0 = codes "CBLC" }))
+    (or_else (cut_table font (record { 0 = codes "sbix" }))
+    (cut_pair font (record { 0 = codes "EBDT" }) (record { 0 = codes "EBLC" })))
+
+unfoldable pub bare : Font → Option Reason
+bare font =
+    or_else (cut_outlines font)
+    (or_else (option_map BitmapsAlone (bitmaps_alone font)) (or_else (cut_bitmaps font) (Some NoOutlines)))
 
 abbrev pub no_outlines : Font → Option Reason
-no_outlines font = if has_outlines (stored font) then None else Some (bare_reason (bitmaps_alone font))
+no_outlines font = if has_outlines (stored font) then None else bare font

@@ -2,19 +2,15 @@
 use Rattle.std.specs.Prelude.{ℕ, if◌then◌else◌, Option, Some, None, codes}
 use Rattle.subsetter_sfnt.specs.Fields.Os2.{fs_type}
 use Rattle.subsetter_sfnt.specs.Read.{Font, stored}
-use Rattle.pdf_values.specs.Permission.{is_permitted, is_usable, permission}
+use Rattle.pdf_values.specs.Permission.{is_permitted, permission}
 use Rattle.pdf_values.specs.declared.permission.Permission.{Permission}
 use Rattle.pdf_values.specs.declared.permission.Rights.TheVariants.{AsSaid}
 use Rattle.font_reasons.specs.declared.reason.Reason.{Reason}
 use Rattle.font_reasons.specs.declared.reason.Reason.TheVariants.{Forbidden}
 
--- the bit that forbids: bit 1 embedding, else bit 8 subsets, else bit 9 outlines
-abbrev pub forbidding_bit : Permission → ℕ
-forbidding_bit p = if is_usable p.usage then (if p.subsetting then 9 else 8) else 1
-
 abbrev pub prohibition_by : Permission → Option ℕ → Option Reason
 prohibition_by p None = None
-prohibition_by p (Some fs_type) = if is_permitted p AsSaid then None else Some (Forbidden fs_type (forbidding_bit p))
+prohibition_by p (Some fs_type) = if is_permitted p AsSaid then None else Some (Forbidden fs_type p)
 
 abbrev pub prohibition : Font → Option Reason
 prohibition font = prohibition_by (permission (stored font (codes "OS/2"))) (fs_type (stored font (codes "OS/2")))

@@ -1,14 +1,15 @@
 -- Tables that are shorter than what is read of them (OpenType, "head", "maxp", "hhea", "post" and "name").
 use Rattle.std.specs.Prelude.{ℕ, ◌+◌, ◌*◌, ◌==◌, Bool, true, false, max, nat_le, nat_lt, if◌then◌else◌, List, length}
 use Rattle.std.specs.Prelude.{Option, Some, None, codes}
-use Rattle.std.specs.Option.{option_and_then}
+use Rattle.std.specs.Option.{option_and_then, option_map}
 use Rattle.subsetter_base.specs.Bytes.{number}
 use Rattle.subsetter_base.specs.declared.tag.Tag.{Tag}
 use Rattle.subsetter_sfnt.specs.Fields.Post.{num_glyphs, version}
 use Rattle.subsetter_sfnt.specs.Read.{Font, stored}
 use Rattle.font_reasons.specs.File.{or_else}
+use Rattle.font_reasons.specs.Parts.{first_past}
 use Rattle.font_reasons.specs.declared.reason.Reason.{Reason}
-use Rattle.font_reasons.specs.declared.reason.Reason.TheVariants.{Short}
+use Rattle.font_reasons.specs.declared.reason.Reason.TheVariants.{NoIndex, Short}
 
 -- the bytes of a table are fewer than it needs
 abbrev pub short : Tag → ℕ → List ℕ → Option Reason
@@ -52,6 +53,20 @@ short_kept_post false post = if nat_le 32 (length post) then None else short_pos
 
 abbrev pub short_post : Bool → Font → Option Reason
 short_post names font = option_and_then (short_kept_post names) (stored font (codes "post"))
+
+-- version 2.0 has no index for the first of these glyphs
+abbrev pub no_index_by : List ℕ → ℕ → Option Reason
+no_index_by glyphs count = option_map NoIndex (first_past count glyphs)
+
+abbrev pub no_index_in : List ℕ → List ℕ → ℕ → Option Reason
+no_index_in post glyphs version =
+    if version == 0x00020000 then option_and_then (no_index_by glyphs) (num_glyphs post) else None
+
+abbrev pub no_index_of : List ℕ → List ℕ → Option Reason
+no_index_of glyphs post = option_and_then (no_index_in post glyphs) (version post)
+
+abbrev pub no_index : Font → List ℕ → Option Reason
+no_index font glyphs = option_and_then (no_index_of glyphs) (stored font (codes "post"))
 
 -- the version of `name` has two bytes. Version 0 has count and storageOffset, two bytes each, count records of twelve
 -- bytes, and the storage at its offset

@@ -1,7 +1,9 @@
 -- The texts of reasons.
-use Rattle.std.specs.Prelude.{ℕ, ◌+◌, ◌-◌, ◌*◌, ◌/◌, ◌%◌, ◌==◌, ◌&&◌, nat_le, nat_lt, Bool, false, if◌then◌else◌}
+use Rattle.std.specs.Prelude.{ℕ, ◌+◌, ◌-◌, ◌*◌, ◌/◌, ◌%◌, ◌==◌, ◌&&◌, nat_le, nat_lt, Bool, true, false, if◌then◌else◌}
 use Rattle.std.specs.Prelude.{List, [], ◌++◌, get_or, take, codes, decimal}
 use Rattle.std.specs.Fmt.{radix_digits}
+use Rattle.pdf_values.specs.Permission.{is_usable}
+use Rattle.pdf_values.specs.declared.permission.Permission.{Permission}
 use Rattle.subsetter_base.specs.Texts.{tag_text}
 use Rattle.subsetter_base.specs.declared.tag.Tag.{Tag}
 use Rattle.font_reasons.specs.declared.reason.Reason.{Reason}
@@ -15,6 +17,7 @@ use Rattle.font_reasons.specs.declared.reason.Reason.TheVariants.{Forbidden, Cff
 use Rattle.font_reasons.specs.declared.reason.Reason.TheVariants.{AxisCount, Unread, NoCharstring, WrongCharstring}
 use Rattle.font_reasons.specs.declared.reason.Reason.TheVariants.{Composed, WrongOutline, Deep, Unvaried, WrongMetric}
 use Rattle.font_reasons.specs.declared.reason.Reason.TheVariants.{AllGlyphs, TightLimits}
+use Rattle.font_reasons.specs.declared.reason.Reason.TheVariants.{LargeAdvance, LargeCff, LostString, NoIndex}
 
 -- a number between two texts
 abbrev pub between : List ℕ → ℕ → List ℕ → List ℕ
@@ -69,14 +72,22 @@ hex_text n =
     radix_digits 16 false (n / 4096)
     ++ (radix_digits 16 false (n / 256 % 16) ++ (radix_digits 16 false (n / 16 % 16) ++ radix_digits 16 false (n % 16)))
 
--- what the bits of fsType forbid: bit 1, 8 or 9 (OpenType, "OS/2")
-abbrev pub forbidden_word : ℕ → List ℕ
-forbidden_word bit =
-    if bit == 8 then codes " forbids subsets"
-    else (if bit == 9 then codes " forbids outlines" else codes " forbids embedding")
+-- what the bits of fsType forbid (OpenType, "OS/2"): whether embedding is allowed, subsets are, outlines are
+abbrev pub forbidden_words : Bool → Bool → Bool → List ℕ
+forbidden_words true true true = []
+forbidden_words true true false = codes "outlines (bit 9)"
+forbidden_words true false true = codes "subsets (bit 8)"
+forbidden_words true false false = codes "subsets (bit 8), outlines (bit 9)"
+forbidden_words false true true = codes "embedding (bit 1)"
+forbidden_words false true false = codes "embedding (bit 1), outlines (bit 9)"
+forbidden_words false false true = codes "embedding (bit 1), subsets (bit 8)"
+forbidden_words false false false = codes "embedding (bit 1), subsets (bit 8), outlines (bit 9)"
 
-abbrev pub forbidden_text : ℕ → ℕ → List ℕ
-forbidden_text fs_type bit = codes "OS/2: fsType 0x" ++ (hex_text fs_type ++ forbidden_word bit)
+abbrev pub forbidden_by : Permission → List ℕ
+forbidden_by p = forbidden_words (is_usable p.usage) p.subsetting p.outlines
+
+abbrev pub forbidden_text : ℕ → Permission → List ℕ
+forbidden_text fs_type p = codes "OS/2: fsType 0x" ++ (hex_text fs_type ++ (codes " forbids " ++ forbidden_by p))
 
 -- a character of ASCII that can be seen, or a space
 abbrev pub is_printable : ℕ → Bool
@@ -100,6 +111,9 @@ abbrev pub begin_text : Tag → List ℕ
 begin_text tag =
     codes "not a font: its first bytes are "
     ++ (front_digits tag ++ (front_text tag ++ codes ", none of TrueType, OpenType, a collection"))
+
+abbrev pub large_text : ℕ → ℕ → List ℕ
+large_text glyph limit = codes "glyph " ++ (decimal glyph ++ (codes ": its advance is more than " ++ decimal limit))
 
 abbrev pub reason_text : Reason → List ℕ
 reason_text Woff = codes "a WOFF file: unpack it first"
@@ -136,7 +150,11 @@ reason_text (LostName id) = between (codes "name: the string of name ") id (code
 reason_text NoUnicode = codes "cmap: no table for Unicode, symbols or Mac Roman in format 0, 4, 6, 12 or 13"
 reason_text (ShortMap format size needed) = short_map_text format size needed
 reason_text OnlyCff2 = codes "CFF2: its outlines are taken at coordinates alone"
-reason_text (Forbidden fs_type bit) = forbidden_text fs_type bit
+reason_text (Forbidden fs_type p) = forbidden_text fs_type p
+reason_text (LargeAdvance glyph limit) = large_text glyph limit
+reason_text (NoIndex glyph) = between (codes "glyph ") glyph (codes ": post has no index of a name for it")
+reason_text LostString = codes "CFF: Copyright, Notice or FontName is a string that isn't in the table"
+reason_text LargeCff = codes "CFF: more than 255 font dicts, a number of more than 64 characters, or offsets past 31 bits"
 reason_text (Cff2Version version) = between (codes "CFF2: its major version is ") version (codes ", not 2")
 reason_text (OtherVersion tag) = table_name tag ++ codes ": its major version isn't 1"
 reason_text (AxisSize size) = between (codes "fvar: axisSize is ") size (codes ", needs 20")

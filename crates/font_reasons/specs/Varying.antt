@@ -1,6 +1,6 @@
 -- What is wrong with what varies, where a call is at coordinates (OpenType, "gvar", "HVAR" and "MVAR").
 use Rattle.std.specs.Prelude.{ℕ, ◌+◌, ◌-◌, ◌==◌, not, ◌&&◌, ◌||◌, Bool, true, false, nat_lt, nat_le, if◌then◌else◌}
-use Rattle.std.specs.Prelude.{List, [], ◌∷◌, length, replicate, Option, Some, None, is_some, Result, Ok, Err, ℤ, pos}
+use Rattle.std.specs.Prelude.{List, [], ◌∷◌, length, replicate, Option, Some, None, is_some, Result, Ok, Err, ℤ, pos, ◌+ℤ◌, int_le}
 use Rattle.std.specs.Prelude.{codes}
 use Rattle.std.specs.List.{list_all}
 use Rattle.std.specs.Option.{option_and_then, option_map}
@@ -8,9 +8,12 @@ use Rattle.std.specs.Ordering.{int_eq}
 use Rattle.subsetter_base.specs.Bytes.{number}
 use Rattle.subsetter_base.specs.declared.error.Error.{Error as Refusal}
 use Rattle.subsetter_base.specs.declared.error.Error.TheVariants.{MalformedFont, Unimplemented, CFFError}
+use Rattle.subsetter_base.specs.declared.error.Error.TheVariants.{OverflowError}
 use Rattle.subsetter_base.specs.declared.tag.Tag.{Tag}
 use Rattle.subsetter_points.specs.Simple.{parts}
+use Rattle.subsetter_sfnt.specs.Fields.Hmtx.{metric_in}
 use Rattle.subsetter_sfnt.specs.Read.{Font, stored}
+use Rattle.subsetter_sfnt.specs.declared.fields.hmtx.LongHorMetric.{LongHorMetric}
 use Rattle.subsetter_variation.specs.Glyphs.Movement.{Outline, moved_points}
 use Rattle.subsetter_variation.specs.Glyphs.Tuples.{Gvar, gvar_table}
 use Rattle.subsetter_variation.specs.Items.Advances.{advance_delta, store_of}
@@ -20,13 +23,13 @@ use Rattle.subsetter_variation.specs.Locations.Coordinates.{normalized_or_fault}
 use Rattle.font_reasons.specs.Calls.{Question, is_at, takes_outlines}
 use Rattle.font_reasons.specs.Charstrings.{cff2_reason}
 use Rattle.font_reasons.specs.File.{or_else}
-use Rattle.font_reasons.specs.Outlines.{Tables, components_in, deep_reason, outline, outline_tables, tree}
-use Rattle.font_reasons.specs.Parts.{no_table}
+use Rattle.font_reasons.specs.Outlines.{Tables, components_in, deep_reason, outline, outline_tables, tree, tree_reason}
+use Rattle.font_reasons.specs.Parts.{no_table, pair_count}
 use Rattle.font_reasons.specs.Variations.{avar_tag, fvar_tag, gvar_tag, hvar_tag, mvar_tag, other_axes, other_deltas}
 use Rattle.font_reasons.specs.Variations.{wrong_gvar, wrong_location}
 use Rattle.font_reasons.specs.declared.asked.Call.{Call}
 use Rattle.font_reasons.specs.declared.reason.Reason.{Reason}
-use Rattle.font_reasons.specs.declared.reason.Reason.TheVariants.{Unread, Unvaried, WrongMetric, WrongOutline}
+use Rattle.font_reasons.specs.declared.reason.Reason.TheVariants.{LargeAdvance, Unread, Unvaried, WrongMetric, WrongOutline}
 
 -- the fault of a table that can't be read
 abbrev pub is_fault : Refusal → Bool
@@ -90,6 +93,43 @@ wrong_mvar_of font at mvar = or_else (wrong_lines mvar at) (or_else (wrong_caret
 
 abbrev pub wrong_mvar : Font → List ℤ → Option Reason
 wrong_mvar font at = option_and_then (wrong_mvar_of font at) (stored font mvar_tag.0)
+
+-- ---- advances that are too large
+
+-- what the advance of a glyph varies by; without `HVAR` it stays
+abbrev pub delta_of : Option (List ℕ) → List ℤ → ℕ → Result ℤ Refusal
+delta_of None at g = Ok (pos 0)
+delta_of (Some hvar) at g = whole_or_fault (advance_delta hvar at g)
+
+abbrev pub if_large : ℕ → ℕ → ℤ → Option Reason
+if_large limit g advance = if int_le advance (pos limit) then None else Some (LargeAdvance g limit)
+
+abbrev pub large_by : ℕ → ℕ → ℕ → Result ℤ Refusal → Option Reason
+large_by limit g before (Err e) = None
+large_by limit g before (Ok delta) = if_large limit g (pos before +ℤ delta)
+
+abbrev pub large_advance : ℕ → Option (List ℕ) → List ℤ → ℕ → Option LongHorMetric → Option Reason
+large_advance limit hvar at g None = None
+large_advance limit hvar at g (Some metric) = large_by limit g metric.advance_width (delta_of hvar at g)
+
+abbrev pub first_large : ℕ → Option (List ℕ) → List ℤ → List ℕ → ℕ → List ℕ → Option Reason
+first_large limit hvar at hmtx count [] = None
+first_large limit hvar at hmtx count (g ∷ glyphs) =
+    or_else (large_advance limit hvar at g (metric_in hmtx count g)) (first_large limit hvar at hmtx count glyphs)
+
+-- a metric has 16 bits, and a number in a charstring 15 and a sign
+abbrev pub most_advance : Call → Option (List ℕ) → ℕ
+most_advance call (Some glyf) = 65535
+most_advance call None = if takes_outlines call then 32767 else 65535
+
+abbrev pub large_of : Call → Font → List ℤ → List ℕ → List ℕ → ℕ → Option Reason
+large_of call font at glyphs hmtx count =
+    first_large (most_advance call (stored font (codes "glyf"))) (stored font hvar_tag.0) at hmtx count glyphs
+
+abbrev pub large_advances : Call → Font → List ℤ → List ℕ → Option Reason
+large_advances call font at glyphs =
+    option_and_then (λ hmtx. option_and_then (large_of call font at glyphs hmtx) (pair_count font))
+    (stored font (codes "hmtx"))
 
 -- ---- outlines in `glyf`
 
@@ -193,9 +233,15 @@ metrics_reason call font at given all =
 abbrev pub reads_outlines : Call → Option (List ℕ) → Bool
 reads_outlines call hvar = takes_outlines call || not (is_some hvar)
 
+-- those of calls on outlines are looked at before
+abbrev pub unseen_outlines : Call → Font → ℕ → ℕ → List ℕ → Option Reason
+unseen_outlines call font steps depth all = if takes_outlines call then None else tree_reason font steps depth all
+
 abbrev pub glyf_reason : Call → Font → List ℤ → ℕ → ℕ → List ℕ → Option Reason
 glyf_reason call font at steps depth all =
-    if reads_outlines call (stored font hvar_tag.0) then outlines_reason font at steps depth all else None
+    if reads_outlines call (stored font hvar_tag.0)
+    then or_else (unseen_outlines call font steps depth all) (outlines_reason font at steps depth all)
+    else None
 
 abbrev pub face_cff2 : Call → Font → List ℤ → ℕ → ℕ → List ℕ → Option Reason
 face_cff2 call font at tokens depth all =
@@ -218,6 +264,7 @@ abbrev pub moved_by : Refusal → Call → Font → List ℤ → ℕ → ℕ →
 moved_by Unimplemented call font at tokens depth given all = other_deltas font
 moved_by MalformedFont call font at tokens depth given all = malformed_at call font at tokens depth given all
 moved_by CFFError call font at tokens depth given all = face_cff2 call font at tokens depth all
+moved_by OverflowError call font at tokens depth given all = large_advances call font at (glyphs_of call given all)
 moved_by other call font at tokens depth given all = None
 
 -- why there is no location, where that is the error: with axes that can be read it is the segments of `avar`

@@ -42,7 +42,7 @@ pub struct Asked<'a> {
     pub coordinates: &'a [(Tag, i32)],
     /// What is kept besides outlines and metrics, of subsets with and without widths. Hinting says nothing: what reads it has no reason.
     pub extras: Extras,
-    /// How far a charstring may run; the bytes of these say nothing.
+    /// How far a charstring may run; with a bound on bytes an overflow isn't looked for in a new table.
     pub limits: Limits,
     /// The most bytes of the new font, where they may be why.
     pub most_bytes: Option<u32>,
@@ -53,7 +53,7 @@ impl<'a> Model for Asked<'a> {
 
     ghost Value = { Question };
 
-    ghost view = { λ a. record { call = a.call; error = a.error; index = a.index; glyphs = a.glyphs.now; coordinates = a.coordinates.now; extras = a.extras; tokens = a.limits.tokens; depth = a.limits.depth; bytes = a.most_bytes } };
+    ghost view = { λ a. record { call = a.call; error = a.error; index = a.index; glyphs = a.glyphs.now; coordinates = a.coordinates.now; extras = a.extras; tokens = a.limits.tokens; depth = a.limits.depth; bound = a.limits.bytes; bytes = a.most_bytes } };
 }
 
 /// Whether a call is one on outlines.

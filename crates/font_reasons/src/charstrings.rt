@@ -13,12 +13,13 @@ ghost use Rattle.subsetter_cff.specs.Read.Opened.{opened};
 ghost use Rattle.subsetter_cff.specs.Read.Source.{cff_of, IsSource};
 ghost use Rattle.subsetter_cff.specs.Read.GlyphTrace.{library};
 ghost use Rattle.subsetter_cff.specs.Write.Glyphs.KeptView.{kept_view};
-ghost use Rattle.subsetter_cff.specs.Write.Plain.{kept_glyph, source_number};
+ghost use Rattle.subsetter_cff.specs.Write.Laying.TableBy.{table_bytes};
+ghost use Rattle.subsetter_cff.specs.Write.Plain.{cff_subset, kept_glyph, source_number};
 ghost use Rattle.subsetter_blend.specs.Resolved.{resolved};
 ghost use Rattle.subsetter_cff2.specs.Cff2View.{cff2_of};
 ghost use Rattle.subsetter_cff2.specs.Cff2.{cff2_parts};
 ghost use Rattle.subsetter_cff2.specs.Made2View.{dict_view};
-ghost use Rattle.font_reasons.specs.Charstrings.{cff_tag, cff2_tag, cff_reason, first_refusal, glyph_reason, opened_reason, table_reason, open2, dict_of, setting, run2, other_cff2, opened2_reason, cff2_reason};
+ghost use Rattle.font_reasons.specs.Charstrings.{cff_tag, cff2_tag, cff_reason, first_refusal, glyph_reason, opened_reason, table_reason, made_by, made_reason, new_cff_reason, open2, dict_of, setting, run2, other_cff2, opened2_reason, cff2_reason};
 ghost use Rattle.font_reasons.specs.View.{opened2_of};
 
 use crate::reason::Reason;
@@ -28,6 +29,7 @@ use subsetter_base::read::Reader;
 use subsetter_base::{Error, GlyphRemapper, Tag};
 use subsetter_blend::resolving::resolve;
 use subsetter_blend::runs::machine::Subroutines;
+use subsetter_cff::CffPieces;
 use subsetter_cff::read::source::{SIDMetadata, Table};
 use subsetter_cff::write::glyphs::kept_glyphs::{Kept, source_number};
 use subsetter_cff2::made::{PlacedDict, place_dicts};
@@ -185,6 +187,76 @@ pub fn cff_reason(
 {
     match (table(font, index, Tag::GLYF), table(font, index, Tag::CFF)) {
         (None, Some(cff)) => opened_reason(alloc, cff, limits, mapper),
+        _ => Ok(None),
+    }
+}
+
+/// The `CFF ` table of a subset, of any size.
+#[tactic(auto, using(crate::proofs::Unbounded::unbounded))]
+fn new_cff(
+    alloc: Global,
+    cff: &[u8],
+    limits: Limits,
+    mapper: &GlyphRemapper,
+) -> Result<CffPieces, Error>
+    requires { limits.bytes ≡ None }
+    ensures { Gives table_bytes result (cff_subset cff.now limits.tokens limits.depth mapper.now) }
+{
+    subsetter_cff::subset(alloc, cff, mapper, limits)
+}
+
+/// What the error of a new table says of its source, where it is the error that came.
+fn made_by(error: Error, found: Error) -> Option<Reason>
+    ensures { result ≡ made_by error found }
+{
+    match (error, found) {
+        (Error::SubsetError, Error::SubsetError) => Some(Reason::LostString),
+        (Error::OverflowError, Error::OverflowError) => Some(Reason::LargeCff),
+        _ => None,
+    }
+}
+
+/// Why the new table of a `CFF ` table isn't made, where that is the error that came.
+fn made_reason(
+    alloc: Global,
+    error: Error,
+    cff: &[u8],
+    limits: &Limits,
+    mapper: &GlyphRemapper,
+) -> Result<Option<Reason>, Error>
+    ensures ok { IfOk result (λ r. r ≡ made_reason error (cff_subset cff.now limits.now.tokens limits.now.depth mapper.now)) }
+    ensures err { IfErr result (λ e. e ≡ OutOfMemory) }
+{
+    let Some(own) = Limits::new(limits.tokens(), limits.depth()) else {
+        return Ok(None);
+    };
+    match new_cff(alloc, cff, own, mapper) {
+        Ok(_made) => Ok(None),
+        Err(found) => {
+            unless_memory(found)?;
+            Ok(made_by(error, found))
+        }
+    }
+}
+
+/// Why the new table of the `CFF ` table of a face without `glyf` isn't made, where that is the error that came.
+///
+/// # Errors
+///
+/// `OutOfMemory` alone.
+pub fn new_cff_reason(
+    alloc: Global,
+    error: Error,
+    font: &[u8],
+    index: u32,
+    limits: &Limits,
+    mapper: &GlyphRemapper,
+) -> Result<Option<Reason>, Error>
+    ensures ok { IfOk result (λ r. r ≡ new_cff_reason error (record { bytes = font.now; index = index; extras = all_extras }) limits.now.tokens limits.now.depth mapper.now) }
+    ensures err { IfErr result (λ e. e ≡ OutOfMemory) }
+{
+    match (table(font, index, Tag::GLYF), table(font, index, Tag::CFF)) {
+        (None, Some(cff)) => made_reason(alloc, error, cff, limits, mapper),
         _ => Ok(None),
     }
 }

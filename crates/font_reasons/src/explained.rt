@@ -1,23 +1,24 @@
 //! Why a call is refused, by its error.
 
-ghost use Rattle.std.specs.Prelude.{◌≡◌, IfOk, IfErr};
+ghost use Rattle.std.specs.Prelude.{◌≡◌, map, IfOk, IfErr};
+ghost use Rattle.std.specs.List.{range_with_len};
 ghost use Rattle.subsetter_base.specs.declared.error.Error.TheVariants.{OutOfMemory};
 ghost use Rattle.subsetter_sfnt.specs.Extras.{all_extras};
 ghost use Rattle.font_reasons.specs.Calls.{face_in};
-ghost use Rattle.font_reasons.specs.Explained.{explained, is_of_charstrings, is_overflow, lacks, lost_for, malformed, no_maxp, no_units, no_widths, not_kept, not_kept_by, not_read, numbered, of_charstrings, of_components, of_either, of_numbered, of_outlines, only_cff2, seen_last, short_names, shown, shown_last, tight_limits, unnumbered, wrong_advances, wrong_for, wrong_names};
+ghost use Rattle.font_reasons.specs.Explained.{all_of, explained, explained_of, is_of_charstrings, is_of_table, is_overflow, lacks, lost_for, no_indexes, malformed, no_maxp, no_units, no_widths, not_kept, not_kept_by, not_read, numbered, of_all, of_any, of_charstrings, of_components, of_either, of_numbered, of_outlines, of_table, only_cff2, seen_last, short_names, shown, shown_last, tight_limits, unnumbered, wrong_advances, wrong_for, wrong_names};
 
 use crate::asked::{Asked, Call, keeps_glyph_names, keeps_names, takes_outlines};
 use crate::characters::no_mapping;
-use crate::charstrings::{cff_reason, other_cff2};
+use crate::charstrings::{cff_reason, new_cff_reason, other_cff2};
 use crate::names::lost_name;
 use crate::outlines::tree_reason;
-use crate::parts::{no_metric, no_table, wrong_metrics};
+use crate::parts::{count_glyphs, no_metric, no_pairs, no_table, wrong_metrics};
 use crate::reason::Reason;
-use crate::short::{short_header, short_name, short_post};
-use crate::source::{no_font_or_glyph, reason_of_unknown, wrong_source, wrong_table};
+use crate::short::{no_index, short_header, short_name, short_post};
+use crate::source::{no_font_or_glyph, reason_of_unknown, wrong_source};
 use crate::varying::varied_reason;
 use pdf_cff::unless_memory;
-use std::alloc::Global;
+use std::alloc::{AllocError, Global};
 use subsetter_base::{Error, GlyphRemapper, Tag};
 use subsetter_sfnt::directory::table;
 use subsetter_sfnt::extras::Extras;
@@ -95,7 +96,7 @@ fn not_read(call: Call, font: &[u8], index: u32) -> Option<Reason>
 fn wrong_advances(font: &[u8], index: u32) -> Option<Reason>
     ensures { result ≡ wrong_advances (record { bytes = font.now; index = index; extras = all_extras }) }
 {
-    short_header(font, index).or(wrong_table(font, index))
+    short_header(font, index).or(wrong_metrics(font, index))
 }
 
 /// What is wrong with the tables that a call reads.
@@ -141,7 +142,7 @@ fn shown(asked: &Asked<'_>, font: &[u8]) -> Option<Reason>
         Error::MalformedFont => malformed(call, font, index, asked.glyphs),
         Error::Unimplemented => not_read(call, font, index),
         Error::SubsetError => lost_for(call, asked.extras, font, index),
-        Error::OverflowError => wrong_metrics(font, index),
+        Error::OverflowError => no_pairs(font, index),
         _ => None,
     }
 }
@@ -212,6 +213,53 @@ fn of_either(
     }
 }
 
+/// Whether a new `CFF ` table can be why of an error: within a bound on bytes an overflow is one of it.
+fn is_of_table(error: Error, bound: Option<u32>) -> bool
+    ensures { result ≡ is_of_table error bound }
+{
+    match (error, bound) {
+        (Error::SubsetError, _) => true,
+        (Error::OverflowError, None) => true,
+        _ => false,
+    }
+}
+
+/// What a new `CFF ` table shows.
+fn of_table(
+    alloc: Global,
+    error: Error,
+    font: &[u8],
+    index: u32,
+    limits: &Limits,
+    mapper: &GlyphRemapper,
+) -> Result<Option<Reason>, Error>
+    ensures ok { IfOk result (λ r. r ≡ of_table error limits.now.bytes (record { bytes = font.now; index = index; extras = all_extras }) limits.now.tokens limits.now.depth mapper.now) }
+    ensures err { IfErr result (λ e. e ≡ OutOfMemory) }
+{
+    if is_of_table(error, limits.bytes()) {
+        return new_cff_reason(alloc, error, font, index, limits, mapper);
+    }
+    Ok(None)
+}
+
+/// What charstrings, components or a new table show.
+fn of_any(
+    alloc: Global,
+    error: Error,
+    font: &[u8],
+    index: u32,
+    limits: &Limits,
+    mapper: &GlyphRemapper,
+) -> Result<Option<Reason>, Error>
+    ensures ok { IfOk result (λ r. r ≡ of_any error limits.now.bytes (record { bytes = font.now; index = index; extras = all_extras }) limits.now.tokens limits.now.depth mapper.now) }
+    ensures err { IfErr result (λ e. e ≡ OutOfMemory) }
+{
+    match of_either(alloc, error, font, index, limits, mapper)? {
+        Some(reason) => Ok(Some(reason)),
+        None => of_table(alloc, error, font, index, limits, mapper),
+    }
+}
+
 /// What the outlines of these glyphs show, where a call takes them.
 fn of_outlines(
     alloc: Global,
@@ -219,11 +267,11 @@ fn of_outlines(
     font: &[u8],
     mapper: &GlyphRemapper,
 ) -> Result<Option<Reason>, Error>
-    ensures ok { IfOk result (λ r. r ≡ of_outlines asked.now.call asked.now.error (face_in asked.now font.now) asked.now.tokens asked.now.depth mapper.now) }
+    ensures ok { IfOk result (λ r. r ≡ of_outlines asked.now (face_in asked.now font.now) mapper.now) }
     ensures err { IfErr result (λ e. e ≡ OutOfMemory) }
 {
     if takes_outlines(asked.call) {
-        return of_either(alloc, asked.error, font, asked.index, &asked.limits, mapper);
+        return of_any(alloc, asked.error, font, asked.index, &asked.limits, mapper);
     }
     Ok(None)
 }
@@ -296,6 +344,16 @@ fn short_names(call: Call, extras: Extras, font: &[u8], index: u32) -> Option<Re
     None
 }
 
+/// The first of these glyphs that has no index of a name, where a call keeps the names of glyphs.
+fn no_indexes(call: Call, extras: Extras, font: &[u8], index: u32, glyphs: &[u16]) -> Option<Reason>
+    ensures { result ≡ no_indexes call extras (record { bytes = font.now; index = index; extras = all_extras }) glyphs.now }
+{
+    if keeps_glyph_names(call, extras) {
+        return no_index(font, index, glyphs);
+    }
+    None
+}
+
 /// What is wrong with these, or with the names of glyphs.
 fn wrong_names(call: Call, extras: Extras, font: &[u8], index: u32) -> Option<Reason>
     ensures { result ≡ wrong_names call extras (record { bytes = font.now; index = index; extras = all_extras }) }
@@ -309,7 +367,9 @@ fn wrong_names(call: Call, extras: Extras, font: &[u8], index: u32) -> Option<Re
 fn not_kept(call: Call, extras: Extras, font: &[u8], index: u32, glyphs: &[u16]) -> Option<Reason>
     ensures { result ≡ not_kept call extras (record { bytes = font.now; index = index; extras = all_extras }) glyphs.now }
 {
-    no_metric(font, index, glyphs).or(wrong_names(call, extras, font, index))
+    let names = wrong_names(call, extras, font, index);
+    let all = names.or(no_indexes(call, extras, font, index, glyphs));
+    no_metric(font, index, glyphs).or(all)
 }
 
 /// What is wrong with what a call keeps, or reads, besides outlines.
@@ -366,10 +426,57 @@ fn seen_last(alloc: Global, asked: &Asked<'_>, font: &[u8]) -> Result<Option<Rea
     Ok(found.or(shown_last(asked, font)))
 }
 
+/// Why a call on given glyphs is refused, if the font shows it.
+fn explained_of(alloc: Global, font: &[u8], asked: &Asked<'_>) -> Result<Option<Reason>, Error>
+    ensures ok { IfOk result (λ r. r ≡ explained_of asked.now font.now) }
+    ensures err { IfErr result (λ e. e ≡ OutOfMemory) }
+{
+    match shown(asked, font) {
+        Some(reason) => Ok(Some(reason)),
+        None => seen_last(alloc, asked, font),
+    }
+}
+
+/// The glyphs 0 to `count` - 1.
+fn first_glyphs(alloc: Global, count: u16) -> Result<Vec<u16>, AllocError>
+    ensures { IfOk result (λ v. v.items ≡ map (λ g. g) (range_with_len 0 count)) }
+{
+    (0..count).map(|glyph| glyph).collect(alloc)
+}
+
+/// All glyphs of a face, by their count.
+fn all_of(alloc: Global, count: Option<u16>) -> Result<Vec<u16>, AllocError>
+    ensures { IfOk result (λ v. v.items ≡ all_of count) }
+{
+    match count {
+        Some(count) => first_glyphs(alloc, count),
+        None => Ok(Vec::new(alloc)),
+    }
+}
+
+/// Why a call on all glyphs is refused, if the font shows it.
+fn explained_of_all(alloc: Global, font: &[u8], asked: &Asked<'_>) -> Result<Option<Reason>, Error>
+    ensures ok { IfOk result (λ r. r ≡ explained_of (of_all asked.now (face_in asked.now font.now)) font.now) }
+    ensures err { IfErr result (λ e. e ≡ OutOfMemory) }
+{
+    let glyphs = all_of(alloc, count_glyphs(font, asked.index))?;
+    let all = Asked {
+        call: asked.call,
+        error: asked.error,
+        index: asked.index,
+        glyphs: &glyphs,
+        coordinates: asked.coordinates,
+        extras: asked.extras,
+        limits: asked.limits,
+        most_bytes: asked.most_bytes,
+    };
+    explained_of(alloc, font, &all)
+}
+
 /// Why a call is refused, if the font shows it. A charstring is run within the limits of the call, at most once, and none after the
 /// first that can't be; components of `glyf` are followed down to their depth, in as many steps as they have tokens.
 ///
-/// What is read at coordinates alone has a part in it where a static font is made there: not at the default of outlines in `glyf`.
+/// Advances of no glyphs are those of all, as text takes them. What is read at coordinates alone has a part in it where a static font is made there: not at the default of outlines in `glyf`.
 ///
 /// There is none where memory ran out, or a number in the new font is too large and its bytes have no bound.
 ///
@@ -380,8 +487,8 @@ pub fn explain(alloc: Global, font: &[u8], asked: &Asked<'_>) -> Result<Option<R
     ensures ok { IfOk result (λ r. r ≡ explained asked.now font.now) }
     ensures err { IfErr result (λ e. e ≡ OutOfMemory) }
 {
-    match shown(asked, font) {
-        Some(reason) => Ok(Some(reason)),
-        None => seen_last(alloc, asked, font),
+    match (asked.call, asked.glyphs) {
+        (Call::Advances, []) => explained_of_all(alloc, font, asked),
+        _ => explained_of(alloc, font, asked),
     }
 }

@@ -3,8 +3,8 @@
 ghost use Rattle.std.specs.Prelude.{◌≡◌, ◌+◌, length};
 ghost use Rattle.subsetter_sfnt.specs.Extras.{all_extras};
 ghost use Rattle.subsetter_sfnt.specs.Read.{records};
-ghost use Rattle.font_reasons.specs.Directory.{bytes_or_none, records_in};
-ghost use Rattle.font_reasons.specs.File.{packed, by_front, by_magic, other_format, front_of, not_font, face_count, no_face, no_directory, no_font, end_of, is_cut, cut_reason, first_cut, cut_table, missing_table};
+ghost use Rattle.font_reasons.specs.Directory.{bytes_or_none};
+ghost use Rattle.font_reasons.specs.File.{packed, by_front, by_magic, other_format, front_of, not_font, face_count, no_face, no_directory, no_font, end_of, cut_by, cut_table, missing_table};
 
 use crate::reason::Reason;
 use subsetter_base::Tag;
@@ -153,37 +153,22 @@ fn end_of(one: TableRecord) -> u64
 }
 
 /// Whether the table of a record ends past the end of a file of this many bytes.
-fn is_cut(one: TableRecord, size: u64) -> bool
-    ensures { result ≡ is_cut size one }
+fn cut_by(one: TableRecord, size: u64) -> Option<Reason>
+    ensures { result ≡ cut_by size one }
 {
-    end_of(one) > size
-}
-
-/// That the table of a record does so.
-fn cut_reason(one: TableRecord, size: u64) -> Reason
-    ensures { result ≡ cut_reason size one }
-{
-    Reason::Cut(one.tag, end_of(one), size)
-}
-
-/// The first table of a directory that ends past the end of a file of this many bytes.
-fn first_cut(records: &[u8], size: u64) -> Option<Reason>
-    ensures { result ≡ first_cut size (records_in records.now) }
-{
-    let mut r = Reader::new(records);
-    while let Some(one) = r.read::<TableRecord>() {
-        if is_cut(one, size) {
-            return Some(cut_reason(one, size));
-        }
+    let end = end_of(one);
+    if end > size {
+        return Some(Reason::Cut(one.tag, end, size));
     }
     None
 }
 
-/// The first table of a face that ends past the end of the file.
-pub fn cut_table(font: &[u8], index: u32) -> Option<Reason>
-    ensures { result ≡ cut_table (record { bytes = font.now; index = index; extras = all_extras }) }
+/// Whether the table of a tag does so.
+pub fn cut_table(font: &[u8], index: u32, tag: Tag) -> Option<Reason>
+    ensures { result ≡ cut_table (record { bytes = font.now; index = index; extras = all_extras }) tag }
 {
-    first_cut(directory_of(font, index), font.len() as u64)
+    let found = find_record(directory_of(font, index), tag)?;
+    cut_by(found, font.len() as u64)
 }
 
 /// Why a table of a face isn't found: it ends past the end of the file, or the directory doesn't have it.

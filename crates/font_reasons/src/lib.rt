@@ -26,7 +26,7 @@ mod varying;
 pub use asked::{Asked, Call};
 pub use characters::no_mapping;
 pub use explained::explain;
-pub use file::{cut_table, directory_of, face_count, missing_table, no_font};
+pub use file::{directory_of, face_count, missing_table, no_font};
 pub use parts::no_table;
 pub use permission::find_prohibition;
 pub use reason::Reason;

@@ -2,9 +2,9 @@
 
 ghost use Rattle.std.specs.Prelude.{◌≡◌};
 ghost use Rattle.subsetter_sfnt.specs.Extras.{all_extras};
-ghost use Rattle.font_reasons.specs.Parts.{face_glyphs, first_past, no_glyph, no_table, wrong_metrics_of, wrong_metrics, no_metric_of, first_without_metric, pair_count, no_metric, bare_reason, no_outlines};
+ghost use Rattle.font_reasons.specs.Parts.{face_glyphs, first_past, no_glyph, no_table, wrong_metrics_of, wrong_metrics, if_none, pair_count, no_pairs, no_metric_of, first_without_metric, without_metric, no_metric, cut_outlines, cut_pair, cut_bitmaps, bare, no_outlines};
 
-use crate::file::missing_table;
+use crate::file::{cut_table, missing_table};
 use crate::reason::Reason;
 use subsetter_base::Tag;
 use subsetter_sfnt::alone::{bitmaps_alone, has_outlines};
@@ -14,7 +14,7 @@ use subsetter_sfnt::fields::hmtx::{glyph_metric, last_advance};
 use subsetter_sfnt::fields::maxp::num_glyphs;
 
 /// numGlyphs of a face's `maxp`.
-fn count_glyphs(font: &[u8], index: u32) -> Option<u16>
+pub fn count_glyphs(font: &[u8], index: u32) -> Option<u16>
     ensures { result ≡ face_glyphs (record { bytes = font.now; index = index; extras = all_extras }) }
 {
     let maxp = table(font, index, Tag::MAXP)?;
@@ -22,7 +22,7 @@ fn count_glyphs(font: &[u8], index: u32) -> Option<u16>
 }
 
 /// The first of the glyphs that a face of this many glyphs doesn't have.
-fn first_past(count: u16, glyphs: &[u16]) -> Option<u16>
+pub fn first_past(count: u16, glyphs: &[u16]) -> Option<u16>
     ensures { result ≡ first_past count glyphs.now }
 {
     for glyph in glyphs {
@@ -58,7 +58,7 @@ fn wrong_metrics_of(hhea: &[u8], hmtx: &[u8]) -> Option<Reason>
 {
     let count = number_of_h_metrics(hhea)?;
     if count == 0 {
-        return Some(Reason::NoMetrics);
+        return None;
     }
     match last_advance(hmtx, count) {
         Some(_) => None,
@@ -75,6 +75,33 @@ pub fn wrong_metrics(font: &[u8], index: u32) -> Option<Reason>
         Some(hhea) => wrong_metrics_of(hhea, hmtx),
         None => Some(missing_table(font, index, Tag::HHEA)),
     }
+}
+
+/// Whether numberOfHMetrics is 0.
+fn if_none(count: u16) -> Option<Reason>
+    ensures { result ≡ if_none count }
+{
+    if count == 0 {
+        return Some(Reason::NoMetrics);
+    }
+    None
+}
+
+/// numberOfHMetrics of a face.
+pub fn pair_count(font: &[u8], index: u32) -> Option<u16>
+    ensures { result ≡ pair_count (record { bytes = font.now; index = index; extras = all_extras }) }
+{
+    let hhea = table(font, index, Tag::HHEA)?;
+    number_of_h_metrics(hhea)
+}
+
+/// Whether that of a face with `hmtx` is 0.
+pub fn no_pairs(font: &[u8], index: u32) -> Option<Reason>
+    ensures { result ≡ no_pairs (record { bytes = font.now; index = index; extras = all_extras }) }
+{
+    let _hmtx = table(font, index, Tag::HMTX)?;
+    let count = pair_count(font, index)?;
+    if_none(count)
 }
 
 /// Whether `hmtx` ends before the metrics of a glyph.
@@ -99,12 +126,11 @@ fn first_without_metric(hmtx: &[u8], count: u16, glyphs: &[u16]) -> Option<Reaso
     None
 }
 
-/// numberOfHMetrics of a face.
-fn pair_count(font: &[u8], index: u32) -> Option<u16>
-    ensures { result ≡ pair_count (record { bytes = font.now; index = index; extras = all_extras }) }
+/// Whether there are no metrics, or not those of one of these glyphs.
+fn without_metric(hmtx: &[u8], count: u16, glyphs: &[u16]) -> Option<Reason>
+    ensures { result ≡ without_metric hmtx.now glyphs.now count }
 {
-    let hhea = table(font, index, Tag::HHEA)?;
-    number_of_h_metrics(hhea)
+    if_none(count).or(first_without_metric(hmtx, count, glyphs))
 }
 
 /// Whether the `hmtx` of a face ends before the metrics of one of these glyphs.
@@ -113,25 +139,53 @@ pub fn no_metric(font: &[u8], index: u32, glyphs: &[u16]) -> Option<Reason>
 {
     let hmtx = table(font, index, Tag::HMTX)?;
     let count = pair_count(font, index)?;
-    first_without_metric(hmtx, count, glyphs)
+    without_metric(hmtx, count, glyphs)
 }
 
-/// That a face has none of the tables that have outlines, but bitmaps in this table, if one is given.
-fn bare_reason(bitmaps: Option<Tag>) -> Reason
-    ensures { result ≡ bare_reason bitmaps }
+/// Whether a table of outlines is cut.
+#[tactic(auto, unfolding(crate::specs::Parts::cut_outlines))]
+fn cut_outlines(font: &[u8], index: u32) -> Option<Reason>
+    ensures { result ≡ cut_outlines (record { bytes = font.now; index = index; extras = all_extras }) }
 {
-    match bitmaps {
-        Some(tag) => Reason::BitmapsAlone(tag),
-        None => Reason::NoOutlines,
-    }
+    let others = cut_table(font, index, Tag::CFF).or(cut_table(font, index, Tag::CFF2));
+    cut_table(font, index, Tag::GLYF).or(others)
 }
 
-/// Whether a face has none of the tables that have outlines.
+/// Whether a table of bitmaps is cut, or that of their places.
+fn cut_pair(font: &[u8], index: u32, bitmaps: Tag, places: Tag) -> Option<Reason>
+    ensures { result ≡ cut_pair (record { bytes = font.now; index = index; extras = all_extras }) bitmaps places }
+{
+    cut_table(font, index, bitmaps).or(cut_table(font, index, places))
+}
+
+/// Whether one of those tables is cut.
+#[tactic(auto, unfolding(crate::specs::Parts::cut_bitmaps))]
+fn cut_bitmaps(font: &[u8], index: u32) -> Option<Reason>
+    ensures { result ≡ cut_bitmaps (record { bytes = font.now; index = index; extras = all_extras }) }
+{
+    let colored = cut_pair(font, index, Tag::new(b"CBDT"), Tag::new(b"CBLC"));
+    let gray = cut_pair(font, index, Tag::new(b"EBDT"), Tag::new(b"EBLC"));
+    colored.or(cut_table(font, index, Tag::new(b"sbix")).or(gray))
+}
+
+/// Why a face has none of the tables that have outlines.
+#[tactic(auto, unfolding(crate::specs::Parts::bare))]
+fn bare(font: &[u8], index: u32) -> Option<Reason>
+    ensures { result ≡ bare (record { bytes = font.now; index = index; extras = all_extras }) }
+{
+    let bitmaps = match bitmaps_alone(font, index) {
+        Some(tag) => Some(Reason::BitmapsAlone(tag)),
+        None => cut_bitmaps(font, index).or(Some(Reason::NoOutlines)),
+    };
+    cut_outlines(font, index).or(bitmaps)
+}
+
+/// Whether a face has none of these.
 pub fn no_outlines(font: &[u8], index: u32) -> Option<Reason>
     ensures { result ≡ no_outlines (record { bytes = font.now; index = index; extras = all_extras }) }
 {
     if has_outlines(font, index) {
         return None;
     }
-    Some(bare_reason(bitmaps_alone(font, index)))
+    bare(font, index)
 }

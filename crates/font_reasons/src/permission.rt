@@ -5,23 +5,13 @@ ghost use Rattle.std.specs.Option.{option_copied};
 ghost use Rattle.subsetter_sfnt.specs.Extras.{all_extras};
 ghost use Rattle.pdf_values.specs.Permission.{permission};
 ghost use Rattle.subsetter_sfnt.specs.Fields.Os2.{fs_type};
-ghost use Rattle.font_reasons.specs.Permission.{forbidding_bit, prohibition_by, prohibition};
+ghost use Rattle.font_reasons.specs.Permission.{prohibition_by, prohibition};
 
 use crate::reason::Reason;
-use pdf_values::{Permission, Rights, Usage, is_permitted, permission_of};
+use pdf_values::{Rights, is_permitted, permission_of};
 use subsetter_base::Tag;
 use subsetter_sfnt::directory::table;
 use subsetter_sfnt::fields::os2::fs_type;
-
-/// The bit of fsType that forbids: bit 1 embedding, else bit 8 subsets, else bit 9 outlines.
-fn forbidding_bit(permission: Permission) -> u8
-    ensures { result ≡ forbidding_bit permission }
-{
-    match permission.usage {
-        Usage::Restricted => 1,
-        _ => { if permission.subsetting { 9 } else { 8 } }
-    }
-}
 
 /// Why `OS/2` forbids to embed a subset, if it does.
 fn prohibition_in(os2: Option<&[u8]>) -> Option<Reason>
@@ -32,7 +22,7 @@ fn prohibition_in(os2: Option<&[u8]>) -> Option<Reason>
     if is_permitted(permission, Rights::AsSaid) {
         return None;
     }
-    Some(Reason::Forbidden(fs_type, forbidding_bit(permission)))
+    Some(Reason::Forbidden(fs_type, permission))
 }
 
 /// Why the maker of a font forbids to embed a subset of it, if so: what fsType of `OS/2` says.

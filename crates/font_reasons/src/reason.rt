@@ -2,8 +2,9 @@
 
 ghost use Rattle.std.specs.Prelude.{◌≡◌};
 ghost use Rattle.font_reasons.specs.About.{reason_table, reason_glyph};
-ghost use Rattle.font_reasons.specs.Texts.{is_printable, is_text, table_name};
+ghost use Rattle.font_reasons.specs.Texts.{forbidden_by, is_printable, is_text, table_name};
 
+use pdf_values::{Permission, Usage};
 use std::fmt;
 use subsetter_base::Tag;
 
@@ -74,8 +75,16 @@ pub enum Reason {
     ShortMap(u16, u64, u64),
     /// The outlines are those of `CFF2`, which calls at coordinates take.
     OnlyCff2,
-    /// fsType of `OS/2` is this, and this bit of it forbids embedding, subsets (bit 8) or outlines (bit 9).
-    Forbidden(u16, u8),
+    /// fsType of `OS/2` is this, and forbids what isn't permitted here.
+    Forbidden(u16, Permission),
+    /// The advance of this glyph, as it varies, is more than this, which is the most that can be written.
+    LargeAdvance(u16, u16),
+    /// `post` has no index of a name for this glyph.
+    NoIndex(u16),
+    /// A string that a dict of `CFF ` names isn't in the table.
+    LostString,
+    /// A new table of `CFF ` needs more than the format allows.
+    LargeCff,
     /// majorVersion of `CFF2` is this, and not 2.
     Cff2Version(u8),
     /// majorVersion of this table isn't 1.
@@ -133,6 +142,10 @@ impl Reason {
             Reason::ShortMap(_, _, _) => Some(Tag::new(b"cmap")),
             Reason::OnlyCff2 => Some(Tag::CFF2),
             Reason::Forbidden(_, _) => Some(Tag::new(b"OS/2")),
+            Reason::LargeAdvance(_, _) => Some(Tag::HMTX),
+            Reason::NoIndex(_) => Some(Tag::POST),
+            Reason::LostString => Some(Tag::CFF),
+            Reason::LargeCff => Some(Tag::CFF),
             Reason::Cff2Version(_) => Some(Tag::CFF2),
             Reason::OtherVersion(tag) => Some(tag),
             Reason::AxisSize(_) => Some(Tag::new(b"fvar")),
@@ -162,6 +175,8 @@ impl Reason {
             Reason::CutComponent(glyph) => Some(glyph),
             Reason::ByComponent(glyph, _) => Some(glyph),
             Reason::NoMetric(glyph) => Some(glyph),
+            Reason::NoIndex(glyph) => Some(glyph),
+            Reason::LargeAdvance(glyph, _) => Some(glyph),
             Reason::NoCharstring(_, glyph) => Some(glyph),
             Reason::WrongCharstring(_, glyph) => Some(glyph),
             Reason::Composed(glyph) => Some(glyph),
@@ -375,9 +390,29 @@ impl fmt::Display for Hex {
     }
 }
 
-/// What a bit of fsType forbids.
+/// What fsType forbids, by the bit of each.
+fn forbidden_by(permission: Permission) -> &'static str
+    ensures { result.now ≡ forbidden_by permission }
+{
+    let embedding = match permission.usage {
+        Usage::Restricted => false,
+        _ => true,
+    };
+    match (embedding, permission.subsetting, permission.outlines) {
+        (true, true, true) => "",
+        (true, true, false) => "outlines (bit 9)",
+        (true, false, true) => "subsets (bit 8)",
+        (true, false, false) => "subsets (bit 8), outlines (bit 9)",
+        (false, true, true) => "embedding (bit 1)",
+        (false, true, false) => "embedding (bit 1), outlines (bit 9)",
+        (false, false, true) => "embedding (bit 1), subsets (bit 8)",
+        (false, false, false) => "embedding (bit 1), subsets (bit 8), outlines (bit 9)",
+    }
+}
+
+/// That fsType forbids something.
 #[derive(Clone, Copy)]
-struct ForbiddenText(u16, u8);
+struct ForbiddenText(u16, Permission);
 
 impl fmt::Display for ForbiddenText {
     ghost use Rattle.std.specs.Prelude.{Some};
@@ -386,15 +421,13 @@ impl fmt::Display for ForbiddenText {
     ghost output = { λ it. Some (forbidden_text it.0 it.1) };
 
     fn fmt<W: fmt::Write>(&self, f: &mut fmt::Formatter<W>) -> fmt::Result {
-        let ForbiddenText(fs_type, bit) = *self;
+        let ForbiddenText(fs_type, permission) = *self;
         let shown = Hex(fs_type);
-        if bit == 8 {
-            return write!(f, "OS/2: fsType 0x{shown} forbids subsets");
-        }
-        if bit == 9 {
-            return write!(f, "OS/2: fsType 0x{shown} forbids outlines");
-        }
-        write!(f, "OS/2: fsType 0x{shown} forbids embedding")
+        write!(
+            f,
+            "OS/2: fsType 0x{shown} forbids {}",
+            forbidden_by(permission)
+        )
     }
 }
 
@@ -584,7 +617,30 @@ impl fmt::Display for Reason {
                 write!(f, "{}", ShortMapText(format, size, needed))
             }
             Reason::OnlyCff2 => f.write_str("CFF2: its outlines are taken at coordinates alone"),
-            Reason::Forbidden(fs_type, bit) => write!(f, "{}", ForbiddenText(fs_type, bit)),
+            Reason::Forbidden(fs_type, permission) => {
+                write!(f, "{}", ForbiddenText(fs_type, permission))
+            }
+            Reason::LargeAdvance(glyph, limit) => {
+                write!(f, "glyph {glyph}: its advance is more than {limit}")
+            }
+            Reason::NoIndex(glyph) => {
+                let text = Between(
+                    "glyph ",
+                    u32::from(glyph),
+                    ": post has no index of a name for it",
+                );
+                write!(f, "{text}")
+            }
+            Reason::LostString => {
+                f.write_str(
+                    "CFF: Copyright, Notice or FontName is a string that isn't in the table",
+                )
+            }
+            Reason::LargeCff => {
+                f.write_str(
+                    "CFF: more than 255 font dicts, a number of more than 64 characters, or offsets past 31 bits",
+                )
+            }
             Reason::Cff2Version(version) => {
                 let text = Between("CFF2: its major version is ", u32::from(version), ", not 2");
                 write!(f, "{text}")

@@ -4,8 +4,9 @@ ghost use Rattle.std.specs.Prelude.{◌≡◌};
 ghost use Rattle.subsetter_base.specs.Bytes.{number};
 ghost use Rattle.subsetter_sfnt.specs.Extras.{all_extras};
 ghost use Rattle.subsetter_sfnt.specs.Fields.Post.{num_glyphs, version};
-ghost use Rattle.font_reasons.specs.Short.{short, short_table, short_head, short_maxp, short_hhea, short_header, indexes_end, post_size_by, short_post_of, short_kept_post, short_post, records_end, name_size_by, short_name_of, short_name};
+ghost use Rattle.font_reasons.specs.Short.{short, short_table, short_head, short_maxp, short_hhea, short_header, indexes_end, post_size_by, short_post_of, short_kept_post, short_post, no_index_of, no_index, records_end, name_size_by, short_name_of, short_name};
 
+use crate::parts::first_past;
 use crate::reason::Reason;
 use subsetter_base::Tag;
 use subsetter_base::read::number_at;
@@ -113,6 +114,26 @@ pub fn short_post(names: bool, font: &[u8], index: u32) -> Option<Reason>
 {
     let post = table(font, index, Tag::POST)?;
     short_kept_post(names, post)
+}
+
+/// The first of these glyphs that a table `post` of version 2.0 has no index for.
+fn no_index_of(post: &[u8], glyphs: &[u16]) -> Option<Reason>
+    ensures { result ≡ no_index_of glyphs.now post.now }
+{
+    if version(post)? != VERSION_2_0 {
+        return None;
+    }
+    let count = num_glyphs(post)?;
+    let glyph = first_past(count, glyphs)?;
+    Some(Reason::NoIndex(glyph))
+}
+
+/// The first of these glyphs that the `post` of a face has none for.
+pub fn no_index(font: &[u8], index: u32, glyphs: &[u16]) -> Option<Reason>
+    ensures { result ≡ no_index (record { bytes = font.now; index = index; extras = all_extras }) glyphs.now }
+{
+    let post = table(font, index, Tag::POST)?;
+    no_index_of(post, glyphs)
 }
 
 /// Where the records of `name` end and its storage begins, whichever is later, by their count and its offset.

@@ -2,9 +2,9 @@
 
 ghost use Rattle.std.specs.Prelude.{◌≡◌};
 ghost use Rattle.subsetter_sfnt.specs.Extras.{all_extras};
-ghost use Rattle.font_reasons.specs.Source.{no_font_or_glyph, wrong_table, wrong_source, cut_or_bare, reason_of_unknown};
+ghost use Rattle.font_reasons.specs.Source.{no_font_or_glyph, wrong_source, reason_of_unknown};
 
-use crate::file::{cut_table, no_font};
+use crate::file::no_font;
 use crate::outlines::no_loca;
 use crate::parts::{no_glyph, no_outlines, wrong_metrics};
 use crate::reason::Reason;
@@ -17,33 +17,17 @@ pub fn no_font_or_glyph(font: &[u8], index: u32, glyphs: &[u16]) -> Option<Reaso
     no_font(font, index).or(no_glyph(font, index, glyphs))
 }
 
-/// What is wrong with a table that ends past the end of the file, or else with metrics.
-#[tactic(auto, unfolding(crate::specs::Source::wrong_table))]
-pub fn wrong_table(font: &[u8], index: u32) -> Option<Reason>
-    ensures { result ≡ wrong_table (record { bytes = font.now; index = index; extras = all_extras }) }
-{
-    cut_table(font, index).or(wrong_metrics(font, index))
-}
-
 /// What is wrong with the tables that a new font is made from.
 #[tactic(auto, unfolding(crate::specs::Source::wrong_source))]
 pub fn wrong_source(font: &[u8], index: u32) -> Option<Reason>
     ensures { result ≡ wrong_source (record { bytes = font.now; index = index; extras = all_extras }) }
 {
-    short_header(font, index).or(no_loca(font, index).or(wrong_table(font, index)))
-}
-
-/// What is wrong with a table that ends past the end of the file, or else that there are no outlines.
-#[tactic(auto, unfolding(crate::specs::Source::cut_or_bare))]
-fn cut_or_bare(font: &[u8], index: u32) -> Option<Reason>
-    ensures { result ≡ cut_or_bare (record { bytes = font.now; index = index; extras = all_extras }) }
-{
-    cut_table(font, index).or(no_outlines(font, index))
+    short_header(font, index).or(no_loca(font, index).or(wrong_metrics(font, index)))
 }
 
 /// Why a file is of no known kind.
 pub fn reason_of_unknown(font: &[u8], index: u32) -> Option<Reason>
     ensures { result ≡ reason_of_unknown (record { bytes = font.now; index = index; extras = all_extras }) }
 {
-    no_font(font, index).or(cut_or_bare(font, index))
+    no_font(font, index).or(no_outlines(font, index))
 }

@@ -13,15 +13,15 @@ ghost use Rattle.subsetter_variation.specs.Items.Advances.{store_of};
 ghost use Rattle.font_reasons.specs.Charstrings.{cff2_reason};
 ghost use Rattle.font_reasons.specs.Outlines.{components_in};
 ghost use Rattle.font_reasons.specs.Calls.{face_in};
-ghost use Rattle.font_reasons.specs.Varying.{is_fault, is_malformed, unread_hvar, unvaried_advance, first_advance, wrong_hvar_of, wrong_hvar, wrong_metric, wrong_lines, wrong_caret, wrong_underline, wrong_post_of, wrong_post, wrong_mvar, is_composite, point_count, blank, gvar_of, unvaried_points, unvaried_by, unvaried_glyph, first_unvaried, face_gvar, outlines_reason, located, varies, moves, no_metrics, glyphs_of, wrong_mvar_for, metrics_reason, reads_outlines, glyf_reason, face_cff2, glyphs_reason, malformed_at, moved_by, location_reason, located_reason, varied_reason};
+ghost use Rattle.font_reasons.specs.Varying.{is_fault, is_malformed, unread_hvar, unvaried_advance, first_advance, wrong_hvar_of, wrong_hvar, wrong_metric, wrong_lines, wrong_caret, wrong_underline, wrong_post_of, wrong_post, wrong_mvar, delta_of, if_large, large_by, large_advance, first_large, most_advance, large_advances, is_composite, point_count, blank, gvar_of, unvaried_points, unvaried_by, unvaried_glyph, first_unvaried, face_gvar, outlines_reason, located, varies, moves, no_metrics, glyphs_of, wrong_mvar_for, metrics_reason, reads_outlines, unseen_outlines, glyf_reason, face_cff2, glyphs_reason, malformed_at, moved_by, location_reason, located_reason, varied_reason};
 ghost use Rattle.font_reasons.specs.View.{tables_view};
 
 use crate::asked::{Asked, Call, is_at, takes_outlines};
 use crate::charstrings::cff2_reason;
 use crate::outlines::{
-    Tables, components_in, deep_reason, outline, outline_tables, seen_from, tree,
+    Tables, components_in, deep_reason, outline, outline_tables, seen_from, tree, tree_reason,
 };
-use crate::parts::no_table;
+use crate::parts::{no_table, pair_count};
 use crate::reason::Reason;
 use crate::variations::{
     avar_tag, fvar_tag, gvar_tag, hvar_tag, mvar_tag, other_axes, other_deltas, wrong_gvar,
@@ -34,6 +34,7 @@ use subsetter_base::{Error, GlyphRemapper, Tag};
 use subsetter_points::header::COMPOSITE;
 use subsetter_points::read_simple;
 use subsetter_sfnt::directory::table;
+use subsetter_sfnt::fields::hmtx::{LongHorMetric, glyph_metric};
 use subsetter_type2::limits::Limits;
 use subsetter_variation::glyphs::movement::{Outline, moved_points};
 use subsetter_variation::glyphs::spare::SpareLists;
@@ -184,6 +185,121 @@ fn wrong_mvar(font: &[u8], index: u32, at: &[i32]) -> Option<Reason>
 {
     let mvar = table(font, index, mvar_tag())?;
     wrong_lines(mvar, at).or(wrong_caret(mvar, at).or(wrong_post(font, index, mvar, at)))
+}
+
+/// What the advance of a glyph varies by; without `HVAR` it stays.
+fn delta_of(hvar: Option<&[u8]>, at: &[i32], glyph: u16) -> Result<i64, Error>
+    ensures { result ≡ delta_of (option_copied hvar.entry) at.now glyph }
+{
+    match hvar {
+        Some(hvar) => advance_delta(hvar, at, glyph),
+        None => Ok(0),
+    }
+}
+
+/// Whether an advance is past a limit.
+fn if_large(limit: u16, glyph: u16, advance: i128) -> Option<Reason>
+    ensures { result ≡ if_large limit glyph advance }
+{
+    if advance <= i128::from(limit) {
+        return None;
+    }
+    Some(Reason::LargeAdvance(glyph, limit))
+}
+
+/// Whether that of a glyph is, which varies by this.
+fn large_by(limit: u16, glyph: u16, before: u16, delta: Result<i64, Error>) -> Option<Reason>
+    ensures { result ≡ large_by limit glyph before delta }
+{
+    match delta {
+        Ok(delta) => if_large(limit, glyph, i128::from(before) + i128::from(delta)),
+        Err(_) => None,
+    }
+}
+
+/// Whether that of a glyph with this metric is.
+fn large_advance(
+    limit: u16,
+    hvar: Option<&[u8]>,
+    at: &[i32],
+    glyph: u16,
+    metric: Option<LongHorMetric>,
+) -> Option<Reason>
+    ensures { result ≡ large_advance limit (option_copied hvar.entry) at.now glyph metric }
+{
+    match metric {
+        Some(metric) => large_by(
+            limit,
+            glyph,
+            metric.advance_width,
+            delta_of(hvar, at, glyph),
+        ),
+        None => None,
+    }
+}
+
+/// The first of the glyphs of which it is.
+fn first_large(
+    limit: u16,
+    hvar: Option<&[u8]>,
+    at: &[i32],
+    hmtx: &[u8],
+    count: u16,
+    glyphs: &[u16],
+) -> Option<Reason>
+    ensures { result ≡ first_large limit (option_copied hvar.entry) at.now hmtx.now count glyphs.now }
+{
+    for glyph in glyphs {
+        let metric = glyph_metric(hmtx, count, *glyph);
+        if let Some(reason) = large_advance(limit, hvar, at, *glyph, metric) {
+            return Some(reason);
+        }
+    }
+    None
+}
+
+/// The greatest advance that is written: a metric has 16 bits, and a number in a charstring 15 and a sign.
+fn most_advance(call: Call, glyf: Option<&[u8]>) -> u16
+    ensures { result ≡ most_advance call (option_copied glyf.entry) }
+{
+    match glyf {
+        Some(_) => 65535,
+        None => { if takes_outlines(call) { 32767 } else { 65535 } }
+    }
+}
+
+/// The first of these glyphs of a face whose advance is too large.
+fn large_advances(call: Call, font: &[u8], index: u32, at: &[i32], glyphs: &[u16]) -> Option<Reason>
+    ensures { result ≡ large_advances call (record { bytes = font.now; index = index; extras = all_extras }) at.now glyphs.now }
+{
+    let hmtx = table(font, index, Tag::HMTX)?;
+    let count = pair_count(font, index)?;
+    let limit = most_advance(call, table(font, index, Tag::GLYF));
+    first_large(
+        limit,
+        table(font, index, hvar_tag()),
+        at,
+        hmtx,
+        count,
+        glyphs,
+    )
+}
+
+/// The first of the glyphs whose advances a call reads that is too large.
+fn large_moved(
+    alloc: Global,
+    asked: &Asked<'_>,
+    font: &[u8],
+    at: &[i32],
+    mapper: &GlyphRemapper,
+) -> Result<Option<Reason>, Error>
+    ensures ok { IfOk result (λ r. r ≡ large_advances asked.now.call (face_in asked.now font.now) at.now (glyphs_of asked.now.call asked.now.glyphs mapper.now)) }
+    ensures err { IfErr result (λ e. e ≡ OutOfMemory) }
+{
+    let every = seen_from(alloc, mapper, 0)?;
+    let (call, index) = (asked.call, asked.index);
+    let glyphs = glyphs_of(call, asked.glyphs, &every);
+    Ok(large_advances(call, font, index, at, glyphs))
 }
 
 /// Whether an outline is composite, by numberOfContours.
@@ -486,6 +602,24 @@ fn reads_outlines(call: Call, hvar: Option<&[u8]>) -> bool
     takes_outlines(call) || hvar.is_none()
 }
 
+/// What is wrong with the outlines in `glyf` that these glyphs reach, where a call isn't one on outlines.
+fn unseen_outlines(
+    alloc: Global,
+    call: Call,
+    font: &[u8],
+    index: u32,
+    limits: &Limits,
+    mapper: &GlyphRemapper,
+) -> Result<Option<Reason>, Error>
+    ensures ok { IfOk result (λ r. r ≡ unseen_outlines call (record { bytes = font.now; index = index; extras = all_extras }) limits.now.tokens limits.now.depth mapper.now) }
+    ensures err { IfErr result (λ e. e ≡ OutOfMemory) }
+{
+    if takes_outlines(call) {
+        return Ok(None);
+    }
+    tree_reason(alloc, font, index, limits.tokens(), limits.depth(), mapper)
+}
+
 /// What is wrong with outlines in `glyf`, where a call reads them.
 fn glyf_reason(
     alloc: Global,
@@ -499,10 +633,13 @@ fn glyf_reason(
     ensures ok { IfOk result (λ r. r ≡ glyf_reason call (record { bytes = font.now; index = index; extras = all_extras }) at.now limits.now.tokens limits.now.depth mapper.now) }
     ensures err { IfErr result (λ e. e ≡ OutOfMemory) }
 {
-    if reads_outlines(call, table(font, index, hvar_tag())) {
-        return outlines_reason(alloc, font, index, at, limits, mapper);
+    if !reads_outlines(call, table(font, index, hvar_tag())) {
+        return Ok(None);
     }
-    Ok(None)
+    match unseen_outlines(alloc, call, font, index, limits, mapper)? {
+        Some(reason) => Ok(Some(reason)),
+        None => outlines_reason(alloc, font, index, at, limits, mapper),
+    }
 }
 
 /// What is wrong with the `CFF2` of a face, where a call reads it.
@@ -582,6 +719,7 @@ fn moved_by(
         Error::Unimplemented => Ok(other_deltas(font, index)),
         Error::MalformedFont => malformed_at(alloc, asked, font, at, mapper),
         Error::CFFError => face_cff2(alloc, call, font, index, at, &asked.limits, mapper),
+        Error::OverflowError => large_moved(alloc, asked, font, at, mapper),
         _ => Ok(None),
     }
 }

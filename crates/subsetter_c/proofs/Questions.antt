@@ -10,7 +10,7 @@ use Rattle.subsetter_c.specs.Options.{AreRequested, requested_depth, requested_e
 use Rattle.subsetter_c.specs.Reasons.{question, reason_of}
 
 abbrev pub with_options : Call → ℕ → List (Tag × ℤ) → List ℕ → Error → Extras → ℕ → ℕ → Option ℕ → Question
-with_options call index settings glyphs e extras tokens depth bytes = record { call = call; error = e; index = index; glyphs = glyphs; coordinates = settings; extras = extras; tokens = tokens; depth = depth; bytes = bytes }
+with_options call index settings glyphs e extras tokens depth bytes = record { call = call; error = e; index = index; glyphs = glyphs; coordinates = settings; extras = extras; tokens = tokens; depth = depth; bound = bytes; bytes = bytes }
 
 pub answered : (call : Call) (index : ℕ) (settings : List (Tag × ℤ)) (glyphs words font : List ℕ) (e : Error) (options : Options) → AreRequested words options
     → reason_of (with_options call index settings glyphs e options.extras options.limits.tokens options.limits.depth options.limits.bytes) font ≡ reason_of (question call index settings glyphs words e) font

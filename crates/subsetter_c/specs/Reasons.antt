@@ -43,6 +43,7 @@ question call index settings glyphs words e = record {
   extras = requested_extras words;
   tokens = requested_tokens words;
   depth = requested_depth words;
+  bound = requested_bytes words;
   bytes = requested_bytes words;
 }
 

@@ -10,13 +10,14 @@ use Rattle.subsetter_sfnt.specs.declared.face.TableRecord.{TableRecord}
 use Rattle.font_reasons.specs.Directory.{bytes_or_none, records_in}
 use Rattle.font_reasons.specs.Characters.{no_mapping}
 use Rattle.font_reasons.specs.File.{or_else, no_font, missing_table}
+use Rattle.font_reasons.specs.declared.reason.Reason.TheVariants.{Forbidden as Prohibited}
+use Rattle.pdf_values.specs.declared.permission.Permission.{Permission}
+use Rattle.subsetter_sfnt.specs.Fields.Os2.{fs_type}
 use Rattle.subset_lines.specs.declared.faces.outlines.Outlines.{Outlines}
 use Rattle.subset_lines.specs.declared.faces.outlines.Outlines.TheVariants.{TrueType, Cff, Cff2 as HasCff2, Missing}
 use Rattle.subset_task.specs.Faces.Outlines.{outlines_of}
 use Rattle.subset_font.specs.Making.Made.{face_of}
 use Rattle.subset_task.specs.declared.task.Task.{Task}
-use Rattle.pdf_values.specs.Permission.{is_usable}
-use Rattle.pdf_values.specs.declared.permission.Permission.{Permission}
 use Rattle.subset_task.specs.declared.refusals.failure.Failure.{Failure}
 use Rattle.subset_task.specs.declared.refusals.failure.Failure.TheVariants.{Error, NoMapping, MissingCharacters}
 use Rattle.subset_task.specs.declared.refusals.failure.Failure.TheVariants.{BlankGlyphs, TextTooLong, NoInstance, NotPermitted}
@@ -92,9 +93,10 @@ axes_hint WritePdf bytes index = None
 axes_hint Output bytes index = None
 axes_hint LongAnswer bytes index = None
 
--- the bit of fsType (OpenType, "OS/2") that forbids to embed a subset: restricted, no subsetting, or bitmaps alone
-abbrev pub forbidden_bit : Permission → ℕ
-forbidden_bit p = if is_usable p.usage then (if p.subsetting then 9 else 8) else 1
+-- what fsType forbids, by what is permitted (OpenType, "OS/2")
+abbrev pub forbidden : Face → Permission → Option Hint
+forbidden font permission =
+    option_map (λ n. Forbidden (Prohibited n permission)) (fs_type (stored font (codes "OS/2")))
 
 -- what is said after a failure, but for what a second look shows
 abbrev pub hint_of : Failure → Task → List ℕ → Option Hint
@@ -104,7 +106,7 @@ hint_of NoInstance task bytes = None
 hint_of MissingCharacters task bytes = hint_of_mapping (face_of task bytes)
 hint_of BlankGlyphs task bytes = None
 hint_of TextTooLong task bytes = None
-hint_of (NotPermitted permission) task bytes = Some (Forbidden (forbidden_bit permission))
+hint_of (NotPermitted permission) task bytes = forbidden (face_of task bytes) permission
 hint_of Usage task bytes = None
 hint_of (WrongList place) task bytes = None
 hint_of Read task bytes = None

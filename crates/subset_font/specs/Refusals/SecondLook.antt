@@ -36,6 +36,7 @@ question call e task settings glyphs = record {
   extras = task.options.extras;
   tokens = task.options.limits.tokens;
   depth = task.options.limits.depth;
+  bound = task.options.limits.bytes;
   bytes = None;
 }
 

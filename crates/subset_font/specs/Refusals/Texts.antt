@@ -1,5 +1,5 @@
 -- The texts of what is known of a refusal.
-use Rattle.std.specs.Prelude.{ℕ, ◌==◌, if◌then◌else◌, List, ◌++◌, codes, decimal}
+use Rattle.std.specs.Prelude.{ℕ, List, ◌++◌, codes, decimal}
 use Rattle.font_reasons.specs.Texts.{reason_text}
 use Rattle.subset_font.specs.declared.refusals.hint.text.Hint.{Hint}
 use Rattle.subset_font.specs.declared.refusals.hint.text.Hint.TheVariants.{Font, Cff2, WrongAxes, NoAxes}
@@ -11,15 +11,6 @@ abbrev pub limits_text : ℕ → ℕ → List ℕ
 limits_text tokens depth =
     codes "a glyph needs more than the " ++ (decimal tokens ++ (codes "," ++ (decimal depth ++ codes " of --limits")))
 
--- what the bit of fsType says: bit 1, 8, else 9 (OpenType, "OS/2")
-abbrev pub forbidden_text : ℕ → List ℕ
-forbidden_text bit =
-    if bit == 1
-    then codes "fsType bit " ++ (decimal bit ++ codes " is set (restricted): if you hold the rights, --rights held")
-    else (if bit == 8
-    then codes "fsType bit " ++ (decimal bit ++ codes " is set (no subsetting): if you hold the rights, --rights held")
-    else codes "fsType bit " ++ (decimal bit ++ codes " is set (bitmaps only): if you hold the rights, --rights held"))
-
 abbrev pub hint_text : Hint → List ℕ
 hint_text (Font reason) = reason_text reason
 hint_text Cff2 = codes "CFF2: choose coordinates by --at; \"\" is the default"
@@ -28,4 +19,4 @@ hint_text NoAxes = codes "no axes in the font"
 hint_text (MoreBytes most) = codes "the new font has more than the " ++ (decimal most ++ codes " bytes of --limits")
 hint_text (LittleLimits tokens depth) = limits_text tokens depth
 hint_text GivenLimits = codes "twice the given --limits is too little, too, or the font is wrong"
-hint_text (Forbidden bit) = forbidden_text bit
+hint_text (Forbidden reason) = reason_text reason ++ codes ": if you hold the rights, --rights held"

@@ -38,7 +38,7 @@ pub struct Asked<'a> {
     pub coordinates: &'a [(Tag, i32)],
     /// What is kept besides outlines and metrics, of subsets with and without widths. Hinting says nothing: what reads it has no reason.
     pub extras: Extras,
-    /// How far a charstring may run; the bytes of these say nothing.
+    /// How far a charstring may run; with a bound on bytes an overflow isn't looked for in a new table.
     pub limits: Limits,
     /// The most bytes of the new font, where they may be why.
     pub most_bytes: Option<u32>,

@@ -11,6 +11,7 @@ use crate::proved::subsetter_blend::resolving::resolve;
 use crate::proved::subsetter_blend::runs::machine::Subroutines;
 use crate::proved::subsetter_cff::read::source::{SIDMetadata, Table};
 use crate::proved::subsetter_cff::write::glyphs::kept_glyphs::{source_number, Kept};
+use crate::proved::subsetter_cff::CffPieces;
 use crate::proved::subsetter_cff2::made::{place_dicts, PlacedDict};
 use crate::proved::subsetter_cff2::selection::search::FontDictSelect;
 use crate::proved::subsetter_cff2::table::{open, Table2};
@@ -139,6 +140,67 @@ pub fn cff_reason(
 ) -> Result<Option<Reason>, Error> {
     match (table(font, index, Tag::GLYF), table(font, index, Tag::CFF)) {
         (None, Some(cff)) => opened_reason(alloc, cff, limits, mapper),
+        _ => Ok(None),
+    }
+}
+
+/// The `CFF ` table of a subset, of any size.
+fn new_cff(
+    alloc: Global,
+    cff: &[u8],
+    limits: Limits,
+    mapper: &GlyphRemapper,
+) -> Result<CffPieces, Error> {
+    crate::proved::subsetter_cff::subset(alloc, cff, mapper, limits)
+}
+
+/// What the error of a new table says of its source, where it is the error that came.
+fn made_by(error: Error, found: Error) -> Option<Reason> {
+    match (error, found) {
+        (Error::SubsetError, Error::SubsetError) => Some(Reason::LostString),
+        (Error::OverflowError, Error::OverflowError) => Some(Reason::LargeCff),
+        _ => None,
+    }
+}
+
+/// Why the new table of a `CFF ` table isn't made, where that is the error that came.
+fn made_reason(
+    alloc: Global,
+    error: Error,
+    cff: &[u8],
+    limits: &Limits,
+    mapper: &GlyphRemapper,
+) -> Result<Option<Reason>, Error> {
+    let own = match Limits::new(limits.tokens(), limits.depth()) {
+        Some(own) => own,
+        _ => {
+            return Ok(None);
+        }
+    };
+    match new_cff(alloc, cff, own, mapper) {
+        Ok(_made) => Ok(None),
+        Err(found) => {
+            unless_memory(found)?;
+            Ok(made_by(error, found))
+        }
+    }
+}
+
+/// Why the new table of the `CFF ` table of a face without `glyf` isn't made, where that is the error that came.
+///
+/// # Errors
+///
+/// `OutOfMemory` alone.
+pub fn new_cff_reason(
+    alloc: Global,
+    error: Error,
+    font: &[u8],
+    index: u32,
+    limits: &Limits,
+    mapper: &GlyphRemapper,
+) -> Result<Option<Reason>, Error> {
+    match (table(font, index, Tag::GLYF), table(font, index, Tag::CFF)) {
+        (None, Some(cff)) => made_reason(alloc, error, cff, limits, mapper),
         _ => Ok(None),
     }
 }

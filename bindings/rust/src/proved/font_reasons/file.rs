@@ -124,29 +124,18 @@ fn end_of(one: TableRecord) -> u64 {
 }
 
 /// Whether the table of a record ends past the end of a file of this many bytes.
-fn is_cut(one: TableRecord, size: u64) -> bool {
-    end_of(one) > size
-}
-
-/// That the table of a record does so.
-fn cut_reason(one: TableRecord, size: u64) -> Reason {
-    Reason::Cut(one.tag, end_of(one), size)
-}
-
-/// The first table of a directory that ends past the end of a file of this many bytes.
-fn first_cut(records: &[u8], size: u64) -> Option<Reason> {
-    let mut r = Reader::new(records);
-    while let Some(one) = r.read::<TableRecord>() {
-        if is_cut(one, size) {
-            return Some(cut_reason(one, size));
-        }
+fn cut_by(one: TableRecord, size: u64) -> Option<Reason> {
+    let end = end_of(one);
+    if end > size {
+        return Some(Reason::Cut(one.tag, end, size));
     }
     None
 }
 
-/// The first table of a face that ends past the end of the file.
-pub fn cut_table(font: &[u8], index: u32) -> Option<Reason> {
-    first_cut(directory_of(font, index), font.len() as u64)
+/// Whether the table of a tag does so.
+pub fn cut_table(font: &[u8], index: u32, tag: Tag) -> Option<Reason> {
+    let found = find_record(directory_of(font, index), tag)?;
+    cut_by(found, font.len() as u64)
 }
 
 /// Why a table of a face isn't found: it ends past the end of the file, or the directory doesn't have it.

@@ -2,24 +2,10 @@
 //! Why a font may not be embedded.
 
 use crate::proved::font_reasons::reason::Reason;
-use crate::proved::pdf_values::{is_permitted, permission_of, Permission, Rights, Usage};
+use crate::proved::pdf_values::{is_permitted, permission_of, Rights};
 use crate::proved::subsetter_base::Tag;
 use crate::proved::subsetter_sfnt::directory::table;
 use crate::proved::subsetter_sfnt::fields::os2::fs_type;
-
-/// The bit of fsType that forbids: bit 1 embedding, else bit 8 subsets, else bit 9 outlines.
-fn forbidding_bit(permission: Permission) -> u8 {
-    match permission.usage {
-        Usage::Restricted => 1,
-        _ => {
-            if permission.subsetting {
-                9
-            } else {
-                8
-            }
-        }
-    }
-}
 
 /// Why `OS/2` forbids to embed a subset, if it does.
 fn prohibition_in(os2: Option<&[u8]>) -> Option<Reason> {
@@ -28,7 +14,7 @@ fn prohibition_in(os2: Option<&[u8]>) -> Option<Reason> {
     if is_permitted(permission, Rights::AsSaid) {
         return None;
     }
-    Some(Reason::Forbidden(fs_type, forbidding_bit(permission)))
+    Some(Reason::Forbidden(fs_type, permission))
 }
 
 /// Why the maker of a font forbids to embed a subset of it, if so: what fsType of `OS/2` says.

@@ -6,9 +6,9 @@ use crate::rattle::prelude::Vec;
 use crate::proved::font_reasons::asked::{is_at, takes_outlines, Asked, Call};
 use crate::proved::font_reasons::charstrings::cff2_reason;
 use crate::proved::font_reasons::outlines::{
-    components_in, deep_reason, outline, outline_tables, seen_from, tree, Tables,
+    components_in, deep_reason, outline, outline_tables, seen_from, tree, tree_reason, Tables,
 };
-use crate::proved::font_reasons::parts::no_table;
+use crate::proved::font_reasons::parts::{no_table, pair_count};
 use crate::proved::font_reasons::reason::Reason;
 use crate::proved::font_reasons::variations::{
     avar_tag, fvar_tag, gvar_tag, hvar_tag, mvar_tag, other_axes, other_deltas, wrong_gvar,
@@ -20,6 +20,7 @@ use crate::proved::subsetter_base::{Error, GlyphRemapper, Tag};
 use crate::proved::subsetter_points::header::COMPOSITE;
 use crate::proved::subsetter_points::read_simple;
 use crate::proved::subsetter_sfnt::directory::table;
+use crate::proved::subsetter_sfnt::fields::hmtx::{glyph_metric, LongHorMetric};
 use crate::proved::subsetter_type2::limits::Limits;
 use crate::proved::subsetter_variation::glyphs::movement::{moved_points, Outline};
 use crate::proved::subsetter_variation::glyphs::spare::SpareLists;
@@ -141,6 +142,116 @@ fn wrong_post(font: &[u8], index: u32, mvar: &[u8], at: &[i32]) -> Option<Reason
 fn wrong_mvar(font: &[u8], index: u32, at: &[i32]) -> Option<Reason> {
     let mvar = table(font, index, mvar_tag())?;
     wrong_lines(mvar, at).or(wrong_caret(mvar, at).or(wrong_post(font, index, mvar, at)))
+}
+
+/// What the advance of a glyph varies by; without `HVAR` it stays.
+fn delta_of(hvar: Option<&[u8]>, at: &[i32], glyph: u16) -> Result<i64, Error> {
+    match hvar {
+        Some(hvar) => advance_delta(hvar, at, glyph),
+        None => Ok(0),
+    }
+}
+
+/// Whether an advance is past a limit.
+fn if_large(limit: u16, glyph: u16, advance: i128) -> Option<Reason> {
+    if advance <= i128::from(limit) {
+        return None;
+    }
+    Some(Reason::LargeAdvance(glyph, limit))
+}
+
+/// Whether that of a glyph is, which varies by this.
+fn large_by(limit: u16, glyph: u16, before: u16, delta: Result<i64, Error>) -> Option<Reason> {
+    match delta {
+        Ok(delta) => if_large(limit, glyph, i128::from(before) + i128::from(delta)),
+        Err(_) => None,
+    }
+}
+
+/// Whether that of a glyph with this metric is.
+fn large_advance(
+    limit: u16,
+    hvar: Option<&[u8]>,
+    at: &[i32],
+    glyph: u16,
+    metric: Option<LongHorMetric>,
+) -> Option<Reason> {
+    match metric {
+        Some(metric) => large_by(
+            limit,
+            glyph,
+            metric.advance_width,
+            delta_of(hvar, at, glyph),
+        ),
+        None => None,
+    }
+}
+
+/// The first of the glyphs of which it is.
+fn first_large(
+    limit: u16,
+    hvar: Option<&[u8]>,
+    at: &[i32],
+    hmtx: &[u8],
+    count: u16,
+    glyphs: &[u16],
+) -> Option<Reason> {
+    for glyph in glyphs {
+        let metric = glyph_metric(hmtx, count, *glyph);
+        if let Some(reason) = large_advance(limit, hvar, at, *glyph, metric) {
+            return Some(reason);
+        }
+    }
+    None
+}
+
+/// The greatest advance that is written: a metric has 16 bits, and a number in a charstring 15 and a sign.
+fn most_advance(call: Call, glyf: Option<&[u8]>) -> u16 {
+    match glyf {
+        Some(_) => 65535,
+        None => {
+            if takes_outlines(call) {
+                32767
+            } else {
+                65535
+            }
+        }
+    }
+}
+
+/// The first of these glyphs of a face whose advance is too large.
+fn large_advances(
+    call: Call,
+    font: &[u8],
+    index: u32,
+    at: &[i32],
+    glyphs: &[u16],
+) -> Option<Reason> {
+    let hmtx = table(font, index, Tag::HMTX)?;
+    let count = pair_count(font, index)?;
+    let limit = most_advance(call, table(font, index, Tag::GLYF));
+    first_large(
+        limit,
+        table(font, index, hvar_tag()),
+        at,
+        hmtx,
+        count,
+        glyphs,
+    )
+}
+
+/// The first of the glyphs whose advances a call reads that is too large.
+fn large_moved(
+    alloc: Global,
+    asked: &Asked<'_>,
+    font: &[u8],
+    at: &[i32],
+    mapper: &GlyphRemapper,
+) -> Result<Option<Reason>, Error> {
+    let every = seen_from(alloc, mapper, 0)?;
+    let (call, index) = (asked.call, asked.index);
+    let glyphs = glyphs_of(call, asked.glyphs, &every);
+    Ok(large_advances(call, font, index, at, glyphs))
 }
 
 /// Whether an outline is composite, by numberOfContours.
@@ -393,6 +504,21 @@ fn reads_outlines(call: Call, hvar: Option<&[u8]>) -> bool {
     takes_outlines(call) || hvar.is_none()
 }
 
+/// What is wrong with the outlines in `glyf` that these glyphs reach, where a call isn't one on outlines.
+fn unseen_outlines(
+    alloc: Global,
+    call: Call,
+    font: &[u8],
+    index: u32,
+    limits: &Limits,
+    mapper: &GlyphRemapper,
+) -> Result<Option<Reason>, Error> {
+    if takes_outlines(call) {
+        return Ok(None);
+    }
+    tree_reason(alloc, font, index, limits.tokens(), limits.depth(), mapper)
+}
+
 /// What is wrong with outlines in `glyf`, where a call reads them.
 fn glyf_reason(
     alloc: Global,
@@ -403,10 +529,13 @@ fn glyf_reason(
     limits: &Limits,
     mapper: &GlyphRemapper,
 ) -> Result<Option<Reason>, Error> {
-    if reads_outlines(call, table(font, index, hvar_tag())) {
-        return outlines_reason(alloc, font, index, at, limits, mapper);
+    if !reads_outlines(call, table(font, index, hvar_tag())) {
+        return Ok(None);
     }
-    Ok(None)
+    match unseen_outlines(alloc, call, font, index, limits, mapper)? {
+        Some(reason) => Ok(Some(reason)),
+        None => outlines_reason(alloc, font, index, at, limits, mapper),
+    }
 }
 
 /// What is wrong with the `CFF2` of a face, where a call reads it.
@@ -473,6 +602,7 @@ fn moved_by(
         Error::Unimplemented => Ok(other_deltas(font, index)),
         Error::MalformedFont => malformed_at(alloc, asked, font, at, mapper),
         Error::CFFError => face_cff2(alloc, call, font, index, at, &asked.limits, mapper),
+        Error::OverflowError => large_moved(alloc, asked, font, at, mapper),
         _ => Ok(None),
     }
 }

@@ -13,7 +13,7 @@ mod options;
 mod sheet;
 mod shown;
 
-pub use crate::proved::pdf_font::{Permission, Usage};
+pub use crate::proved::pdf_font::Permission;
 pub use crate::proved::pdf_objects::Layout;
 pub use options::PdfRequest;
 pub use sheet::{make_sheet, Sheet, SheetError};

@@ -1,5 +1,5 @@
-use Rattle.std.proofs.Common.{◌≡◌, ◌-◌, ◌∙◌, suc, sym, ap, arith}
-use Rattle.font_reasons.specs.Outlines.{reached_below, reached_from}
+use Rattle.std.proofs.Common.{◌≡◌, ◌-◌, ◌∙◌, suc, ap, arith}
+use Rattle.font_reasons.specs.Outlines.{reached_below}
 use Rattle.font_reasons.specs.View.{reach_view}
 use Rattle.font_reasons.proofs.Components.{one_below}
 use Rattle.font_reasons.proofs.outlines.reached_below.Goals as goal

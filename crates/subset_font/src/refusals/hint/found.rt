@@ -4,17 +4,18 @@ ghost use Rattle.std.specs.Prelude.{◌≡◌};
 ghost use Rattle.std.specs.Option.{option_map};
 ghost use Rattle.subsetter_sfnt.specs.Extras.{all_extras};
 ghost use Rattle.subset_font.specs.declared.refusals.hint.text.Hint.TheVariants.{Font};
-ghost use Rattle.subset_font.specs.Refusals.Hint.{is_cff2, no_coordinates, hint_of_error, hint_of_mapping, no_axes, axes_hint_of_error, axes_hint, forbidden_bit, hint_of};
+ghost use Rattle.subset_font.specs.Refusals.Hint.{is_cff2, no_coordinates, hint_of_error, hint_of_mapping, no_axes, axes_hint_of_error, axes_hint, forbidden, hint_of};
 
 use crate::refusals::hint::text::Hint;
 use font_reasons::{Reason, directory_of, missing_table, no_font, no_mapping};
 use subset_lines::Outlines;
-use subset_pdf::{Permission, Usage};
+use subset_pdf::Permission;
 use subset_task::faces::outlines::outlines_of;
 use subset_task::refusals::failure::Failure;
 use subset_task::task::Task;
 use subsetter::{Error, Tag};
 use subsetter_sfnt::directory::{find_record, table};
+use subsetter_sfnt::fields::os2::fs_type;
 
 /// What the tables of the font show, if they show anything.
 pub fn shown(reason: Option<Reason>) -> Option<Hint>
@@ -97,14 +98,12 @@ pub fn find_axes_hint(failure: &Failure, font: &[u8], index: u32) -> Option<Hint
     }
 }
 
-/// The bit of `fsType` that forbids to embed a subset, where one does: bit 1, else 8, else 9.
-fn forbidden_bit(permission: Permission) -> u8
-    ensures { result ≡ forbidden_bit permission }
+/// What `fsType` of a font forbids, by what is permitted.
+fn forbidden(font: &[u8], index: u32, permission: Permission) -> Option<Hint>
+    ensures { result ≡ forbidden (record { bytes = font.now; index = index; extras = all_extras }) permission }
 {
-    match permission.usage {
-        Usage::Restricted => 1,
-        _ => { if permission.subsetting { 9 } else { 8 } }
-    }
+    let fs_type = fs_type(table(font, index, Tag::new(b"OS/2")))?;
+    Some(Hint::Forbidden(Reason::Forbidden(fs_type, permission)))
 }
 
 /// What more is known of a font that is refused, but for what a second look shows.
@@ -114,7 +113,7 @@ pub fn find_hint(failure: &Failure, font: &[u8], task: &Task<'_>) -> Option<Hint
     match failure {
         Failure::Error(error) => hint_of_error(*error, font, task),
         Failure::NoMapping | Failure::MissingCharacters => hint_of_mapping(font, task.index),
-        Failure::NotPermitted(permission) => Some(Hint::Forbidden(forbidden_bit(*permission))),
+        Failure::NotPermitted(permission) => forbidden(font, task.index, *permission),
         _ => None,
     }
 }

@@ -20,39 +20,8 @@ pub enum Hint {
     LittleLimits(u32, u8),
     /// Limits are given, of which twice as much doesn't serve.
     GivenLimits,
-    /// This bit of `fsType` forbids to embed a subset.
-    Forbidden(u8),
-}
-
-/// That a bit of `fsType` forbids to embed a subset.
-#[derive(Clone, Copy)]
-struct ForbiddenText(u8);
-
-impl fmt::Display for ForbiddenText {
-    ghost use Rattle.std.specs.Prelude.{Some};
-    ghost use Rattle.subset_font.specs.Refusals.Texts.{forbidden_text};
-
-    ghost output = { λ it. Some (forbidden_text it.0) };
-
-    fn fmt<W: fmt::Write>(&self, f: &mut fmt::Formatter<W>) -> fmt::Result {
-        let ForbiddenText(bit) = *self;
-        if bit == 1 {
-            return write!(
-                f,
-                "fsType bit {bit} is set (restricted): if you hold the rights, --rights held"
-            );
-        }
-        if bit == 8 {
-            return write!(
-                f,
-                "fsType bit {bit} is set (no subsetting): if you hold the rights, --rights held"
-            );
-        }
-        write!(
-            f,
-            "fsType bit {bit} is set (bitmaps only): if you hold the rights, --rights held"
-        )
-    }
+    /// `fsType` forbids to embed a subset.
+    Forbidden(Reason),
 }
 
 /// That a glyph needs more tokens or more depth than this.
@@ -93,7 +62,9 @@ impl fmt::Display for Hint {
             Hint::GivenLimits => {
                 f.write_str("twice the given --limits is too little, too, or the font is wrong")
             }
-            Hint::Forbidden(bit) => write!(f, "{}", ForbiddenText(bit)),
+            Hint::Forbidden(reason) => {
+                write!(f, "{reason}: if you hold the rights, --rights held")
+            }
         }
     }
 }

@@ -4,12 +4,13 @@
 use crate::proved::font_reasons::{directory_of, missing_table, no_font, no_mapping, Reason};
 use crate::proved::subset_font::refusals::hint::text::Hint;
 use crate::proved::subset_lines::Outlines;
-use crate::proved::subset_pdf::{Permission, Usage};
+use crate::proved::subset_pdf::Permission;
 use crate::proved::subset_task::faces::outlines::outlines_of;
 use crate::proved::subset_task::refusals::failure::Failure;
 use crate::proved::subset_task::task::Task;
 use crate::proved::subsetter::{Error, Tag};
 use crate::proved::subsetter_sfnt::directory::{find_record, table};
+use crate::proved::subsetter_sfnt::fields::os2::fs_type;
 
 /// What the tables of the font show, if they show anything.
 pub fn shown(reason: Option<Reason>) -> Option<Hint> {
@@ -76,18 +77,10 @@ pub fn find_axes_hint(failure: &Failure, font: &[u8], index: u32) -> Option<Hint
     }
 }
 
-/// The bit of `fsType` that forbids to embed a subset, where one does: bit 1, else 8, else 9.
-fn forbidden_bit(permission: Permission) -> u8 {
-    match permission.usage {
-        Usage::Restricted => 1,
-        _ => {
-            if permission.subsetting {
-                9
-            } else {
-                8
-            }
-        }
-    }
+/// What `fsType` of a font forbids, by what is permitted.
+fn forbidden(font: &[u8], index: u32, permission: Permission) -> Option<Hint> {
+    let fs_type = fs_type(table(font, index, Tag::new(b"OS/2")))?;
+    Some(Hint::Forbidden(Reason::Forbidden(fs_type, permission)))
 }
 
 /// What more is known of a font that is refused, but for what a second look shows.
@@ -95,7 +88,7 @@ pub fn find_hint(failure: &Failure, font: &[u8], task: &Task<'_>) -> Option<Hint
     match failure {
         Failure::Error(error) => hint_of_error(*error, font, task),
         Failure::NoMapping | Failure::MissingCharacters => hint_of_mapping(font, task.index),
-        Failure::NotPermitted(permission) => Some(Hint::Forbidden(forbidden_bit(*permission))),
+        Failure::NotPermitted(permission) => forbidden(font, task.index, *permission),
         _ => None,
     }
 }
