@@ -21,6 +21,7 @@ extern crate alloc;
 
 use heap::with;
 use rattle::alloc::{AllocError, Global};
+use rattle::borrow::CowSlice;
 use rattle::collections::HashMap;
 use rattle::prelude::{SliceExt, Vec};
 
@@ -76,10 +77,37 @@ fn lists_answer_as_rusts() {
 
 #[test]
 fn lists_are_made_of_items() {
-    let listed: [Result<Vec<u8>, AllocError>; 3] = [vec![in Global; 3, 1, 2,], vec![in Global; 9], vec![in Global]];
-    assert_eq!(listed.map(Result::unwrap), [list(&[3, 1, 2]), list(&[9]), list(&[])]);
+    let made: Result<Vec<u16>, AllocError> = rattle_vec();
+    assert_eq!(made.unwrap().as_slice(), [5, 5, 5]);
     assert_eq!(Vec::of(Global, 0u8, 3).unwrap().as_slice(), [0, 0, 0]);
+    assert_eq!(Vec::from_items(Global, [1u8, 2]).unwrap().as_slice(), [1, 2]);
+    assert_eq!([1u8, 2].to_vec_with(Global).unwrap().as_slice(), [1, 2]);
     assert_eq!(Vec::<u32>::with_capacity(Global, 7).unwrap().capacity(), 7);
+}
+
+fn rattle_vec() -> Result<Vec<u16>, AllocError> {
+    vec![in Global; 5; 3]
+}
+
+#[test]
+fn lists_are_written_out() {
+    let listed: Result<Vec<u8>, AllocError> = vec![in Global; 3, 1, 2,];
+    assert_eq!(listed.unwrap().as_slice(), [3, 1, 2]);
+    let one: Result<Vec<u8>, AllocError> = vec![in Global; 9];
+    assert_eq!(one.unwrap().as_slice(), [9]);
+    let none: Result<Vec<u8>, AllocError> = vec![in Global];
+    assert!(none.unwrap().is_empty());
+}
+
+#[test]
+fn each_list_is_read_as_a_slice() {
+    use rattle::convert::AsSlice;
+    fn items<A: AsSlice<u8>>(list: A) -> std::vec::Vec<u8> {
+        list.as_slice().to_vec()
+    }
+    assert_eq!(items(list(&[4, 2, 3])), [4, 2, 3]);
+    assert_eq!(items(&[4u8, 2][..]), [4, 2]);
+    assert_eq!(items([4u8, 2, 1]), [4, 2, 1]);
 }
 
 #[test]
@@ -147,8 +175,7 @@ fn each_request_of_a_list_can_be_refused() {
     assert_eq!(each_refused(|| Vec::from_items(Global, [1u8])), 1);
     assert_eq!(each_refused(|| Vec::from_slice(Global, &[1u8])), 1);
     assert_eq!(each_refused(|| [1u8].to_vec_with(Global)), 1);
-    let made = || -> Result<Vec<u16>, AllocError> { vec![in Global; 5; 3] };
-    assert_eq!((each_refused(made), made().unwrap().as_slice()), (1, &[5, 5, 5][..]));
+    assert_eq!(each_refused(rattle_vec), 1);
     let pushed = each_refused(|| {
         let mut items = Vec::new(Global);
         (0..1000u16).try_for_each(|item| items.push(item).map_err(AllocError::from))
@@ -235,6 +262,30 @@ fn spare_room_is_given_back() {
 }
 
 #[test]
+fn items_are_dropped_once() {
+    let item = std::rc::Rc::new(());
+    let mut items = Vec::new(Global);
+    for _ in 0..10 {
+        items.push(item.clone()).unwrap();
+    }
+    items.reserve(30).unwrap();
+    items.shrink_to_fit();
+    assert_eq!(std::rc::Rc::strong_count(&item), 11);
+    items.truncate(7);
+    items.remove_front(2);
+    assert_eq!(std::rc::Rc::strong_count(&item), 6);
+    assert!(with(0, || items.push(item.clone())).1 || items.len() == 6);
+    drop(items);
+    assert_eq!(std::rc::Rc::strong_count(&item), 1);
+}
+
+#[test]
+fn slices_are_borrowed_or_owned() {
+    assert_eq!(*CowSlice::Borrowed(&[1u8, 2]), [1, 2]);
+    assert_eq!(*CowSlice::Owned(list(&[3])), [3]);
+}
+
+#[test]
 fn a_refused_request_leaves_a_map_as_it_was() {
     let mut map = HashMap::new(Global);
     for key in 0..3000u32 {
@@ -278,6 +329,21 @@ fn iterators_are_collected() {
     }
 }
 
+#[test]
+fn casts_keep_the_bits() {
+    use rattle::prelude::Cast;
+    macro_rules! check {
+        ($($unsigned:ident $signed:ident)*) => {$(
+            let of_most: $signed = $unsigned::MAX.to_signed();
+            let of_least: $unsigned = $signed::MIN.to_unsigned();
+            assert_eq!((of_most, of_least), (-1, $unsigned::MAX / 2 + 1));
+            let (same, own): ($signed, $unsigned) = ($signed::MAX.to_signed(), $unsigned::MAX.to_unsigned());
+            assert_eq!((same, own), ($signed::MAX, $unsigned::MAX));
+        )*};
+    }
+    check!(u8 i8 u16 i16 u32 i32 u64 i64 u128 i128 usize isize);
+}
+
 #[cfg(feature = "program")]
 mod program {
     use super::*;
@@ -286,17 +352,35 @@ mod program {
     use std::cell::{Cell, RefCell};
 
     #[test]
+    fn texts_answer_as_rusts() {
+        let text = String::from_str(Global, "a text").unwrap();
+        assert_eq!((text.as_str(), text.len()), ("a text", 6));
+        assert_eq!(text.clone().unwrap().as_str(), "a text");
+        assert_eq!(std::format!("{:?}", text), "\"a text\"");
+        let made = String::format(Global, format_args!("{}-{:02}", text.as_str(), 7)).unwrap();
+        assert_eq!(made.as_str(), "a text-07");
+    }
+
+    #[test]
     fn texts_are_shown_as_rusts() {
         let plain = "a\"\u{e9}";
         let text = String::from_str(Global, plain).unwrap();
-        assert_eq!((text.as_str(), text.len(), text.clone().unwrap().as_str()), (plain, 4, plain));
-        let shown = std::format!("{:>6}|{:.2}|{:<5}|{:?}|", text, text, text, text);
-        assert_eq!(shown, std::format!("{:>6}|{:.2}|{:<5}|{:?}|", plain, plain, plain, plain));
+        for (shown, wanted) in [
+            (std::format!("{:>6}|", text), std::format!("{:>6}|", plain)),
+            (std::format!("{:.2}|", text), std::format!("{:.2}|", plain)),
+            (std::format!("{:<5}|", text), std::format!("{:<5}|", plain)),
+            (std::format!("{:?}|", text), std::format!("{:?}|", plain)),
+        ] {
+            assert_eq!(shown, wanted);
+        }
         let made = format!(in Global; "{}-{:02}", text, 7).unwrap();
         assert_eq!(made.as_str(), std::format!("{}-07", plain));
         assert_eq!(String::from(std::string::String::from("one")).as_str(), "one");
         let mut made = String::new(Global);
-        ["ab", "", "c"].iter().for_each(|it| made.push_str(it).unwrap());
+        assert_eq!(made.as_str(), "");
+        made.push_str("ab").unwrap();
+        made.push_str("").unwrap();
+        made.push_str("c").unwrap();
         let long = "x".repeat(1000);
         assert_eq!(with(0, || made.push_str(&long).is_err()), (true, true));
         assert_eq!(made.as_str(), "abc");
@@ -425,6 +509,18 @@ mod program {
     }
 
     #[test]
+    fn refused_memory_has_its_own_error() {
+        use super::rattle::alloc::{AllocError, AllocFailed};
+        let errors = [Error::from(AllocError), Error::from(AllocFailed { value: 0 })];
+        for error in errors {
+            assert_eq!(error.kind(), ErrorKind::OutOfMemory);
+            assert_eq!(error.raw_os_error(), None);
+        }
+        assert_eq!(AllocError::from(AllocFailed { value: 0 }), AllocError);
+        assert_eq!(std::format!("{:?}", AllocFailed { value: 0 }), "AllocFailed");
+    }
+
+    #[test]
     fn lists_can_be_written_to() {
         let mut all = list(b"a");
         write!(all, "{}", 12).unwrap();
@@ -452,14 +548,18 @@ mod program {
 
     #[test]
     fn a_writer_that_goes_writes_what_it_holds() {
-        for steps in [&[][..], &[Err(ErrorKind::Other), Ok(2)]] {
-            let mut out = Steps(steps.to_vec(), std::vec![]);
-            let mut writer = BufWriter::new(Global, Lent(&mut out)).unwrap();
-            writer.write_all(b"held").unwrap();
-            assert!(steps.is_empty() || (writer.flush().is_err() && writer.flush().is_ok()));
-            drop(writer);
-            assert_eq!(out.1, b"held");
-        }
+        let mut out = Steps(std::vec![], std::vec![]);
+        let mut writer = BufWriter::new(Global, Lent(&mut out)).unwrap();
+        writer.write_all(b"held").unwrap();
+        drop(writer);
+        assert_eq!(out.1, b"held");
+        let mut out = Steps(std::vec![Err(ErrorKind::Other), Ok(2)], std::vec![]);
+        let mut writer = BufWriter::new(Global, Lent(&mut out)).unwrap();
+        writer.write_all(b"held").unwrap();
+        assert!(writer.flush().is_err());
+        writer.flush().unwrap();
+        drop(writer);
+        assert_eq!(out.1, b"held");
         let mut out = Steps(std::vec![], std::vec![]);
         assert!(with(0, || BufWriter::new(Global, Lent(&mut out)).is_err()).0);
     }
@@ -502,6 +602,13 @@ mod program {
         writer.flush().unwrap();
         drop(writer);
         assert_eq!((out.0.len(), out.1), (0, b"held".to_vec()));
+        fn flush<W: Write>(mut to: W) -> Result<(), Error> {
+            to.flush()
+        }
+        let mut out = Steps(std::vec![Err(ErrorKind::StorageFull)], std::vec![]);
+        let failed = flush(&mut out).unwrap_err();
+        assert_eq!(failed.kind(), ErrorKind::StorageFull);
+        assert!(flush(&mut out).is_ok());
     }
 
     /// What counts its calls.
@@ -538,6 +645,18 @@ mod program {
         let mut writer = BufWriter::new(Global, Counted(&calls)).unwrap();
         let (answer, was_refused) = with(0, || (0..9000).try_for_each(|_| writer.write_all(b"x")));
         assert!(answer.is_ok() && !was_refused);
+    }
+
+    #[test]
+    fn an_error_keeps_its_kind_beside_its_number() {
+        for kind in [ErrorKind::NotFound, ErrorKind::StorageFull, ErrorKind::Other] {
+            let error = Error::from(kind);
+            assert_eq!((error.kind(), error.raw_os_error()), (kind, None));
+            let error = error.with_code(Some(-5));
+            assert_eq!((error.kind(), error.raw_os_error()), (kind, Some(-5)));
+            let error = error.with_code(None);
+            assert_eq!((error.kind(), error.raw_os_error()), (kind, None));
+        }
     }
 
     /// A writer that another has.

@@ -2,13 +2,16 @@
 //! process of their own, one after the other: a call that doesn't ask for the memory that `std` requests next ends it.
 
 use crate::heap::{asked_by, held, with};
+use crate::host::streams::prepare;
 use crate::rattle::fs::{self, OpenFile, OpenOptions};
 use crate::rattle::io::{self, Error, ErrorKind, Read, Write};
 use crate::rattle::prelude::{Eprint, HostRuntime, Input, Print};
-use crate::rattle::fmt;
+use crate::rattle::process::{self, ExitCode, Termination};
+use crate::rattle::{env, fmt};
 use std::cell::RefCell;
+use std::ffi::OsString;
 use std::fs::Permissions;
-use std::os::unix::fs::{MetadataExt, PermissionsExt};
+use std::os::unix::fs::{symlink, MetadataExt, PermissionsExt};
 use std::path::{Path, PathBuf};
 use std::process::{Command, Stdio};
 
@@ -18,7 +21,9 @@ const OUTPUT: &[u8] = b"these bytes are on standard output\n";
 #[test]
 fn each_call_of_the_host_holds_by_itself() {
     let mut command = Command::new(std::env::current_exe().unwrap());
-    command.args(["host_calls::", "--ignored", "--test-threads=1"]);
+    // (no test has the last name, which is longer than what is read at once of the arguments)
+    command.args(["host_calls::", "--ignored", "--test-threads=1", "--skip"]);
+    command.arg("x".repeat(9000));
     command.stdin(Stdio::piped()).stdout(Stdio::piped());
     let mut child = command.stderr(Stdio::piped()).spawn().unwrap();
     let mut input = child.stdin.take().unwrap();
@@ -331,6 +336,28 @@ fn what_a_file_lacks_is_reported() {
 
 #[test]
 #[ignore = "run by another test"]
+fn links_are_followed_or_not() {
+    let folder = Folder::new("links");
+    let (name, link) = (folder.at("file"), folder.at("link"));
+    put(&name, b"bytes");
+    symlink(&name, &link).unwrap();
+    let about = fs::symlink_metadata(&HostRuntime, &link).unwrap();
+    assert!(about.file_type().is_symlink());
+    let about = fs::metadata(&HostRuntime, &link).unwrap();
+    assert!(about.is_file() && about.len() == 5);
+    let file = fs::open(&HostRuntime, &link).unwrap();
+    assert_eq!(OpenFile::metadata(&file).unwrap().len(), 5);
+    fs::remove_file(&HostRuntime, &link).unwrap();
+    assert!(std::fs::symlink_metadata(&link).is_err() && is_there(&name));
+    symlink("nowhere", &link).unwrap();
+    assert_eq!(failed(fs::metadata(&HostRuntime, &link)), MISSING);
+    assert!(fs::symlink_metadata(&HostRuntime, &link).is_ok());
+    let none = folder.at("none");
+    assert_eq!(failed(fs::symlink_metadata(&HostRuntime, &none)), MISSING);
+}
+
+#[test]
+#[ignore = "run by another test"]
 fn a_long_name_is_no_second_one() {
     let folder = Folder::new("second");
     for (len, other_len, is_made) in [(383, 383, true), (384, 383, false), (383, 384, false), (384, 384, false)] {
@@ -374,18 +401,23 @@ fn numbers_of_the_system_have_their_kinds() {
 #[ignore = "run by another test"]
 fn errors_of_std_have_their_kinds() {
     use std::io::ErrorKind as Std;
-    let others = [Std::InvalidData, Std::PermissionDenied, Std::AlreadyExists, Std::BrokenPipe, Std::WouldBlock, Std::WriteZero, Std::UnexpectedEof];
-    let own = [
+    for (kind, wanted) in [
         (Std::NotFound, ErrorKind::NotFound),
         (Std::Interrupted, ErrorKind::Interrupted),
         (Std::InvalidInput, ErrorKind::InvalidInput),
         (Std::Unsupported, ErrorKind::Unsupported),
-    ];
-    for (kind, wanted) in own.iter().copied().chain(others.iter().map(|it| (*it, ErrorKind::Other))) {
+        (Std::InvalidData, ErrorKind::Other),
+        (Std::PermissionDenied, ErrorKind::Other),
+        (Std::AlreadyExists, ErrorKind::Other),
+        (Std::BrokenPipe, ErrorKind::Other),
+        (Std::WouldBlock, ErrorKind::Other),
+        (Std::WriteZero, ErrorKind::Other),
+        (Std::UnexpectedEof, ErrorKind::Other),
+    ] {
         let error = Error::from(std::io::Error::from(kind));
         assert_eq!((error.kind(), error.raw_os_error()), (wanted, None));
-        let again = error.with_code(Some(-7));
-        assert_eq!((again.kind(), again.raw_os_error()), (wanted, Some(-7)));
+        let again = error.with_code(Some(7));
+        assert_eq!((again.kind(), again.raw_os_error()), (wanted, Some(7)));
     }
 }
 
@@ -438,6 +470,30 @@ fn the_text_of_an_error_asks_for_its_memory() {
 }
 
 // ---- the process
+
+#[test]
+#[ignore = "run by another test"]
+fn arguments_are_those_of_the_process() {
+    let _ = std::io::stdout();
+    let args = env::args(&HostRuntime).unwrap();
+    let args: Vec<String> = args.map(|it| it.as_str().to_string()).collect();
+    assert_eq!(args, std::env::args().collect::<Vec<_>>());
+    assert_eq!(args.len(), 6);
+    // Room is asked for, for the standard output and then for the arguments, before `std` takes some.
+    let count = if is_old() { 1 } else { 2 };
+    for requests in 0..count {
+        let (answer, was_refused) = with(requests, || env::args(&HostRuntime));
+        assert_eq!((failed(answer), was_refused), (REFUSED, true), "{}", requests);
+    }
+    assert_eq!(failed(with(0, prepare).0), REFUSED);
+    let (_, asked) = asked_by(|| env::args(&HostRuntime));
+    let of_each = std::mem::size_of::<OsString>() + 32;
+    // (each has a final zero)
+    let all: usize = args.iter().map(|it| it.len() + 1 + of_each).sum();
+    assert!(asked[0] >= 1024, "{:?}", asked);
+    let is_shown = Path::new("/proc/self/cmdline").exists();
+    assert!(asked[1..].contains(&all) || !is_shown, "{:?}, {}", asked, all);
+}
 
 #[test]
 #[ignore = "run by another test"]
@@ -506,4 +562,26 @@ fn short_writes_and_failures_are_passed_on() {
     assert_eq!(half.0.borrow().as_slice(), b"abc123line\n7");
     let full = Some((ErrorKind::StorageFull, None));
     assert_eq!(failed(half.eprintln("no")), full);
+}
+
+/// A status.
+struct Ended(u8);
+
+impl Termination for Ended {
+    fn report<R: Eprint>(self, _rt: &R) -> ExitCode {
+        ExitCode::from(self.0)
+    }
+}
+
+/// A `main`, and its status.
+type Main = (fn(HostRuntime) -> Ended, u8);
+
+#[test]
+#[ignore = "run by another test"]
+fn the_status_of_main_is_that_of_the_process() {
+    let statuses: [Main; 3] = [(|_| Ended(0), 0), (|_| Ended(3), 3), (|_| Ended(255), 255)];
+    for (main, status) in statuses {
+        let ended = std::format!("{:?}", process::start(main));
+        assert_eq!(ended, std::format!("{:?}", ExitCode::from(status)));
+    }
 }
