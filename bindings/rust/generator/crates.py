@@ -23,6 +23,7 @@ HEAD = """//! The proved sources, crate by crate, without their contracts.
     clippy::manual_range_contains,
     clippy::manual_unwrap_or,
     clippy::manual_unwrap_or_default,
+    clippy::map_identity,
     clippy::match_like_matches_macro,
     clippy::redundant_closure,
     clippy::redundant_pattern_matching,

@@ -14,6 +14,7 @@
     clippy::manual_range_contains,
     clippy::manual_unwrap_or,
     clippy::manual_unwrap_or_default,
+    clippy::map_identity,
     clippy::match_like_matches_macro,
     clippy::redundant_closure,
     clippy::redundant_pattern_matching,
