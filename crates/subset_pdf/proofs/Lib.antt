@@ -1,3 +1,3 @@
-mod Cells
+mod CellLaws
 mod Lines
 mod Sheets
