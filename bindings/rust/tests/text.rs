@@ -41,11 +41,11 @@ fn runs_are_shown_as_worked_by_hand() {
     for (first, end) in firsts.iter().zip(firsts[1..].iter().chain([&rows.len()])) {
         let words: Vec<&str> = rows[*first].split(' ').collect();
         let ((name, weight), choice) = (words[1].split_once('@').unwrap_or((words[1], "")), words[2]);
-        let (font, at) = (made(name), weight.parse().ok().map(|it| (Tag::new(b"wght"), it)));
+        let (font, at) = (made(name), weight.parse().map(|it| (Tag::new(b"wght"), it)));
         let order = if choice == "logical" { Order::Logical } else { Order::Visual };
         let direction = if choice == "vertical" { Direction::Vertical } else { Direction::Horizontal };
         let options = TextOptions::new().order(order).direction(direction).own_glyphs(choice == "own");
-        let mut text = Text::new(&font, 0, at.as_slice(), &options).unwrap();
+        let mut text = Text::new(&font, 0, &at.into_iter().collect::<Vec<_>>(), &options).unwrap();
         for row in &rows[first + 1..*end] {
             let (asked, wanted) = row.split_once(" = ").unwrap();
             let direction = match &asked[4..7] {
