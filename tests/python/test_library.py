@@ -175,3 +175,15 @@ def test_forked_processes():
         other.join()
         print(answers(subsetter) == wanted)
     """) == "0 True 0 True\n"
+
+
+def test_what_another_module_declares_of_pythons_calls():
+    """All modules share `ctypes.pythonapi`."""
+    assert child("""
+        import ctypes, subsetter
+        ctypes.pythonapi.PyObject_GetBuffer.argtypes = ctypes.pythonapi.PyBuffer_Release.argtypes = [ctypes.c_int]
+        try:
+            subsetter.subset(bytes(4), [])
+        except subsetter.UnknownKind:
+            print("read")
+    """) == "read\n"
