@@ -1,3 +1,2 @@
-mod CellLaws
 mod Lines
 mod Sheets
